@@ -1,0 +1,4 @@
+pub mod Repeat
+pub mod Selected
+pub mod Checks
+pub mod Examples

@@ -1,0 +1,658 @@
+-- The third demand, proved of the definitions.
+-- Assumes nothing.
+use mathlib.Core.Bool.{Bool, false, true, true≢false}
+use mathlib.Core.List.{List, List·Memᴰ, [], _∷_}
+use mathlib.Core.Logic.{inl, inr, _≢_, _⊎_}
+use mathlib.Core.Option.{Option, none, some}
+use mathlib.Core.Path.{ap, ap₂, refl, subst, sym, _∙_, _≡_}
+use Prim.Native.Nat.{ℕ, _+_, _≤_}
+use native.Mathlib.Nat.{le-refl, le-trans}
+use native.Mathlib.Omega.{arith}
+use lib.Dec.{leb}
+use lib.ListN.{length}
+use Rattle.decision.specs.Decide.{check, decideCall, guard as Decide·guard, select}
+use Rattle.decision.specs.Demand.{Demand, Kept, NamesVanished, Repeated, SameRules, Step, Unobservable, Vanished, atGuard, atRule, guard, rule, settled, settledBy, upTo, upToGuard, upToOutcome}
+use Rattle.decision.specs.Entry.{Reply, call, decide, enough, fitted, reply, workWords}
+use Rattle.decision.specs.Line.{refusalLine, refusalNumber, verdictLine}
+use Rattle.decision.specs.Outcomes.{Placed, admit, asAdmitted, eligible, firstFrom, isWrong}
+use Rattle.decision.specs.Verdict.{Verdict, passed}
+use Rattle.evaluation.proofs.Later.{Alike, Both, Every, Fact, Later, Lost, alike-evaluate, every-left, every-right, later-evaluate, truthGone, truthKept}
+use Rattle.evaluation.proofs.Names.{ascending-mem}
+use Rattle.evaluation.specs.Evaluate.{Answer, evaluate}
+use Rattle.evaluation.specs.Expression.{gives}
+use Rattle.evaluation.specs.Names.{Names, ascending}
+use Rattle.evaluation.specs.Readings.{Clean, IsReading, Reading, guardReadings, readings, ruleReadings, sheetReadings, whenReadings}
+use Rattle.evaluation.specs.Truth.{False, True, Truth, Unknown}
+use Rattle.reader.proofs.Laws.{bind-ok, leb-true, ltb-true, ok-injective}
+use Rattle.reader.specs.Bytes.{Bytes, isOneOf}
+use Rattle.reader.specs.Json.{Value, isNull, null}
+use Rattle.reader.specs.Refusal.{Refusal, Result, Rules, guardUnknown, noInput, noOutcome, ok, orElse, preconditions, refused, ruleFalse, ruleUnknown, _>>=_}
+use Rattle.sheet.specs.Condition.{Condition}
+use Rattle.sheet.specs.Outcome.{Effect, Outcome, moves, stays}
+use Rattle.sheet.specs.Rule.{Rule}
+use Rattle.sheet.specs.Sheet.{Sheet, readSheet}
+
+-- one rule more
+module _ (s : Sheet Condition) (kind : Rules) (i : ℕ) (r : Rule Condition) (rs : List (Rule Condition)) (a : Answer) (e : evaluate s [] (r .assert) ≡ ok a) where
+  check-true : a .truth ≡ True → check s kind i (r ∷ rs) ≡ check s kind (i + 1) rs
+  unfolding check
+  check-true t = bind-ok _ e ∙ rw t refl
+
+  check-false : a .truth ≡ False → check s kind i (r ∷ rs) ≡ refused (ruleFalse kind i (r .name) (r .message))
+  unfolding check
+  check-false t = bind-ok _ e ∙ rw t refl
+
+  check-unknown : a .truth ≡ Unknown → check s kind i (r ∷ rs) ≡ refused (ruleUnknown kind i (r .name) (r .message) (ascending (a .names)))
+  unfolding check
+  check-unknown t = bind-ok _ e ∙ rw t refl
+
+check-none : (s : Sheet Condition) (i : ℕ) → check s preconditions i [] ≡ ok passed
+unfolding check
+check-none s i = refl
+
+settled-false : (i : ℕ) (n m : Option Bytes) → settledBy (ruleFalse preconditions i n m) ≡ some (upTo i)
+unfolding settledBy
+settled-false i n m = refl
+
+settled-unknown : (i : ℕ) (n m : Option Bytes) (ns : Names) → settledBy (ruleUnknown preconditions i n m ns) ≡ some (upTo i)
+unfolding settledBy
+settled-unknown i n m ns = refl
+
+-- where an earlier result settled: passed, or refused at a rule from a place on
+abbrev RuleShape : ℕ → Result Verdict → Type 0
+RuleShape i x = (x ≡ ok passed) ⊎ ((q : Refusal) × (j : ℕ) × (x ≡ refused q) × (settledBy q ≡ some (upTo j)) × (i ≤ j))
+
+shape-down : (i : ℕ) (x : Result Verdict) → RuleShape (i + 1) x → RuleShape i x
+shape-down i x (inl p) = inl p
+shape-down i x (inr p) = inr (p .0, p .1, p .2, p .3, le-trans (omega arith) (p .4))
+
+module _ (Erased : Bytes → Type 0) where
+  record RuleRefused (x y : Result Verdict) : Type 0 where
+    place : ℕ
+    name : Option Bytes
+    message : Option Bytes
+    names : Names
+    isNew : y ≡ refused (ruleUnknown preconditions place name message names)
+    tried : RuleShape place x
+    named : Lost Erased names ⊎ ((ms : Names) × (x ≡ refused (ruleUnknown preconditions place name message ms)))
+
+  record RulesLater (i : ℕ) (x y : Result Verdict) : Type 0 where
+    shape : RuleShape i x
+    later : (y ≡ x) ⊎ RuleRefused x y
+
+  lost-ascending : (ns : Names) → Lost Erased ns → Lost Erased (ascending ns)
+  lost-ascending ns l = (l .0, l .1, ascending-mem _ ns (l .2))
+
+  module _ (old new : Sheet Condition) where
+    -- one rule more: the case of the rule itself, and of those behind it
+    later-rule : (i : ℕ) (r : Rule Condition) (rs : List (Rule Condition)) → (k : Both (Later Erased) (evaluate old [] (r .assert)) (evaluate new [] (r .assert))) → RulesLater (i + 1) (check old preconditions (i + 1) rs) (check new preconditions (i + 1) rs) → RulesLater i (check old preconditions i (r ∷ rs)) (check new preconditions i (r ∷ rs))
+    later-rule i r rs k below = go (k .rel) (k .was .truth) refl
+      where
+        shapeHere : (q : Refusal) → check old preconditions i (r ∷ rs) ≡ refused q → settledBy q ≡ some (upTo i) → RuleShape i (check old preconditions i (r ∷ rs))
+        shapeHere q e f = inr (q, i, e, f, le-refl i)
+
+        shapeOf : (t : Truth) → k .was .truth ≡ t → RuleShape i (check old preconditions i (r ∷ rs))
+        shapeOf True p = rw (check-true old preconditions i r rs (k .was) (k .isWas) p) (shape-down i _ (below .shape))
+        shapeOf False p = shapeHere _ (check-false old preconditions i r rs (k .was) (k .isWas) p) (settled-false i (r .name) (r .message))
+        shapeOf Unknown p = shapeHere _ (check-unknown old preconditions i r rs (k .was) (k .isWas) p) (settled-unknown i (r .name) (r .message) (ascending (k .was .names)))
+
+        go : Later Erased (k .was) (k .now) → (t : Truth) → k .was .truth ≡ t → RulesLater i (check old preconditions i (r ∷ rs)) (check new preconditions i (r ∷ rs))
+        go (truthKept q) True p = rw (check-true old preconditions i r rs (k .was) (k .isWas) p, check-true new preconditions i r rs (k .now) (k .isNow) (q ∙ p)) (record { shape = shape-down i _ (below .shape); later = below .later })
+        go (truthKept q) False p = record { shape = shapeOf False p; later = inl (check-false new preconditions i r rs (k .now) (k .isNow) (q ∙ p) ∙ sym (check-false old preconditions i r rs (k .was) (k .isWas) p)) }
+        go (truthKept q) Unknown p =
+            record {
+              shape = shapeOf Unknown p;
+              later =
+                  inr
+                  (record {
+                    place = i;
+                    name = r .name;
+                    message = r .message;
+                    names = _;
+                    isNew = check-unknown new preconditions i r rs (k .now) (k .isNow) (q ∙ p);
+                    tried = shapeOf Unknown p;
+                    named = inr (_, check-unknown old preconditions i r rs (k .was) (k .isWas) p);
+                  });
+            }
+        go (truthGone u l) t p =
+            record {
+              shape = shapeOf t p;
+              later =
+                  inr
+                  (record {
+                    place = i;
+                    name = r .name;
+                    message = r .message;
+                    names = _;
+                    isNew = check-unknown new preconditions i r rs (k .now) (k .isNow) u;
+                    tried = shapeOf t p;
+                    named = inl (lost-ascending (k .now .names) l);
+                  });
+            }
+
+    later-check : (i : ℕ) (rs : List (Rule Condition)) → Every (Fact Erased old new) (ruleReadings rs) → RulesLater i (check old preconditions i rs) (check new preconditions i rs)
+    unfolding ruleReadings
+    later-check i [] h = record { shape = inl (check-none old i); later = inl (check-none new i ∙ sym (check-none old i)) }
+    later-check i (r ∷ rs) h =
+        later-rule
+        i
+        r
+        rs
+        (later-evaluate Erased old new [] (r .assert) (every-left (readings [] (r .assert)) (ruleReadings rs) h))
+        (later-check (i + 1) rs (every-right (readings [] (r .assert)) (ruleReadings rs) h))
+
+-- one outcome more
+module _ (s : Sheet Condition) (i : ℕ) (o : Outcome Condition) (os : List (Outcome Condition)) where
+  pub select-skip : eligible (s .state) o ≡ false → select s i (o ∷ os) ≡ select s (i + 1) os
+  unfolding select
+  select-skip e = rw (e, select) refl
+
+  module _ (a : Answer) (e : eligible (s .state) o ≡ true) (v : Decide·guard s (o .when) ≡ ok a) where
+    pub select-true : a .truth ≡ True → select s i (o ∷ os) ≡ ok (record { place = i; outcome = o })
+    unfolding select
+    select-true t = rw (e, select) (bind-ok _ v ∙ rw t refl)
+
+    pub select-false : a .truth ≡ False → select s i (o ∷ os) ≡ select s (i + 1) os
+    unfolding select
+    select-false t = rw (e, select) (bind-ok _ v ∙ rw t refl)
+
+    pub select-unknown : a .truth ≡ Unknown → select s i (o ∷ os) ≡ refused (guardUnknown i (o .name) (ascending (a .names)))
+    unfolding select
+    select-unknown t = rw (e, select) (bind-ok _ v ∙ rw t refl)
+
+pub select-none : (s : Sheet Condition) (i : ℕ) → select s i [] ≡ refused noOutcome
+unfolding select
+select-none s i = refl
+
+-- where an earlier selection settled, from a place on
+pub data GuardShape (i : ℕ) (x : Result Placed) : Type 0 where
+  chosen : (p : Placed) → x ≡ ok p → i ≤ p .place → GuardShape i x
+  exhausted : x ≡ refused noOutcome → GuardShape i x
+  stopped : (j : ℕ) (n : Bytes) (ns : Names) → x ≡ refused (guardUnknown j n ns) → i ≤ j → GuardShape i x
+
+guard-shape-down : (i : ℕ) (x : Result Placed) → GuardShape (i + 1) x → GuardShape i x
+guard-shape-down i x (chosen p e h) = chosen p e (le-trans (omega arith) h)
+guard-shape-down i x (exhausted e) = exhausted e
+guard-shape-down i x (stopped j n ns e h) = stopped j n ns e (le-trans (omega arith) h)
+
+-- a guard at a place counts: the selection came later, or by that guard
+abbrev GuardTried : ℕ → Result Placed → Type 0
+GuardTried i x = GuardShape (i + 1) x ⊎ ((x ≡ refused noOutcome) ⊎ (((p : Placed) × (c : Condition) × (x ≡ ok p) × (p .outcome .when ≡ some c) × (i ≤ p .place)) ⊎ ((j : ℕ) × (n : Bytes) × (ns : Names) × (x ≡ refused (guardUnknown j n ns)) × (i ≤ j))))
+
+module _ (Erased : Bytes → Type 0) where
+  record GuardRefused (x y : Result Placed) : Type 0 where
+    place : ℕ
+    name : Bytes
+    names : Names
+    isNew : y ≡ refused (guardUnknown place name names)
+    tried : GuardTried place x
+    named : Lost Erased names ⊎ ((ms : Names) × (x ≡ refused (guardUnknown place name ms)))
+
+  record GuardsLater (i : ℕ) (x y : Result Placed) : Type 0 where
+    shape : GuardShape i x
+    later : (y ≡ x) ⊎ GuardRefused x y
+
+  record GuardLater (old new : Sheet Condition) (w : Option Condition) : Type 0 where
+    answers : Both (Later Erased) (Decide·guard old w) (Decide·guard new w)
+    has : answers .now .truth ≡ Unknown → (c : Condition) × (w ≡ some c)
+
+  module _ (old new : Sheet Condition) where
+    later-guard : (w : Option Condition) → Every (Fact Erased old new) (whenReadings w) → GuardLater old new w
+    unfolding Decide·guard
+    later-guard none h = record { answers = record { was = _; now = _; isWas = refl; isNow = refl; rel = truthKept refl }; has = λ e. absurd (true≢false (ap isTrue e)) }
+      where
+        isTrue : Truth → Bool
+        isTrue True = true
+        isTrue False = false
+        isTrue Unknown = false
+    later-guard (some c) h = record { answers = later-evaluate Erased old new [] c h; has = λ e. (c, refl) }
+
+    -- one outcome more, eligible on both sheets or on neither
+    later-outcome : (i : ℕ) (o : Outcome Condition) (os : List (Outcome Condition)) → eligible (new .state) o ≡ eligible (old .state) o → GuardLater old new (o .when) → GuardsLater (i + 1) (select old (i + 1) os) (select new (i + 1) os) → GuardsLater i (select old i (o ∷ os)) (select new i (o ∷ os))
+    later-outcome i o os same g below = by (eligible (old .state) o) refl
+      where
+        k : Both (Later Erased) (Decide·guard old (o .when)) (Decide·guard new (o .when))
+        k = g .answers
+
+        passOn : select old i (o ∷ os) ≡ select old (i + 1) os → select new i (o ∷ os) ≡ select new (i + 1) os → GuardsLater i (select old i (o ∷ os)) (select new i (o ∷ os))
+        passOn p q = rw (p, q) (record { shape = guard-shape-down i _ (below .shape); later = below .later })
+
+        shapeOf : eligible (old .state) o ≡ true → (t : Truth) → k .was .truth ≡ t → GuardShape i (select old i (o ∷ os))
+        shapeOf e True p = chosen _ (select-true old i o os (k .was) e (k .isWas) p) (le-refl i)
+        shapeOf e False p = rw (select-false old i o os (k .was) e (k .isWas) p) (guard-shape-down i _ (below .shape))
+        shapeOf e Unknown p = stopped i _ _ (select-unknown old i o os (k .was) e (k .isWas) p) (le-refl i)
+
+        triedOf : eligible (old .state) o ≡ true → k .now .truth ≡ Unknown → (t : Truth) → k .was .truth ≡ t → GuardTried i (select old i (o ∷ os))
+        triedOf e u True p = inr (inr (inl (_, g .has u .0, select-true old i o os (k .was) e (k .isWas) p, g .has u .1, le-refl i)))
+        triedOf e u False p = rw (select-false old i o os (k .was) e (k .isWas) p) (inl (below .shape))
+        triedOf e u Unknown p = inr (inr (inr (i, _, _, select-unknown old i o os (k .was) e (k .isWas) p, le-refl i)))
+
+        go : eligible (old .state) o ≡ true → eligible (new .state) o ≡ true → Later Erased (k .was) (k .now) → (t : Truth) → k .was .truth ≡ t → GuardsLater i (select old i (o ∷ os)) (select new i (o ∷ os))
+        go e f (truthKept q) True p = record { shape = shapeOf e True p; later = inl (select-true new i o os (k .now) f (k .isNow) (q ∙ p) ∙ sym (select-true old i o os (k .was) e (k .isWas) p)) }
+        go e f (truthKept q) False p = passOn (select-false old i o os (k .was) e (k .isWas) p) (select-false new i o os (k .now) f (k .isNow) (q ∙ p))
+        go e f (truthKept q) Unknown p =
+            record {
+              shape = shapeOf e Unknown p;
+              later =
+                  inr
+                  (record {
+                    place = i;
+                    name = o .name;
+                    names = _;
+                    isNew = select-unknown new i o os (k .now) f (k .isNow) (q ∙ p);
+                    tried = triedOf e (q ∙ p) Unknown p;
+                    named = inr (_, select-unknown old i o os (k .was) e (k .isWas) p);
+                  });
+            }
+        go e f (truthGone u l) t p =
+            record {
+              shape = shapeOf e t p;
+              later =
+                  inr
+                  (record {
+                    place = i;
+                    name = o .name;
+                    names = _;
+                    isNew = select-unknown new i o os (k .now) f (k .isNow) u;
+                    tried = triedOf e u t p;
+                    named = inl (lost-ascending Erased (k .now .names) l);
+                  });
+            }
+
+        by : (b : Bool) → eligible (old .state) o ≡ b → GuardsLater i (select old i (o ∷ os)) (select new i (o ∷ os))
+        by false e = passOn (select-skip old i o os e) (select-skip new i o os (same ∙ e))
+        by true e = go e (same ∙ e) (k .rel) (k .was .truth) refl
+
+    later-select : (i : ℕ) (os : List (Outcome Condition)) → ((o : Outcome Condition) → eligible (new .state) o ≡ eligible (old .state) o) → Every (Fact Erased old new) (guardReadings os) → GuardsLater i (select old i os) (select new i os)
+    unfolding guardReadings
+    later-select i [] same h = record { shape = exhausted (select-none old i); later = inl (select-none new i ∙ sym (select-none old i)) }
+    later-select i (o ∷ os) same h =
+        later-outcome
+        i
+        o
+        os
+        (same o)
+        (later-guard (o .when) (every-left (whenReadings (o .when)) (guardReadings os) h))
+        (later-select (i + 1) os same (every-right (whenReadings (o .when)) (guardReadings os) h))
+
+-- a decision by its parts
+decideFrom : Sheet Condition → Option Bytes → List (Rule Condition) → List (Outcome Condition) → List Bytes → Result Verdict
+decideFrom s st rs os states = do
+  x ← orElse st noInput
+  _ ← check s preconditions 0 rs
+  p ← select s 0 os
+  q ← admit states os x p
+  ok (asAdmitted q)
+
+decide-parts : (s : Sheet Condition) → decideCall s ≡ decideFrom s (s .state) (s .preconditions) (s .outcomes) (s .states)
+unfolding decideCall decideFrom
+decide-parts s = refl
+
+-- what admission answers is no rule's or guard's refusal
+abbrev AdmitShape : Result Placed → Type 0
+AdmitShape x = ((p : Placed) × (x ≡ ok p)) ⊎ ((q : Refusal) × (x ≡ refused q) × (settledBy q ≡ none))
+
+admit-shape : (states : List Bytes) (os : List (Outcome Condition)) (s : Bytes) (p : Placed) → AdmitShape (admit states os s p)
+unfolding admit settledBy
+admit-shape states os s p = by (p .outcome .effect)
+  where
+    first : (o : Option Placed) → AdmitShape (orElse o (Refusal.wrongState s))
+    first none = inr (_, refl, refl)
+    first (some q) = inl (q, refl)
+
+    wrong : List Bytes → Bool → Result Placed
+    wrong from b = elim b [ true ↦ orElse (firstFrom (λ o. o .wrongState) 0 os) (Refusal.wrongState s) | false ↦ refused (Refusal.notASource (p .place) (p .outcome .name) s from) ]
+
+    inner : (from : List Bytes) (b : Bool) → AdmitShape (wrong from b)
+    inner from true = first (firstFrom (λ o. o .wrongState) 0 os)
+    inner from false = inr (_, refl, refl)
+
+    outer : (from : List Bytes) (b : Bool) → AdmitShape (elim b [ true ↦ ok p | false ↦ wrong from (isWrong states os s) ])
+    outer from true = inl (p, refl)
+    outer from false = inner from (isWrong states os s)
+
+    by : (e : Effect) → AdmitShape (elim e [ stays ↦ ok p | moves to from ↦ elim (isOneOf s from) [ true ↦ ok p | false ↦ wrong from (isWrong states os s) ] ])
+    by stays = inl (p, refl)
+    by (moves to from) = outer from (isOneOf s from)
+
+-- which steps count, by what the decision was
+settled-refused : (s : Sheet Condition) (q : Refusal) (f : Step → Bool) (k : Step) → decideCall s ≡ refused q → settledBy q ≡ some f → settled s k ≡ f k
+unfolding settled
+settled-refused s q f k p e = rw (p, settled, e) refl
+
+settled-ok : (s : Sheet Condition) (v : Verdict) (p : Placed) (k : Step) → decideCall s ≡ ok v → select s 0 (s .outcomes) ≡ ok p → settled s k ≡ upToOutcome (p .outcome .when) (p .place) k
+unfolding settled
+settled-ok s v p k e f = rw (e, settled, f) refl
+
+settled-late : (s : Sheet Condition) (q : Refusal) (p : Placed) (k : Step) → decideCall s ≡ refused q → settledBy q ≡ none → select s 0 (s .outcomes) ≡ ok p → settled s k ≡ upToOutcome (p .outcome .when) (p .place) k
+unfolding settled
+settled-late s q p k e n f = rw (e, settled, n, f) refl
+
+settledBy-noOutcome : settledBy noOutcome ≡ some (λ k. true)
+unfolding settledBy
+settledBy-noOutcome = refl
+
+settledBy-guard : (j : ℕ) (n : Bytes) (ns : Names) → settledBy (guardUnknown j n ns) ≡ some (upToGuard j)
+unfolding settledBy
+settledBy-guard j n ns = refl
+
+admitted-from : List Bytes → List (Outcome Condition) → Bytes → Placed → Result Verdict
+admitted-from states os x p = do
+  q ← admit states os x p
+  ok (asAdmitted q)
+
+-- once the rules have passed
+module _ (s : Sheet Condition) (x : Bytes) (st : s .state ≡ some x) (pass : check s preconditions 0 (s .preconditions) ≡ ok passed) where
+  decide-select : decideCall s ≡ (select s 0 (s .outcomes) >>= admitted-from (s .states) (s .outcomes) x)
+  unfolding decideFrom admitted-from
+  decide-select = decide-parts s ∙ ap (λ (o : Option Bytes). decideFrom s o (s .preconditions) (s .outcomes) (s .states)) st ∙ bind-ok _ pass
+
+  decide-refused : (q : Refusal) → select s 0 (s .outcomes) ≡ refused q → decideCall s ≡ refused q
+  decide-refused q e = decide-select ∙ ap (λ (y : Result Placed). y >>= admitted-from (s .states) (s .outcomes) x) e
+
+  settled-chosen : (p : Placed) (k : Step) → select s 0 (s .outcomes) ≡ ok p → settled s k ≡ upToOutcome (p .outcome .when) (p .place) k
+  unfolding admitted-from
+  settled-chosen p k e = by (admit-shape (s .states) (s .outcomes) x p)
+    where
+      by : AdmitShape (admit (s .states) (s .outcomes) x p) → settled s k ≡ upToOutcome (p .outcome .when) (p .place) k
+      by (inl a) = settled-ok s _ p k (decide-select ∙ bind-ok _ e ∙ bind-ok _ (a .1)) e
+      by (inr a) = settled-late s (a .0) p k (decide-select ∙ bind-ok _ e ∙ ap (λ (y : Result Placed). y >>= λ q. ok (asAdmitted q)) (a .1)) (a .2) e
+
+  settled-exhausted : (k : Step) → select s 0 (s .outcomes) ≡ refused noOutcome → settled s k ≡ true
+  settled-exhausted k e = settled-refused s noOutcome (λ _. true) k (decide-refused noOutcome e) settledBy-noOutcome
+
+  settled-stopped : (j : ℕ) (n : Bytes) (ns : Names) (k : Step) → select s 0 (s .outcomes) ≡ refused (guardUnknown j n ns) → settled s k ≡ upToGuard j k
+  settled-stopped j n ns k e = settled-refused s (guardUnknown j n ns) (upToGuard j) k (decide-refused _ e) (settledBy-guard j n ns)
+
+  rule-counts : (k : ℕ) → GuardShape 0 (select s 0 (s .outcomes)) → settled s (rule k) ≡ true
+  rule-counts k (chosen p e h) = settled-chosen p (rule k) e ∙ by (p .outcome .when)
+    where
+      by : (w : Option Condition) → upToOutcome w (p .place) (rule k) ≡ true
+      by none = refl
+      by (some c) = refl
+  rule-counts k (exhausted e) = settled-exhausted (rule k) e
+  rule-counts k (stopped j n ns e h) = settled-stopped j n ns (rule k) e
+
+  guard-counts : (k : ℕ) → GuardTried k (select s 0 (s .outcomes)) → settled s (guard k) ≡ true
+  guard-counts k (inl (chosen p e h)) = settled-chosen p (guard k) e ∙ by (p .outcome .when)
+    where
+      by : (w : Option Condition) → upToOutcome w (p .place) (guard k) ≡ true
+      by none = ltb-true k (p .place) (omega arith)
+      by (some c) = leb-true k (p .place) (omega arith)
+  guard-counts k (inl (exhausted e)) = settled-exhausted (guard k) e
+  guard-counts k (inl (stopped j n ns e h)) = settled-stopped j n ns (guard k) e ∙ leb-true k j (omega arith)
+  guard-counts k (inr (inl e)) = settled-exhausted (guard k) e
+  guard-counts k (inr (inr (inl t))) = settled-chosen (t .0) (guard k) (t .2) ∙ ap (λ (w : Option Condition). upToOutcome w (t .0 .place) (guard k)) (t .3) ∙ leb-true k (t .0 .place) (t .4)
+  guard-counts k (inr (inr (inr t))) = settled-stopped (t .0) (t .1) (t .2) (guard k) (t .3) ∙ leb-true k (t .0) (t .4)
+
+-- two sheets with the same rules and state
+module _ (old new : Sheet Condition) (same : SameRules old new) where
+  -- a lost reading's text
+  Erased : Bytes → Type 0
+  Erased e = (r : Reading) × (r .text ≡ e) × IsReading old r × Vanished old new r
+
+  record DecisionRefused : Type 0 where
+    refusal : Refusal
+    step : Step
+    names : Names
+    unobservable : Unobservable refusal step names
+    isNew : decideCall new ≡ refused refusal
+    tried : settled old step ≡ true
+    named : NamesVanished old new names ⊎ ((q : Refusal) × (ms : Names) × (decideCall old ≡ refused q) × Unobservable q step ms)
+
+  vanished-named : (ns : Names) → Lost Erased ns → NamesVanished old new ns
+  unfolding Erased
+  vanished-named ns l = (l .1 .0, l .1 .2, l .1 .3, subst (λ (e : Bytes). List·Memᴰ (36 ∷ e) ns) (sym (l .1 .1)) (l .2))
+
+  -- the new decision, over the old rules
+  newParts : (st : Option Bytes) → old .state ≡ st → decideCall new ≡ decideFrom new st (old .preconditions) (old .outcomes) (old .states)
+  newParts st e =
+      let a = same .rules in
+      let b = same .outcomes in
+      let c = same .state in
+      let d = same .states in
+      decide-parts new ∙ cc
+
+  oldParts : (st : Option Bytes) → old .state ≡ st → decideCall old ≡ decideFrom old st (old .preconditions) (old .outcomes) (old .states)
+  oldParts st e = decide-parts old ∙ cc
+
+  eligible-same : (o : Outcome Condition) → eligible (new .state) o ≡ eligible (old .state) o
+  eligible-same o = ap (λ (st : Option Bytes). eligible st o) (same .state)
+
+  -- a refused rule ends both
+  refused-rules : (s : Sheet Condition) (x : Bytes) (rs : List (Rule Condition)) (os : List (Outcome Condition)) (states : List Bytes) (q : Refusal) → check s preconditions 0 rs ≡ refused q → decideFrom s (some x) rs os states ≡ refused q
+  unfolding decideFrom
+  refused-rules s x rs os states q e = ap (λ (y : Result Verdict). y >>= λ _. (select s 0 os >>= λ p. (admit states os x p >>= λ z. ok (asAdmitted z)))) e
+
+  passed-rules : (s : Sheet Condition) (x : Bytes) (rs : List (Rule Condition)) (os : List (Outcome Condition)) (states : List Bytes) → check s preconditions 0 rs ≡ ok passed → decideFrom s (some x) rs os states ≡ (select s 0 os >>= admitted-from states os x)
+  unfolding decideFrom admitted-from
+  passed-rules s x rs os states e = bind-ok _ e
+
+  module _ (facts : Every (Fact Erased old new) (sheetReadings old)) where
+    R : RulesLater Erased 0 (check old preconditions 0 (old .preconditions)) (check new preconditions 0 (old .preconditions))
+    R = later-check Erased old new 0 (old .preconditions) (every-left (ruleReadings (old .preconditions)) (guardReadings (old .outcomes)) facts)
+
+    G : GuardsLater Erased 0 (select old 0 (old .outcomes)) (select new 0 (old .outcomes))
+    G = later-select Erased old new 0 (old .outcomes) eligible-same (every-right (ruleReadings (old .preconditions)) (guardReadings (old .outcomes)) facts)
+
+    module _ (x : Bytes) (st : old .state ≡ some x) where
+      -- the rules passed on the old sheet, so a new refusal at a rule came before what settled it
+      ruleTried : (k : ℕ) → RuleShape k (check old preconditions 0 (old .preconditions)) → settled old (rule k) ≡ true
+      ruleTried k (inl p) = rule-counts old x st p k (G .shape)
+      ruleTried k (inr t) = settled-refused old (t .0) (upTo (t .1)) (rule k) (oldParts (some x) st ∙ refused-rules old x _ _ _ (t .0) (t .2)) (t .3) ∙ leb-true k (t .1) (t .4)
+
+      at-rule : RuleRefused Erased (check old preconditions 0 (old .preconditions)) (check new preconditions 0 (old .preconditions)) → DecisionRefused
+      at-rule r =
+          record {
+            refusal = _;
+            step = rule (r .place);
+            names = r .names;
+            unobservable = atRule;
+            isNew = newParts (some x) st ∙ refused-rules new x _ _ _ _ (r .isNew);
+            tried = ruleTried (r .place) (r .tried);
+            named = by (r .named);
+          }
+        where
+          by : Lost Erased (r .names) ⊎ ((ms : Names) × (check old preconditions 0 (old .preconditions) ≡ refused (ruleUnknown preconditions (r .place) (r .name) (r .message) ms))) → NamesVanished old new (r .names) ⊎ ((q : Refusal) × (ms : Names) × (decideCall old ≡ refused q) × Unobservable q (rule (r .place)) ms)
+          by (inl l) = inl (vanished-named (r .names) l)
+          by (inr l) = inr (_, l .0, oldParts (some x) st ∙ refused-rules old x _ _ _ _ (l .1), atRule)
+
+      module _ (pass : check old preconditions 0 (old .preconditions) ≡ ok passed) (passNew : check new preconditions 0 (old .preconditions) ≡ ok passed) where
+        newSelect : decideCall new ≡ (select new 0 (old .outcomes) >>= admitted-from (old .states) (old .outcomes) x)
+        newSelect = newParts (some x) st ∙ passed-rules new x _ _ _ passNew
+
+        oldSelect : decideCall old ≡ (select old 0 (old .outcomes) >>= admitted-from (old .states) (old .outcomes) x)
+        oldSelect = oldParts (some x) st ∙ passed-rules old x _ _ _ pass
+
+        at-guard : GuardRefused Erased (select old 0 (old .outcomes)) (select new 0 (old .outcomes)) → DecisionRefused
+        at-guard r =
+            record {
+              refusal = _;
+              step = guard (r .place);
+              names = r .names;
+              unobservable = atGuard;
+              isNew = newSelect ∙ ap (λ (y : Result Placed). y >>= admitted-from (old .states) (old .outcomes) x) (r .isNew);
+              tried = guard-counts old x st pass (r .place) (r .tried);
+              named = by (r .named);
+            }
+          where
+            by : Lost Erased (r .names) ⊎ ((ms : Names) × (select old 0 (old .outcomes) ≡ refused (guardUnknown (r .place) (r .name) ms))) → NamesVanished old new (r .names) ⊎ ((q : Refusal) × (ms : Names) × (decideCall old ≡ refused q) × Unobservable q (guard (r .place)) ms)
+            by (inl l) = inl (vanished-named (r .names) l)
+            by (inr l) = inr (_, l .0, oldSelect ∙ ap (λ (y : Result Placed). y >>= admitted-from (old .states) (old .outcomes) x) (l .1), atGuard)
+
+        by-guards : (select new 0 (old .outcomes) ≡ select old 0 (old .outcomes)) ⊎ GuardRefused Erased (select old 0 (old .outcomes)) (select new 0 (old .outcomes)) → (decideCall new ≡ decideCall old) ⊎ DecisionRefused
+        by-guards (inl e) = inl (newSelect ∙ ap (λ (y : Result Placed). y >>= admitted-from (old .states) (old .outcomes) x) e ∙ sym oldSelect)
+        by-guards (inr r) = inr (at-guard r)
+
+      by-rules : RuleShape 0 (check old preconditions 0 (old .preconditions)) → (check new preconditions 0 (old .preconditions) ≡ check old preconditions 0 (old .preconditions)) ⊎ RuleRefused Erased (check old preconditions 0 (old .preconditions)) (check new preconditions 0 (old .preconditions)) → (decideCall new ≡ decideCall old) ⊎ DecisionRefused
+      by-rules (inl p) (inl e) = by-guards p (e ∙ p) (G .later)
+      by-rules (inr t) (inl e) = inl (newParts (some x) st ∙ refused-rules new x _ _ _ (t .0) (e ∙ t .2) ∙ sym (oldParts (some x) st ∙ refused-rules old x _ _ _ (t .0) (t .2)))
+      by-rules p (inr r) = inr (at-rule r)
+
+    decision-later : (decideCall new ≡ decideCall old) ⊎ DecisionRefused
+    unfolding decideFrom
+    decision-later = by (old .state) refl
+      where
+        by : (st : Option Bytes) → old .state ≡ st → (decideCall new ≡ decideCall old) ⊎ DecisionRefused
+        by none e = inl (newParts none e ∙ sym (oldParts none e))
+        by (some x) e = by-rules x e (R .shape) (R .later)
+
+-- the reply of a call whose line fits
+plain-reply : Result Verdict → Reply
+plain-reply (ok v) = record { number = 0; line = some (verdictLine v) }
+plain-reply (refused r) = record { number = refusalNumber r; line = refusalLine r }
+
+fitted-plain : (output n : ℕ) (line : Option Bytes) → (fitted output n line) .number ≢ 23 → fitted output n line ≡ record { number = n; line = line }
+unfolding refusalNumber
+fitted-plain output n none h = refl
+fitted-plain output n (some line) h = by (leb (length line) output) refl
+  where
+    by : (b : Bool) → leb (length line) output ≡ b → fitted output n (some line) ≡ record { number = n; line = some line }
+    by true e = rw (e, fitted) refl
+    by false e = absurd (h (rw (e, fitted) refl))
+
+reply-plain : (output : ℕ) (x : Result Verdict) → (reply output x) .number ≢ 23 → reply output x ≡ plain-reply x
+unfolding reply plain-reply
+reply-plain output (ok v) h = fitted-plain output 0 (some (verdictLine v)) h
+reply-plain output (refused r) h = fitted-plain output (refusalNumber r) (refusalLine r) h
+
+decide-plain : (s : Bytes) (work output : ℕ) (sheet : Sheet Condition) → workWords ≤ work → readSheet s ≡ ok sheet → (decide s work output) .number ≢ 23 → decide s work output ≡ plain-reply (decideCall sheet)
+unfolding decide call enough
+decide-plain s work output sheet w e h = whole ∙ reply-plain output (decideCall sheet) (subst (λ (r : Reply). r .number ≢ 23) whole h)
+  where
+    whole : decide s work output ≡ reply output (decideCall sheet)
+    whole = rw (leb-true workWords work w, enough) (rw e refl)
+
+-- the readings of two sheets with the same rules are the same
+same-readings : (old new : Sheet Condition) → SameRules old new → sheetReadings new ≡ sheetReadings old
+same-readings old new same =
+    let a = same .rules in
+    let b = same .outcomes in
+    cc
+
+not-null : (v : Value) → isNull v ≡ false → v ≢ null
+not-null v e p = true≢false (sym (ap isNull p) ∙ e)
+
+fact-of : (old new : Sheet Condition) (same : SameRules old new) → Clean old → Clean new → ((r : Reading) → IsReading old r → Kept old new r) → Every (Fact (Erased old new same) old new) (sheetReadings old)
+unfolding Erased
+fact-of old new same cleanOld cleanNew keeps r m =
+    record {
+      was = was .0;
+      now = now .0;
+      isWas = was .1;
+      isNow = now .1;
+      change = change (keeps r m);
+      exact = exact (keeps r m);
+      erased = λ v p n g. (r, refl, m, record { value = v; gave = was .1 ∙ ap {B = Result (Option Value)} ok p; notNull = not-null v n; gone = now .1 ∙ ap {B = Result (Option Value)} ok g });
+    }
+  where
+    was : (g : Option Value) × (gives old [] (r .text) ≡ ok g)
+    was = cleanOld r m
+
+    now : (g : Option Value) × (gives new [] (r .text) ≡ ok g)
+    now = cleanNew r (rw (same-readings old new same) m)
+
+    change : Kept old new r → (now .0 ≡ was .0) ⊎ (now .0 ≡ none)
+    change (inl u) = inl (ok-injective (sym (now .1) ∙ u ∙ was .1))
+    change (inr g) = inr (ok-injective (sym (now .1) ∙ g .1))
+
+    exact : Kept old new r → r .underExists ≡ true → now .0 ≡ was .0
+    exact (inl u) e = ok-injective (sym (now .1) ∙ u ∙ was .1)
+    exact (inr g) e = absurd (true≢false (sym e ∙ g .0))
+
+-- where nothing changed, every rule and guard answers as before
+alike-check : (old new : Sheet Condition) (i : ℕ) (rs : List (Rule Condition)) → Every (Alike old new) (ruleReadings rs) → check new preconditions i rs ≡ check old preconditions i rs
+unfolding check ruleReadings
+alike-check old new i [] h = refl
+alike-check old new i (r ∷ rs) h =
+    ap₂
+    (λ (x : Result Answer) (y : Result Verdict). x >>= after y)
+    (alike-evaluate old new [] (r .assert) (every-left (readings [] (r .assert)) (ruleReadings rs) h))
+    (alike-check old new (i + 1) rs (every-right (readings [] (r .assert)) (ruleReadings rs) h))
+  where
+    after : Result Verdict → Answer → Result Verdict
+    after rest a =
+        elim
+        (a .truth) [
+          | True ↦
+              rest
+          | False ↦
+              refused (ruleFalse preconditions i (r .name) (r .message))
+          | Unknown ↦
+              refused (ruleUnknown preconditions i (r .name) (r .message) (ascending (a .names)))
+        ]
+
+alike-guard : (old new : Sheet Condition) (w : Option Condition) → Every (Alike old new) (whenReadings w) → Decide·guard new w ≡ Decide·guard old w
+unfolding Decide·guard
+alike-guard old new none h = refl
+alike-guard old new (some c) h = alike-evaluate old new [] c h
+
+alike-select : (old new : Sheet Condition) (i : ℕ) (os : List (Outcome Condition)) → new .state ≡ old .state → Every (Alike old new) (guardReadings os) → select new i os ≡ select old i os
+unfolding select guardReadings
+alike-select old new i [] st h = refl
+alike-select old new i (o ∷ os) st h =
+    ap (λ (x : Option Bytes). judged (eligible x o) (Decide·guard new (o .when)) (select new (i + 1) os)) st ∙
+    ap₂
+    (λ (g : Result Answer) (rest : Result Placed). judged (eligible (old .state) o) g rest)
+    (alike-guard old new (o .when) (every-left (whenReadings (o .when)) (guardReadings os) h))
+    (alike-select old new (i + 1) os st (every-right (whenReadings (o .when)) (guardReadings os) h))
+  where
+    judged : Bool → Result Answer → Result Placed → Result Placed
+    judged b g rest =
+        elim
+        b [
+          | false ↦
+              rest
+          | true ↦
+              (g >>=
+              λ a. elim
+              (a .truth) [
+                | True ↦
+                    ok (record { place = i; outcome = o })
+                | False ↦
+                    rest
+                | Unknown ↦
+                    refused (guardUnknown i (o .name) (ascending (a .names)))
+              ])
+        ]
+
+decision-alike : (old new : Sheet Condition) → SameRules old new → Every (Alike old new) (sheetReadings old) → decideCall new ≡ decideCall old
+unfolding decideFrom admitted-from
+decision-alike old new same h =
+    newParts old new same (old .state) refl ∙
+    rewritten ∙
+    sym (oldParts old new same (old .state) refl)
+  where
+    rewritten : decideFrom new (old .state) (old .preconditions) (old .outcomes) (old .states) ≡ decideFrom old (old .state) (old .preconditions) (old .outcomes) (old .states)
+    rewritten =
+        ap₂
+        (λ (x : Result Verdict) (y : Result Placed). orElse (old .state) noInput >>= λ z. (x >>= λ _. (y >>= admitted-from (old .states) (old .outcomes) z)))
+        (alike-check old new 0 (old .preconditions) (every-left (ruleReadings (old .preconditions)) (guardReadings (old .outcomes)) h))
+        (alike-select old new 0 (old .outcomes) (same .state) (every-right (ruleReadings (old .preconditions)) (guardReadings (old .outcomes)) h))
+
+pub demand : Demand
+unfolding Demand plain-reply
+demand s s′ work work′ output output′ old new w w′ e e′ n n′ same cleanOld cleanNew keeps = (by (decision-later old new same (fact-of old new same cleanOld cleanNew keeps)), λ u. same-reply (decision-alike old new same u))
+  where
+    oldReply : decide s work output ≡ plain-reply (decideCall old)
+    oldReply = decide-plain s work output old w e n
+
+    newReply : decide s′ work′ output′ ≡ plain-reply (decideCall new)
+    newReply = decide-plain s′ work′ output′ new w′ e′ n′
+
+    same-reply : decideCall new ≡ decideCall old → decide s′ work′ output′ ≡ decide s work output
+    same-reply p = newReply ∙ ap plain-reply p ∙ sym oldReply
+
+    by : (decideCall new ≡ decideCall old) ⊎ DecisionRefused old new same → (decide s′ work′ output′ ≡ decide s work output) ⊎ Repeated old new (decide s′ work′ output′)
+    by (inl p) = inl (same-reply p)
+    by (inr d) =
+        inr
+        (record {
+          refusal = d .refusal;
+          step = d .step;
+          names = d .names;
+          unobservable = d .unobservable;
+          isReply = newReply ∙ ap plain-reply (d .isNew);
+          tried = d .tried;
+          named = d .named;
+        })

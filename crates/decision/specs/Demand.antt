@@ -1,0 +1,138 @@
+-- The third demand: a decision that is run again. Clean rules, readings, and one claim about two whole Decide calls.
+-- Assumes nothing.
+use mathlib.Core.Bool.{Bool, false, true}
+use mathlib.Core.List.{List·Memᴰ, [], _∷_}
+use mathlib.Core.Logic.{_≢_, _⊎_}
+use mathlib.Core.Option.{Option, none, some}
+use mathlib.Core.Path.{_≡_}
+use Prim.Native.Nat.{ℕ, _≤_}
+use lib.Dec.{leb, ltb}
+use Rattle.decision.specs.Decide.{decideCall, select}
+use Rattle.decision.specs.Entry.{Reply, decide, workWords}
+use Rattle.decision.specs.Line.{refusalLine, refusalNumber}
+use Rattle.decision.specs.Outcomes.{Placed}
+use Rattle.evaluation.specs.Expression.{gives}
+use Rattle.evaluation.specs.Names.{Names}
+use Rattle.evaluation.specs.Readings.{Clean, IsReading, Reading}
+use Rattle.reader.specs.Bytes.{Bytes}
+use Rattle.reader.specs.Json.{Value, null, number}
+use Rattle.reader.specs.Refusal.{Refusal, Result, guardUnknown, noOutcome, ok, preconditions, refused, ruleFalse, ruleUnknown}
+use Rattle.sheet.specs.Condition.{Condition}
+use Rattle.sheet.specs.Sheet.{Sheet, readSheet}
+
+pub record SameRules (old new : Sheet Condition) : Type 0 where
+  pub rules : new .preconditions ≡ old .preconditions
+  pub outcomes : new .outcomes ≡ old .outcomes
+  pub state : new .state ≡ old .state
+  pub states : new .states ≡ old .states
+
+module _ (old new : Sheet Condition) where
+  abbrev pub Unchanged : Reading → Type 0
+  Unchanged r = gives new [] (r .text) ≡ gives old [] (r .text)
+
+  -- its old value or nothing; under `exists` exactly as before
+  abbrev pub Kept : Reading → Type 0
+  Kept r = Unchanged r ⊎ ((r .underExists ≡ false) × (gives new [] (r .text) ≡ ok none))
+
+  -- a value other than null before, and nothing now
+  pub record Vanished (r : Reading) : Type 0 where
+    pub value : Value
+    pub gave : gives old [] (r .text) ≡ ok (some value)
+    pub notNull : value ≢ null
+    pub gone : gives new [] (r .text) ≡ ok none
+
+  -- a refusal names a vanished reading
+  abbrev pub NamesVanished : Names → Type 0
+  NamesVanished ns = (r : Reading) × IsReading old r × Vanished r × List·Memᴰ (36 ∷ r .text) ns
+
+-- a rule or a guard, by its place
+pub data Step : Type 0 where
+  rule guard : ℕ → Step
+
+-- unobservable refusals, the step at which they stand, and their names
+pub data Unobservable : Refusal → Step → Names → Type 0 where
+  atRule : {i : ℕ} {n m : Option Bytes} {ns : Names} → Unobservable (ruleUnknown preconditions i n m ns) (rule i) ns
+  atGuard : {i : ℕ} {n : Bytes} {ns : Names} → Unobservable (guardUnknown i n ns) (guard i) ns
+
+-- Steps up to the one that settled the old decision. The line of an admission, 21 or 22 is settled by the outcome selected: by its guard, or where it has none
+-- by the last before it.
+abbrev pub upTo : ℕ → Step → Bool
+upTo i (rule k) = leb k i
+upTo i (guard k) = false
+
+abbrev pub upToGuard : ℕ → Step → Bool
+upToGuard i (rule k) = true
+upToGuard i (guard k) = leb k i
+
+abbrev pub beforeGuard : ℕ → Step → Bool
+beforeGuard i (rule k) = true
+beforeGuard i (guard k) = ltb k i
+
+abbrev pub upToOutcome : Option Condition → ℕ → Step → Bool
+upToOutcome none i k = beforeGuard i k
+upToOutcome (some c) i k = upToGuard i k
+
+abbrev pub upToSelected : Result Placed → Step → Bool
+upToSelected (refused r) k = false
+upToSelected (ok p) k = upToOutcome (p .outcome .when) (p .place) k
+
+-- the steps that count where a refusal settled the old decision, if it did
+unfoldable pub settledBy : Refusal → Option (Step → Bool)
+settledBy Refusal.workTooSmall = none
+settledBy Refusal.tooLong = none
+settledBy Refusal.notUtf8 = none
+settledBy Refusal.notJson = none
+settledBy Refusal.tooDeep = none
+settledBy Refusal.numberTooLong = none
+settledBy Refusal.tooManyNodes = none
+settledBy Refusal.repeatedName = none
+settledBy Refusal.wrongSheet = none
+settledBy Refusal.wrongShape = none
+settledBy Refusal.notCarried = none
+settledBy Refusal.noInput = some (λ k. false)
+settledBy (Refusal.unknownExpression e) = none
+settledBy Refusal.noId = none
+settledBy (ruleFalse k i n m) = some (upTo i)
+settledBy (ruleUnknown k i n m ns) = some (upTo i)
+settledBy noOutcome = some (λ k. true)
+settledBy (guardUnknown i n ns) = some (upToGuard i)
+settledBy (Refusal.wrongState s) = none
+settledBy (Refusal.notASource i n s from) = none
+settledBy Refusal.lineTooLong = none
+
+unfoldable pub settled : Sheet Condition → Step → Bool
+unfolding settledBy
+settled s k =
+    elim
+    (decideCall s) [
+      | ok v ↦
+          upToSelected (select s 0 (s .outcomes)) k
+      | refused r ↦
+          elim (settledBy r) [ some p ↦ p k | none ↦ upToSelected (select s 0 (s .outcomes)) k ]
+    ]
+
+-- the new call is an unobservable refusal where the demand allows one
+pub record Repeated (old new : Sheet Condition) (r : Reply) : Type 0 where
+  pub refusal : Refusal
+  pub step : Step
+  pub names : Names
+  pub unobservable : Unobservable refusal step names
+  pub isReply : r ≡ record { number = refusalNumber refusal; line = refusalLine refusal }
+  pub tried : settled old step ≡ true
+  pub named : NamesVanished old new names ⊎ ((q : Refusal) × (ms : Names) × (decideCall old ≡ refused q) × Unobservable q step ms)
+
+unfoldable pub Demand : Type 0
+Demand =
+    (s s′ : Bytes) (work work′ output output′ : ℕ) (old new : Sheet Condition) →
+    workWords ≤ work →
+    workWords ≤ work′ →
+    readSheet s ≡ ok old →
+    readSheet s′ ≡ ok new →
+    (decide s work output) .number ≢ 23 →
+    (decide s′ work′ output′) .number ≢ 23 →
+    SameRules old new →
+    Clean old →
+    Clean new →
+    ((r : Reading) → IsReading old r → Kept old new r) →
+    ((decide s′ work′ output′ ≡ decide s work output) ⊎ Repeated old new (decide s′ work′ output′)) ×
+    (((r : Reading) → IsReading old r → Unchanged old new r) → decide s′ work′ output′ ≡ decide s work output)

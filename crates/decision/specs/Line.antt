@@ -1,0 +1,140 @@
+-- The line of an answer or a refusal, and the refusal's number.
+-- Assumes nothing.
+use mathlib.Core.Bool.{false, true}
+use mathlib.Core.List.{List, [], _++_, _∷_}
+use mathlib.Core.Option.{Option, none, some}
+use Prim.Native.Nat.{suc, zero, ℕ, _%_, _+_, _/_}
+use lib.Dec.{eqb, ltb}
+use Rattle.decision.specs.Verdict.{Verdict, admitted, answered, passed, selected}
+use Rattle.evaluation.specs.Names.{Names}
+use Rattle.evaluation.specs.Truth.{False, True, Truth, Unknown}
+use Rattle.reader.specs.Bytes.{Bytes, ascii, choose}
+use Rattle.reader.specs.Refusal.{Refusal, Rules, guardUnknown, invariants, lineTooLong, noId, noInput, noOutcome, notASource, notCarried, notJson, notUtf8, numberTooLong, preconditions, repeatedName, ruleFalse, ruleUnknown, tooDeep, tooLong, tooManyNodes, unknownExpression, workTooSmall, wrongShape, wrongSheet, wrongState}
+
+abbrev pub falseOr : Rules → ℕ
+falseOr preconditions = 15
+falseOr invariants = 17
+
+abbrev pub unknownOr : Rules → ℕ
+unknownOr preconditions = 16
+unknownOr invariants = 18
+
+unfoldable pub refusalNumber : Refusal → ℕ
+refusalNumber workTooSmall = 1
+refusalNumber tooLong = 2
+refusalNumber notUtf8 = 3
+refusalNumber notJson = 4
+refusalNumber tooDeep = 5
+refusalNumber numberTooLong = 6
+refusalNumber tooManyNodes = 7
+refusalNumber repeatedName = 8
+refusalNumber wrongSheet = 9
+refusalNumber wrongShape = 10
+refusalNumber notCarried = 11
+refusalNumber noInput = 12
+refusalNumber (unknownExpression e) = 13
+refusalNumber noId = 14
+refusalNumber (ruleFalse k i n m) = falseOr k
+refusalNumber (ruleUnknown k i n m ns) = unknownOr k
+refusalNumber noOutcome = 19
+refusalNumber (guardUnknown i n ns) = 20
+refusalNumber (wrongState s) = 21
+refusalNumber (notASource i n s from) = 22
+refusalNumber lineTooLong = 23
+
+-- a number in decimal digits; the first argument bounds how many
+unfoldable pub digitsOf : ℕ → ℕ → Bytes → Bytes
+digitsOf zero n s = s
+digitsOf (suc f) n s = elim (ltb n 10) [ true ↦ (48 + n) ∷ s | false ↦ digitsOf f (n / 10) ((48 + n % 10) ∷ s) ]
+
+abbrev pub decimalDigits : ℕ → Bytes
+decimalDigits n = digitsOf 20 n []
+
+abbrev pub hexOf : ℕ → ℕ
+hexOf n = choose ((ltb n 10, 48 + n) ∷ []) (87 + n)
+
+abbrev pub quotedByte : ℕ → Bytes
+quotedByte c =
+    choose
+    ((eqb c 34, 92 ∷ 34 ∷ []) ∷
+    (eqb c 92, 92 ∷ 92 ∷ []) ∷
+    (ltb c 32, ascii "\\u00" ++ (hexOf (c / 16) ∷ hexOf (c % 16) ∷ [])) ∷
+    [])
+    (c ∷ [])
+
+unfoldable pub quotedBytes : Bytes → Bytes
+quotedBytes [] = 34 ∷ []
+quotedBytes (c ∷ s) = quotedByte c ++ quotedBytes s
+
+abbrev pub quoted : Bytes → Bytes
+quoted s = 34 ∷ quotedBytes s
+
+-- bracketed forms: words and forms with one space between them
+unfoldable pub spaced : List Bytes → Bytes
+spaced [] = []
+spaced (w ∷ []) = w
+spaced (w ∷ v ∷ ws) = w ++ (32 ∷ spaced (v ∷ ws))
+
+abbrev pub form : List Bytes → Bytes
+form ws = (40 ∷ spaced ws) ++ (41 ∷ [])
+
+unfoldable pub eachQuoted : List Bytes → List Bytes
+unfolding quotedBytes
+eachQuoted [] = []
+eachQuoted (t ∷ ts) = quoted t ∷ eachQuoted ts
+
+abbrev pub listed : Bytes → List Bytes → Bytes
+listed w ts = form (w ∷ eachQuoted ts)
+
+abbrev pub truthWord : Truth → Bytes
+truthWord True = ascii "true"
+truthWord False = ascii "false"
+truthWord Unknown = ascii "unknown"
+
+abbrev pub nameOr : Option Bytes → Bytes
+nameOr none = ascii "()"
+nameOr (some n) = quoted n
+
+abbrev pub messageOr : Bytes → Option Bytes → Bytes
+messageOr d none = quoted d
+messageOr d (some m) = quoted m
+
+abbrev pub names : Names → Bytes
+names ns = listed (ascii "names") ns
+
+abbrev pub endLine : Bytes → Bytes
+endLine s = s ++ (10 ∷ [])
+
+unfoldable pub verdictLine : Verdict → Bytes
+unfolding digitsOf spaced eachQuoted quotedBytes
+verdictLine (answered t ns) = endLine (form (ascii "truth" ∷ truthWord t ∷ names ns ∷ []))
+verdictLine passed = endLine (ascii "(passed)")
+verdictLine (selected i n) = endLine (form (ascii "selected" ∷ decimalDigits i ∷ quoted n ∷ []))
+verdictLine (admitted i n) = endLine (form (ascii "admitted" ∷ decimalDigits i ∷ quoted n ∷ []))
+
+abbrev pub refusedForm : ℕ → List Bytes → Bytes
+refusedForm n ws = endLine (form (ascii "refused" ∷ decimalDigits n ∷ ws))
+
+unfoldable pub refusalLine : Refusal → Option Bytes
+unfolding digitsOf spaced eachQuoted quotedBytes
+refusalLine workTooSmall = none
+refusalLine tooLong = none
+refusalLine notUtf8 = none
+refusalLine notJson = none
+refusalLine tooDeep = none
+refusalLine numberTooLong = none
+refusalLine tooManyNodes = none
+refusalLine repeatedName = none
+refusalLine wrongSheet = none
+refusalLine wrongShape = none
+refusalLine notCarried = none
+refusalLine noInput = none
+refusalLine (unknownExpression e) = some (refusedForm 13 (quoted e ∷ []))
+refusalLine noId = some (refusedForm 14 (quoted (ascii "$id") ∷ []))
+refusalLine (ruleFalse k i n m) = some (refusedForm (falseOr k) (decimalDigits i ∷ nameOr n ∷ messageOr (ascii "condition evaluated to false") m ∷ []))
+refusalLine (ruleUnknown k i n m ns) = some (refusedForm (unknownOr k) (decimalDigits i ∷ nameOr n ∷ messageOr (ascii "condition could not be evaluated") m ∷ names ns ∷ []))
+refusalLine noOutcome = some (refusedForm 19 [])
+refusalLine (guardUnknown i n ns) = some (refusedForm 20 (decimalDigits i ∷ quoted n ∷ names ns ∷ []))
+refusalLine (wrongState s) = some (refusedForm 21 (quoted s ∷ []))
+refusalLine (notASource i n s from) = some (refusedForm 22 (decimalDigits i ∷ quoted n ∷ quoted s ∷ listed (ascii "from") from ∷ []))
+refusalLine lineTooLong = none

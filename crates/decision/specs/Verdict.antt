@@ -1,0 +1,13 @@
+-- Rules, selection, admission and the decision on an accepted sheet.
+-- Assumes nothing.
+use Prim.Native.Nat.{ℕ}
+use Rattle.evaluation.specs.Names.{Names}
+use Rattle.evaluation.specs.Truth.{Truth}
+use Rattle.reader.specs.Bytes.{Bytes}
+
+-- what a call answers
+pub data Verdict : Type 0 where
+  answered : Truth → Names → Verdict
+  passed : Verdict
+  selected : ℕ → Bytes → Verdict
+  admitted : ℕ → Bytes → Verdict

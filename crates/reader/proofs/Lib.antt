@@ -1,0 +1,14 @@
+pub mod Laws
+pub mod Sound
+pub mod Complete
+pub mod Agree
+pub mod Decoded
+pub mod Walk
+pub mod Texts
+pub mod Cursor
+pub mod Scans
+pub mod Sorted
+pub mod KeyOrder
+pub mod Loops
+pub mod Words
+pub mod Samples

@@ -1,0 +1,14 @@
+pub mod Bytes
+pub mod Refusal
+pub mod Json
+pub mod Limits
+pub mod Sorted
+pub mod Utf8
+pub mod Scan
+pub mod Strings
+pub mod Numerals
+pub mod Reader
+pub mod Grammar
+pub mod Spans
+pub mod Placing
+pub mod Table

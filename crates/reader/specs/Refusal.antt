@@ -1,0 +1,36 @@
+-- The refusals of the paper's table, and the answer of everything that may refuse.
+-- Assumes nothing.
+use mathlib.Core.List.{List}
+use mathlib.Core.Option.{Option}
+use Prim.Native.Nat.{ℕ}
+use Rattle.reader.specs.Bytes.{Bytes}
+
+pub data Rules : Type 0 where
+  preconditions invariants : Rules
+
+pub data Refusal : Type 0 where
+  workTooSmall tooLong notUtf8 notJson tooDeep numberTooLong tooManyNodes repeatedName : Refusal
+  wrongSheet wrongShape notCarried noInput : Refusal
+  unknownExpression : Bytes → Refusal
+  noId : Refusal
+  ruleFalse : Rules → ℕ → Option Bytes → Option Bytes → Refusal
+  ruleUnknown : Rules → ℕ → Option Bytes → Option Bytes → List Bytes → Refusal
+  noOutcome : Refusal
+  guardUnknown : ℕ → Bytes → List Bytes → Refusal
+  wrongState : Bytes → Refusal
+  notASource : ℕ → Bytes → Bytes → List Bytes → Refusal
+  lineTooLong : Refusal
+
+pub data Result (A : Type 0) : Type 0 where
+  ok : A → Result A
+  refused : Refusal → Result A
+
+infixl 20 _>>=_
+abbrev pub _>>=_ : {A B : Type 0} → Result A → (A → Result B) → Result B
+ok a >>= f = f a
+refused r >>= f = refused r
+
+-- the value, or the refusal where there is none
+abbrev pub orElse : {A : Type 0} → Option A → Refusal → Result A
+orElse Option.none r = refused r
+orElse (Option.some a) r = ok a

@@ -1,0 +1,1 @@
+// The definitions of the crate stand in specs/, its laws in proofs/.

@@ -1,0 +1,168 @@
+-- Kleene's strong truth tables. Assumes nothing.
+use mathlib.Core.Bool.{Bool, false, true}
+use mathlib.Core.List.{List, [], _∷_}
+use mathlib.Core.Option.{none, some}
+use lib.Dec.{eqb}
+use lib.ListN.{length}
+use Rattle.reader.specs.Bytes.{Bytes, ascii, find}
+use Rattle.reader.specs.Json.{Members, Value, Values, array, asText, bool, cons, empty, member, nil, null, number, object, text}
+use Rattle.reader.specs.Refusal.{Result, notCarried, ok, orElse, refused, wrongShape, _>>=_}
+
+-- `all` and `for_all` join by `and`, `any` and `for_any` by `or`
+pub data Mode : Type 0 where
+  every any : Mode
+
+-- Conditions. A pair form takes two operands; a quantifier an operand, a binder and a body.
+pub data Form : Type 0 where
+  eq ne gt gte lt lte isIn contains startsWith endsWith : Form
+
+mutual
+  pub data Condition : Type 0 where
+    literal : Bool → Condition
+    junction : Mode → Conditions → Condition
+    negation : Condition → Condition
+    exists : Value → Condition
+    pair : Form → Value → Value → Condition
+    quantified : Mode → Value → Bytes → Condition → Condition
+
+  pub data Conditions : Type 0 where
+    noMore : Conditions
+    also : Condition → Conditions → Conditions
+
+-- the one member's name
+pub data Operator : Type 0 where
+  opJunction : Mode → Operator
+  opNegation opExists : Operator
+  opPair : Form → Operator
+  opQuantified : Mode → Operator
+  opNotCarried : Operator
+
+abbrev pub operators : List (Bytes × Operator)
+operators =
+    (ascii "all", opJunction every) ∷
+    (ascii "any", opJunction Mode.any) ∷
+    (ascii "not", opNegation) ∷
+    (ascii "exists", opExists) ∷
+    (ascii "eq", opPair eq) ∷
+    (ascii "ne", opPair ne) ∷
+    (ascii "gt", opPair gt) ∷
+    (ascii "gte", opPair gte) ∷
+    (ascii "lt", opPair lt) ∷
+    (ascii "lte", opPair lte) ∷
+    (ascii "in", opPair isIn) ∷
+    (ascii "contains", opPair contains) ∷
+    (ascii "starts_with", opPair startsWith) ∷
+    (ascii "ends_with", opPair endsWith) ∷
+    (ascii "for_all", opQuantified every) ∷
+    (ascii "for_any", opQuantified Mode.any) ∷
+    (ascii "before", opNotCarried) ∷
+    (ascii "after", opNotCarried) ∷
+    (ascii "compare", opNotCarried) ∷
+    (ascii "truthy", opNotCarried) ∷
+    []
+
+-- exactly two operands
+abbrev pub twoOf : Form → Value → Result Condition
+twoOf f null = refused wrongShape
+twoOf f (bool b) = refused wrongShape
+twoOf f (number s) = refused wrongShape
+twoOf f (text s) = refused wrongShape
+twoOf f (object ms) = refused wrongShape
+twoOf f (array nil) = refused wrongShape
+twoOf f (array (cons v nil)) = refused wrongShape
+twoOf f (array (cons v (cons w nil))) = ok (pair f v w)
+twoOf f (array (cons v (cons w (cons x vs)))) = refused wrongShape
+
+-- exactly `in`, `as` and `that`, the second a text; each member stands here with what it is as a condition
+unfoldable pub quantifier : Mode → List (Bytes × (Value × Result Condition)) → Result Condition
+unfolding find
+quantifier m ps =
+    elim
+    (eqb (length ps) 3) [
+      | false ↦
+          refused wrongShape
+      | true ↦
+          (do
+            over ← orElse (find (ascii "in") ps) wrongShape
+            bind ← orElse (find (ascii "as") ps) wrongShape
+            body ← orElse (find (ascii "that") ps) wrongShape
+            name ← orElse (asText (bind .0)) wrongShape
+            c ← body .1
+            ok (quantified m (over .0) name c))
+    ]
+
+-- A value as a condition, or the fault of the condition at fault that begins first: a condition's own fault comes before those inside.
+unfoldable mutual
+  unfolding find quantifier
+
+  pub condition : Value → Result Condition
+  condition null = refused wrongShape
+  condition (bool b) = ok (literal b)
+  condition (number s) = refused wrongShape
+  condition (text s) = refused wrongShape
+  condition (array vs) = refused wrongShape
+  condition (object ms) = oneMember ms
+
+  pub oneMember : Members → Result Condition
+  oneMember empty = refused wrongShape
+  oneMember (member k v ms) =
+      elim
+      ms [
+        | member l w more ↦
+            refused wrongShape
+        | empty ↦
+            elim
+            (find k operators) [
+              | none ↦
+                  refused wrongShape
+              | some op ↦
+                  elim
+                  op [
+                    | opJunction m ↦
+                        (do
+                          cs ← conditionArray v
+                          ok (junction m cs))
+                    | opNegation ↦
+                        (do
+                          c ← condition v
+                          ok (negation c))
+                    | opExists ↦
+                        ok (exists v)
+                    | opPair f ↦
+                        twoOf f v
+                    | opQuantified m ↦
+                        (do
+                          ps ← conditionObject v
+                          quantifier m ps)
+                    | opNotCarried ↦
+                        refused notCarried
+                  ]
+            ]
+      ]
+
+  pub conditionArray : Value → Result Conditions
+  conditionArray null = refused wrongShape
+  conditionArray (bool b) = refused wrongShape
+  conditionArray (number s) = refused wrongShape
+  conditionArray (text s) = refused wrongShape
+  conditionArray (array vs) = conditionsIn vs
+  conditionArray (object ms) = refused wrongShape
+
+  pub conditionsIn : Values → Result Conditions
+  conditionsIn nil = ok noMore
+  conditionsIn (cons v vs) = do
+    c ← condition v
+    cs ← conditionsIn vs
+    ok (also c cs)
+
+  pub conditionObject : Value → Result (List (Bytes × (Value × Result Condition)))
+  conditionObject null = refused wrongShape
+  conditionObject (bool b) = refused wrongShape
+  conditionObject (number s) = refused wrongShape
+  conditionObject (text s) = refused wrongShape
+  conditionObject (array vs) = refused wrongShape
+  conditionObject (object ms) = ok (conditionsOf ms)
+
+  pub conditionsOf : Members → List (Bytes × (Value × Result Condition))
+  conditionsOf empty = []
+  conditionsOf (member k v ms) = (k, (v, condition v)) ∷ conditionsOf ms

@@ -1,0 +1,5 @@
+pub mod Condition
+pub mod Kinds
+pub mod Rule
+pub mod Outcome
+pub mod Sheet

@@ -1,0 +1,62 @@
+-- The sheet: its conditions, rules and outcomes, and the refusals 9, 10 and 11.
+-- Assumes nothing.
+use mathlib.Core.Bool.{Bool, false}
+use mathlib.Core.List.{List, [], _∷_}
+use mathlib.Core.Option.{Option, none, some}
+use Rattle.reader.specs.Bytes.{Bytes, ascii, find}
+use Rattle.reader.specs.Json.{Value, asText, keys}
+use Rattle.reader.specs.Refusal.{Result, ok, orElse, wrongSheet, _>>=_}
+use Rattle.sheet.specs.Kinds.{aBool, aText, anObject, eachOf, only, optional, required, someTexts}
+
+pub data Effect : Type 0 where
+  stays : Effect
+  moves : Bytes → List Bytes → Effect
+
+pub record Outcome (C : Type 0) : Type 0 where
+  pub name : Bytes
+  pub when : Option C
+  pub inState : Option Bytes
+  pub wrongState : Bool
+  pub effect : Effect
+
+abbrev pub effectWords : List (Bytes × Effect)
+effectWords = (ascii "none", stays) ∷ (ascii "creates", stays) ∷ (ascii "updates", stays) ∷ []
+
+unfoldable pub anEffect : Value → Result Effect
+unfolding find only eachOf
+anEffect v =
+    elim
+    (asText v) [
+      | some s ↦
+          orElse (find s effectWords) wrongSheet
+      | none ↦
+          (do
+            ms ← anObject v
+            _ ← only (ascii "moves" ∷ []) (keys ms)
+            move ← required anObject (ascii "moves") ms
+            _ ← only (ascii "to" ∷ ascii "from" ∷ []) (keys move)
+            to ← required aText (ascii "to") move
+            from ← required someTexts (ascii "from") move
+            ok (moves to from))
+    ]
+
+abbrev pub orStays : Option Effect → Effect
+orStays none = stays
+orStays (some e) = e
+
+abbrev pub orFalse : Option Bool → Bool
+orFalse none = false
+orFalse (some b) = b
+
+module _ {C : Type 0} (kind : Value → Result C) where
+  unfoldable pub anOutcome : Value → Result (Outcome C)
+  unfolding find only anEffect
+  anOutcome v = do
+    ms ← anObject v
+    _ ← only (ascii "name" ∷ ascii "when" ∷ ascii "in_state" ∷ ascii "wrong_state" ∷ ascii "effect" ∷ []) (keys ms)
+    n ← required aText (ascii "name") ms
+    c ← optional kind (ascii "when") ms
+    i ← optional aText (ascii "in_state") ms
+    w ← optional aBool (ascii "wrong_state") ms
+    e ← optional anEffect (ascii "effect") ms
+    ok (record { name = n; when = c; inState = i; wrongState = orFalse w; effect = orStays e })

@@ -1,0 +1,140 @@
+-- The sheet: its conditions, rules and outcomes, and the refusals 9, 10 and 11.
+-- Assumes nothing.
+use mathlib.Core.Bool.{Bool, true}
+use mathlib.Core.List.{List, [], _++_, _∷_}
+use mathlib.Core.Option.{Option, none, some}
+use Prim.Native.Nat.{_+_}
+use Rattle.reader.specs.Bytes.{Bytes, ascii, find}
+use Rattle.reader.specs.Json.{Members, Value, asArray, asObject, elements, entries, keys}
+use Rattle.reader.specs.Reader.{json}
+use Rattle.reader.specs.Refusal.{Result, ok, _>>=_}
+use Rattle.reader.specs.Sorted.{sorted}
+use Rattle.sheet.specs.Condition.{Condition, condition}
+use Rattle.sheet.specs.Kinds.{aText, aVersion, anArrayOf, anObject, eachOf, notNull, only, optional, required}
+use Rattle.sheet.specs.Outcome.{Outcome, anOutcome}
+use Rattle.sheet.specs.Rule.{Rule, aRule}
+
+pub record Sheet (C : Type 0) : Type 0 where
+  pub id : Option Bytes
+  pub entity : Bytes
+  pub version : Bytes
+  pub args : Members
+  pub fields : Members
+  pub oldFields : Members
+  pub fromState : Option Bytes
+  pub toState : Bytes
+  pub state : Option Bytes
+  pub states : List Bytes
+  pub condition : Option C
+  pub preconditions : List (Rule C)
+  pub invariants : List (Rule C)
+  pub outcomes : List (Outcome C)
+
+module _ {C : Type 0} (kind : Value → Result C) where
+  unfoldable pub aSheet : Value → Result (Sheet C)
+  unfolding find only eachOf aVersion aRule anOutcome
+  aSheet v = do
+    ms ← anObject v
+    _ ← only sheetNames (keys ms)
+    i ← optional aText (ascii "id") ms
+    e ← required aText (ascii "entity") ms
+    n ← required aVersion (ascii "version") ms
+    a ← required anObject (ascii "args") ms
+    f ← required anObject (ascii "fields") ms
+    o ← required anObject (ascii "old_fields") ms
+    fs ← optional aText (ascii "from_state") ms
+    ts ← required aText (ascii "to_state") ms
+    st ← optional aText (ascii "state") ms
+    ss ← required (anArrayOf aText) (ascii "states") ms
+    c ← optional kind (ascii "condition") ms
+    ps ← required (anArrayOf (aRule kind)) (ascii "preconditions") ms
+    is ← required (anArrayOf (aRule kind)) (ascii "invariants") ms
+    os ← required (anArrayOf (anOutcome kind)) (ascii "outcomes") ms
+    ok
+        (record {
+          id = i;
+          entity = e;
+          version = n;
+          args = a;
+          fields = f;
+          oldFields = o;
+          fromState = fs;
+          toState = ts;
+          state = st;
+          states = ss;
+          condition = c;
+          preconditions = ps;
+          invariants = is;
+          outcomes = os;
+        })
+    where
+      sheetNames : List Bytes
+      sheetNames =
+          ascii "entity" ∷
+          ascii "to_state" ∷
+          ascii "version" ∷
+          ascii "args" ∷
+          ascii "fields" ∷
+          ascii "old_fields" ∷
+          ascii "states" ∷
+          ascii "preconditions" ∷
+          ascii "invariants" ∷
+          ascii "outcomes" ∷
+          ascii "id" ∷
+          ascii "from_state" ∷
+          ascii "state" ∷
+          ascii "condition" ∷
+          []
+
+-- The conditions of an accepted sheet's text, in the order in which they begin.
+abbrev pub memberOf : Bytes → Value → List Value
+memberOf k v = elim (asObject v) [ none ↦ [] | some ms ↦ elim (find k (entries ms)) [ none ↦ [] | some w ↦ w ∷ [] ] ]
+
+unfoldable pub memberOfEach : Bytes → List Value → List Value
+unfolding find
+memberOfEach k [] = []
+memberOfEach k (v ∷ vs) = memberOf k v ++ memberOfEach k vs
+
+abbrev pub inArray : Bytes → Value → List Value
+inArray k v = elim (asArray v) [ none ↦ [] | some vs ↦ memberOfEach k (elements vs) ]
+
+pub data Holds : Type 0 where
+  itself : Holds
+  eachUnder : Bytes → Holds
+
+abbrev pub holders : List (Bytes × Holds)
+holders =
+    (ascii "condition", itself) ∷
+    (ascii "preconditions", eachUnder (ascii "assert")) ∷
+    (ascii "invariants", eachUnder (ascii "assert")) ∷
+    (ascii "outcomes", eachUnder (ascii "when")) ∷
+    []
+
+unfoldable pub written : List (Bytes × Value) → List Value
+unfolding find memberOfEach
+written [] = []
+written (e ∷ es) =
+    elim
+    (find (e .0) holders) [
+      | none ↦
+          written es
+      | some h ↦
+          elim h [ itself ↦ e .1 ∷ written es | eachUnder k ↦ inArray k (e .1) ++ written es ]
+    ]
+
+unfoldable pub sound : List Value → Result Bool
+unfolding condition
+sound [] = ok true
+sound (v ∷ vs) = do
+  _ ← condition v
+  sound vs
+
+-- A sheet's text: 2 to 8, then 9, then 10 and 11. What is kept is the sheet of the sorted tree.
+unfoldable pub readSheet : Bytes → Result (Sheet Condition)
+unfolding json aSheet written sound condition sorted
+readSheet s = do
+  v ← json s
+  _ ← aSheet notNull v
+  ms ← anObject v
+  _ ← sound (written (entries ms))
+  aSheet condition (sorted v)
