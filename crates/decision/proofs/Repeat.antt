@@ -16,14 +16,15 @@ use Rattle.decision.specs.Entry.{Reply, call, decide, enough, fitted, re
 use Rattle.decision.specs.Line.{refusalLine, refusalNumber, verdictLine}
 use Rattle.decision.specs.Outcomes.{Placed, admit, asAdmitted, eligible, firstFrom, isWrong}
 use Rattle.decision.specs.Verdict.{Verdict, passed}
-use Rattle.evaluation.proofs.Later.{Alike, Both, Every, Fact, Later, Lost, alike-evaluate, every-left, every-right, later-evaluate, truthGone, truthKept}
+use Rattle.evaluation.proofs.Later.{Alike, Both, Every, Fact, Later, Lost, alike-evaluate, every-left, every-right, known-gives, later-evaluate, truthGone, truthKept}
 use Rattle.evaluation.proofs.Names.{ascending-mem}
 use Rattle.evaluation.specs.Evaluate.{Answer, evaluate}
 use Rattle.evaluation.specs.Expression.{gives}
 use Rattle.evaluation.specs.Names.{Names, ascending}
-use Rattle.evaluation.specs.Readings.{Clean, IsReading, Reading, guardReadings, readings, ruleReadings, sheetReadings, whenReadings}
+use Rattle.evaluation.specs.Readings.{IsReading, Reading, clean, guardReadings, readings, ruleReadings, sheetReadings, whenReadings}
 use Rattle.evaluation.specs.Truth.{False, True, Truth, Unknown}
 use Rattle.reader.proofs.Laws.{bind-ok, leb-true, ltb-true, ok-injective}
+use Rattle.evaluation.specs.Semantics.{kernel}
 use Rattle.reader.specs.Bytes.{Bytes, isOneOf}
 use Rattle.reader.specs.Json.{Value, isNull, null}
 use Rattle.reader.specs.Refusal.{Refusal, Result, Rules, guardUnknown, noInput, noOutcome, ok, orElse, preconditions, refused, ruleFalse, ruleUnknown, _>>=_}
@@ -33,7 +34,7 @@ use Rattle.sheet.specs.Rule.{Rule}
 use Rattle.sheet.specs.Sheet.{Sheet, readSheet}
 
 -- one rule more
-module _ (s : Sheet Condition) (kind : Rules) (i : ℕ) (r : Rule Condition) (rs : List (Rule Condition)) (a : Answer) (e : evaluate s [] (r .assert) ≡ ok a) where
+module _ (s : Sheet Condition) (kind : Rules) (i : ℕ) (r : Rule Condition) (rs : List (Rule Condition)) (a : Answer) (e : evaluate kernel s [] (r .assert) ≡ ok a) where
   check-true : a .truth ≡ True → check s kind i (r ∷ rs) ≡ check s kind (i + 1) rs
   unfolding check
   check-true t = bind-ok _ e ∙ rw t refl
@@ -85,7 +86,7 @@ module _ (Erased : Bytes → Type 0) where
 
   module _ (old new : Sheet Condition) where
     -- one rule more: the case of the rule itself, and of those behind it
-    later-rule : (i : ℕ) (r : Rule Condition) (rs : List (Rule Condition)) → (k : Both (Later Erased) (evaluate old [] (r .assert)) (evaluate new [] (r .assert))) → RulesLater (i + 1) (check old preconditions (i + 1) rs) (check new preconditions (i + 1) rs) → RulesLater i (check old preconditions i (r ∷ rs)) (check new preconditions i (r ∷ rs))
+    later-rule : (i : ℕ) (r : Rule Condition) (rs : List (Rule Condition)) → (k : Both (Later Erased) (evaluate kernel old [] (r .assert)) (evaluate kernel new [] (r .assert))) → RulesLater (i + 1) (check old preconditions (i + 1) rs) (check new preconditions (i + 1) rs) → RulesLater i (check old preconditions i (r ∷ rs)) (check new preconditions i (r ∷ rs))
     later-rule i r rs k below = go (k .rel) (k .was .truth) refl
       where
         shapeHere : (q : Refusal) → check old preconditions i (r ∷ rs) ≡ refused q → settledBy q ≡ some (upTo i) → RuleShape i (check old preconditions i (r ∷ rs))
@@ -130,7 +131,7 @@ module _ (Erased : Bytes → Type 0) where
                   });
             }
 
-    later-check : (i : ℕ) (rs : List (Rule Condition)) → Every (Fact Erased old new) (ruleReadings rs) → RulesLater i (check old preconditions i rs) (check new preconditions i rs)
+    later-check : (i : ℕ) (rs : List (Rule Condition)) → Every (Fact kernel Erased old new) (ruleReadings rs) → RulesLater i (check old preconditions i rs) (check new preconditions i rs)
     unfolding ruleReadings
     later-check i [] h = record { shape = inl (check-none old i); later = inl (check-none new i ∙ sym (check-none old i)) }
     later-check i (r ∷ rs) h =
@@ -138,7 +139,7 @@ module _ (Erased : Bytes → Type 0) where
         i
         r
         rs
-        (later-evaluate Erased old new [] (r .assert) (every-left (readings [] (r .assert)) (ruleReadings rs) h))
+        (later-evaluate kernel Erased old new [] (r .assert) (every-left (readings [] (r .assert)) (ruleReadings rs) h))
         (later-check (i + 1) rs (every-right (readings [] (r .assert)) (ruleReadings rs) h))
 
 -- one outcome more
@@ -197,7 +198,7 @@ module _ (Erased : Bytes → Type 0) where
     has : answers .now .truth ≡ Unknown → (c : Condition) × (w ≡ some c)
 
   module _ (old new : Sheet Condition) where
-    later-guard : (w : Option Condition) → Every (Fact Erased old new) (whenReadings w) → GuardLater old new w
+    later-guard : (w : Option Condition) → Every (Fact kernel Erased old new) (whenReadings w) → GuardLater old new w
     unfolding Decide·guard
     later-guard none h = record { answers = record { was = _; now = _; isWas = refl; isNow = refl; rel = truthKept refl }; has = λ e. absurd (true≢false (ap isTrue e)) }
       where
@@ -205,7 +206,7 @@ module _ (Erased : Bytes → Type 0) where
         isTrue True = true
         isTrue False = false
         isTrue Unknown = false
-    later-guard (some c) h = record { answers = later-evaluate Erased old new [] c h; has = λ e. (c, refl) }
+    later-guard (some c) h = record { answers = later-evaluate kernel Erased old new [] c h; has = λ e. (c, refl) }
 
     -- one outcome more, eligible on both sheets or on neither
     later-outcome : (i : ℕ) (o : Outcome Condition) (os : List (Outcome Condition)) → eligible (new .state) o ≡ eligible (old .state) o → GuardLater old new (o .when) → GuardsLater (i + 1) (select old (i + 1) os) (select new (i + 1) os) → GuardsLater i (select old i (o ∷ os)) (select new i (o ∷ os))
@@ -263,7 +264,7 @@ module _ (Erased : Bytes → Type 0) where
         by false e = passOn (select-skip old i o os e) (select-skip new i o os (same ∙ e))
         by true e = go e (same ∙ e) (k .rel) (k .was .truth) refl
 
-    later-select : (i : ℕ) (os : List (Outcome Condition)) → ((o : Outcome Condition) → eligible (new .state) o ≡ eligible (old .state) o) → Every (Fact Erased old new) (guardReadings os) → GuardsLater i (select old i os) (select new i os)
+    later-select : (i : ℕ) (os : List (Outcome Condition)) → ((o : Outcome Condition) → eligible (new .state) o ≡ eligible (old .state) o) → Every (Fact kernel Erased old new) (guardReadings os) → GuardsLater i (select old i os) (select new i os)
     unfolding guardReadings
     later-select i [] same h = record { shape = exhausted (select-none old i); later = inl (select-none new i ∙ sym (select-none old i)) }
     later-select i (o ∷ os) same h =
@@ -428,7 +429,7 @@ module _ (old new : Sheet Condition) (same : SameRules old new) where
   unfolding decideFrom admitted-from
   passed-rules s x rs os states e = bind-ok _ e
 
-  module _ (facts : Every (Fact Erased old new) (sheetReadings old)) where
+  module _ (facts : Every (Fact kernel Erased old new) (sheetReadings old)) where
     R : RulesLater Erased 0 (check old preconditions 0 (old .preconditions)) (check new preconditions 0 (old .preconditions))
     R = later-check Erased old new 0 (old .preconditions) (every-left (ruleReadings (old .preconditions)) (guardReadings (old .outcomes)) facts)
 
@@ -533,7 +534,7 @@ same-readings old new same =
 not-null : (v : Value) → isNull v ≡ false → v ≢ null
 not-null v e p = true≢false (sym (ap isNull p) ∙ e)
 
-fact-of : (old new : Sheet Condition) (same : SameRules old new) → Clean old → Clean new → ((r : Reading) → IsReading old r → Kept old new r) → Every (Fact (Erased old new same) old new) (sheetReadings old)
+fact-of : (old new : Sheet Condition) (same : SameRules old new) → clean kernel old ≡ true → clean kernel new ≡ true → ((r : Reading) → IsReading old r → Kept old new r) → Every (Fact kernel (Erased old new same) old new) (sheetReadings old)
 unfolding Erased
 fact-of old new same cleanOld cleanNew keeps r m =
     record {
@@ -546,28 +547,28 @@ fact-of old new same cleanOld cleanNew keeps r m =
       erased = λ v p n g. (r, refl, m, record { value = v; gave = was .1 ∙ ap {B = Result (Option Value)} ok p; notNull = not-null v n; gone = now .1 ∙ ap {B = Result (Option Value)} ok g });
     }
   where
-    was : (g : Option Value) × (gives old [] (r .text) ≡ ok g)
-    was = cleanOld r m
+    was : (g : Option Value) × (gives kernel old [] (r .text) ≡ ok g)
+    was = known-gives kernel old (sheetReadings old) cleanOld r m
 
-    now : (g : Option Value) × (gives new [] (r .text) ≡ ok g)
-    now = cleanNew r (rw (same-readings old new same) m)
+    now : (g : Option Value) × (gives kernel new [] (r .text) ≡ ok g)
+    now = known-gives kernel new (sheetReadings new) cleanNew r (rw (same-readings old new same) m)
 
     change : Kept old new r → (now .0 ≡ was .0) ⊎ (now .0 ≡ none)
     change (inl u) = inl (ok-injective (sym (now .1) ∙ u ∙ was .1))
     change (inr g) = inr (ok-injective (sym (now .1) ∙ g .1))
 
-    exact : Kept old new r → r .underExists ≡ true → now .0 ≡ was .0
+    exact : Kept old new r → r .exact ≡ true → now .0 ≡ was .0
     exact (inl u) e = ok-injective (sym (now .1) ∙ u ∙ was .1)
     exact (inr g) e = absurd (true≢false (sym e ∙ g .0))
 
 -- where nothing changed, every rule and guard answers as before
-alike-check : (old new : Sheet Condition) (i : ℕ) (rs : List (Rule Condition)) → Every (Alike old new) (ruleReadings rs) → check new preconditions i rs ≡ check old preconditions i rs
+alike-check : (old new : Sheet Condition) (i : ℕ) (rs : List (Rule Condition)) → Every (Alike kernel old new) (ruleReadings rs) → check new preconditions i rs ≡ check old preconditions i rs
 unfolding check ruleReadings
 alike-check old new i [] h = refl
 alike-check old new i (r ∷ rs) h =
     ap₂
     (λ (x : Result Answer) (y : Result Verdict). x >>= after y)
-    (alike-evaluate old new [] (r .assert) (every-left (readings [] (r .assert)) (ruleReadings rs) h))
+    (alike-evaluate kernel old new [] (r .assert) (every-left (readings [] (r .assert)) (ruleReadings rs) h))
     (alike-check old new (i + 1) rs (every-right (readings [] (r .assert)) (ruleReadings rs) h))
   where
     after : Result Verdict → Answer → Result Verdict
@@ -582,12 +583,12 @@ alike-check old new i (r ∷ rs) h =
               refused (ruleUnknown preconditions i (r .name) (r .message) (ascending (a .names)))
         ]
 
-alike-guard : (old new : Sheet Condition) (w : Option Condition) → Every (Alike old new) (whenReadings w) → Decide·guard new w ≡ Decide·guard old w
+alike-guard : (old new : Sheet Condition) (w : Option Condition) → Every (Alike kernel old new) (whenReadings w) → Decide·guard new w ≡ Decide·guard old w
 unfolding Decide·guard
 alike-guard old new none h = refl
-alike-guard old new (some c) h = alike-evaluate old new [] c h
+alike-guard old new (some c) h = alike-evaluate kernel old new [] c h
 
-alike-select : (old new : Sheet Condition) (i : ℕ) (os : List (Outcome Condition)) → new .state ≡ old .state → Every (Alike old new) (guardReadings os) → select new i os ≡ select old i os
+alike-select : (old new : Sheet Condition) (i : ℕ) (os : List (Outcome Condition)) → new .state ≡ old .state → Every (Alike kernel old new) (guardReadings os) → select new i os ≡ select old i os
 unfolding select guardReadings
 alike-select old new i [] st h = refl
 alike-select old new i (o ∷ os) st h =
@@ -616,7 +617,7 @@ alike-select old new i (o ∷ os) st h =
               ])
         ]
 
-decision-alike : (old new : Sheet Condition) → SameRules old new → Every (Alike old new) (sheetReadings old) → decideCall new ≡ decideCall old
+decision-alike : (old new : Sheet Condition) → SameRules old new → Every (Alike kernel old new) (sheetReadings old) → decideCall new ≡ decideCall old
 unfolding decideFrom admitted-from
 decision-alike old new same h =
     newParts old new same (old .state) refl ∙

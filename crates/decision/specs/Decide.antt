@@ -8,6 +8,7 @@ use Rattle.decision.specs.Outcomes.{Placed, admit, asAdmitted, asSelecte
 use Rattle.decision.specs.Verdict.{Verdict, answered, passed}
 use Rattle.evaluation.specs.Evaluate.{Answer, certain, evaluate}
 use Rattle.evaluation.specs.Names.{ascending}
+use Rattle.evaluation.specs.Semantics.{kernel}
 use Rattle.evaluation.specs.Truth.{False, True, Unknown}
 use Rattle.reader.specs.Refusal.{Result, Rules, guardUnknown, invariants, noInput, noOutcome, ok, orElse, preconditions, refused, ruleFalse, ruleUnknown, _>>=_}
 use Rattle.sheet.specs.Condition.{Condition}
@@ -21,7 +22,7 @@ module _ (sheet : Sheet Condition) where
   unfolding evaluate ascending
   check kind i [] = ok passed
   check kind i (r ∷ rs) = do
-    a ← evaluate sheet [] (r .assert)
+    a ← evaluate kernel sheet [] (r .assert)
     elim
         (a .truth) [
           | True ↦
@@ -36,7 +37,7 @@ module _ (sheet : Sheet Condition) where
   unfoldable pub guard : Option Condition → Result Answer
   unfolding evaluate
   guard none = ok (certain true)
-  guard (some c) = evaluate sheet [] c
+  guard (some c) = evaluate kernel sheet [] c
 
   -- the first eligible outcome with no guard or a True one
   unfoldable pub select : ℕ → List (Outcome Condition) → Result Placed
@@ -66,7 +67,7 @@ module _ (sheet : Sheet Condition) where
   unfolding evaluate ascending
   evaluateCall = do
     c ← orElse (sheet .condition) noInput
-    a ← evaluate sheet [] c
+    a ← evaluate kernel sheet [] c
     ok (answered (a .truth) (ascending (a .names)))
 
   unfoldable pub preconditionsCall : Result Verdict

@@ -13,7 +13,8 @@ use Rattle.decision.specs.Line.{refusalLine, refusalNumber}
 use Rattle.decision.specs.Outcomes.{Placed}
 use Rattle.evaluation.specs.Expression.{gives}
 use Rattle.evaluation.specs.Names.{Names}
-use Rattle.evaluation.specs.Readings.{Clean, IsReading, Reading}
+use Rattle.evaluation.specs.Readings.{IsReading, Reading, clean}
+use Rattle.evaluation.specs.Semantics.{kernel}
 use Rattle.reader.specs.Bytes.{Bytes}
 use Rattle.reader.specs.Json.{Value, null, number}
 use Rattle.reader.specs.Refusal.{Refusal, Result, guardUnknown, noOutcome, ok, preconditions, refused, ruleFalse, ruleUnknown}
@@ -28,18 +29,18 @@ pub record SameRules (old new : Sheet Condition) : Type 0 where
 
 module _ (old new : Sheet Condition) where
   abbrev pub Unchanged : Reading → Type 0
-  Unchanged r = gives new [] (r .text) ≡ gives old [] (r .text)
+  Unchanged r = gives kernel new [] (r .text) ≡ gives kernel old [] (r .text)
 
   -- its old value or nothing; under `exists` exactly as before
   abbrev pub Kept : Reading → Type 0
-  Kept r = Unchanged r ⊎ ((r .underExists ≡ false) × (gives new [] (r .text) ≡ ok none))
+  Kept r = Unchanged r ⊎ ((r .exact ≡ false) × (gives kernel new [] (r .text) ≡ ok none))
 
   -- a value other than null before, and nothing now
   pub record Vanished (r : Reading) : Type 0 where
     pub value : Value
-    pub gave : gives old [] (r .text) ≡ ok (some value)
+    pub gave : gives kernel old [] (r .text) ≡ ok (some value)
     pub notNull : value ≢ null
-    pub gone : gives new [] (r .text) ≡ ok none
+    pub gone : gives kernel new [] (r .text) ≡ ok none
 
   -- a refusal names a vanished reading
   abbrev pub NamesVanished : Names → Type 0
@@ -131,8 +132,8 @@ Demand =
     (decide s work output) .number ≢ 23 →
     (decide s′ work′ output′) .number ≢ 23 →
     SameRules old new →
-    Clean old →
-    Clean new →
+    clean kernel old ≡ true →
+    clean kernel new ≡ true →
     ((r : Reading) → IsReading old r → Kept old new r) →
     ((decide s′ work′ output′ ≡ decide s work output) ⊎ Repeated old new (decide s′ work′ output′)) ×
     (((r : Reading) → IsReading old r → Unchanged old new r) → decide s′ work′ output′ ≡ decide s work output)

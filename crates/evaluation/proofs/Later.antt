@@ -1,7 +1,7 @@
 -- Evaluation on a sheet and again on one where readings give what they gave or nothing: the truth is the old one, or Unknown, and then a lost reading is among the names.
 -- Assumes nothing.
-use mathlib.Core.Bool.{Bool, false, false≢true, true}
-use mathlib.Core.List.{List, List·Memᴰ, List·Memᴰ·append-cases, List·Memᴰ·eq-of-singleton, List·Memᴰ·head, List·Memᴰ·not-nil, Memᴰ·append-left, Memᴰ·append-right, [], _++_, _∷_}
+use mathlib.Core.Bool.{Bool, false, false≢true, true, _&&_}
+use mathlib.Core.List.{List, List·Memᴰ, List·Memᴰ·append-cases, List·Memᴰ·cases-cons, List·Memᴰ·eq-of-singleton, List·Memᴰ·head, List·Memᴰ·not-nil, Memᴰ·append-left, Memᴰ·append-right, [], _++_, _∷_}
 use mathlib.Core.Logic.{inl, inr, ⊎-elim, _⊎_}
 use mathlib.Core.Option.{Option, none, some}
 use mathlib.Core.Path.{ap, fun-ext, refl, sym, _∙_, _≡_}
@@ -9,12 +9,13 @@ use Rattle.evaluation.specs.Evaluate.{Answer, certain, collection, compa
 use Rattle.evaluation.specs.Expression.{Env, gives, givesParts, parts, walk}
 use Rattle.evaluation.specs.Names.{Names}
 use Rattle.evaluation.specs.Operand.{Resolved, Written, both, escaped, expression, missing, observed, plain, present, readText, resolve, resolveIn, resolveOf, resolveText, same}
-use Rattle.evaluation.specs.Readings.{Reading, allReadings, isTakenBy, operandReadings, readings, readingsIn, readingsOf, textReadings}
+use Rattle.evaluation.specs.Semantics.{Semantics}
+use Rattle.evaluation.specs.Readings.{Reading, allKnown, allReadings, isAnswer, isTakenBy, operandReadings, readings, readingsIn, readingsOf, textReadings}
 use Rattle.evaluation.specs.Truth.{False, True, Truth, Unknown, join, negate, settles}
 use Rattle.reader.proofs.Laws.{bind-ok, find-none, find-some, namesOf}
 use Rattle.reader.specs.Bytes.{Bytes, find}
 use Rattle.reader.specs.Json.{Members, Value, Values, array, bool, cons, empty, isNull, member, nil, null, number, object, text}
-use Rattle.reader.specs.Refusal.{Result, ok, _>>=_}
+use Rattle.reader.specs.Refusal.{Result, ok, refused, _>>=_}
 use Rattle.sheet.specs.Condition.{Condition, Conditions, Form, Mode, also, every, exists, junction, literal, negation, noMore, pair, quantified}
 use Rattle.sheet.specs.Sheet.{Sheet}
 
@@ -29,21 +30,21 @@ abbrev pub every-right : {A : Type 0} {P : A → Type 0} (xs ys : List A) → Ev
 every-right xs ys h = λ x m. h x (Memᴰ·append-right xs m)
 
 -- what an expression gives under binders: the binder's, or what it gives with none
-pub gives-free : (sheet : Sheet Condition) (env : Env) (e : Bytes) → isTakenBy (namesOf env) (parts e) ≡ false → gives sheet env e ≡ gives sheet [] e
+pub gives-free : (sem : Semantics) (sheet : Sheet Condition) (env : Env) (e : Bytes) → isTakenBy (namesOf env) (parts e) ≡ false → gives sem sheet env e ≡ gives sem sheet [] e
 unfolding gives givesParts find
-gives-free sheet env e h = go (parts e) h
+gives-free sem sheet env e h = go (parts e) h
   where
-    go : (ps : List Bytes) → isTakenBy (namesOf env) ps ≡ false → givesParts sheet env e ps ≡ givesParts sheet [] e ps
+    go : (ps : List Bytes) → isTakenBy (namesOf env) ps ≡ false → givesParts sem sheet env e ps ≡ givesParts sem sheet [] e ps
     go [] h′ = refl
     go (name ∷ path) h′ = rw (find-none name env h′, givesParts) refl
 
-pub gives-bound : (old new : Sheet Condition) (env : Env) (e : Bytes) → isTakenBy (namesOf env) (parts e) ≡ true → (g : Option Value) × (gives old env e ≡ ok g) × (gives new env e ≡ ok g)
+pub gives-bound : (sem : Semantics) (old new : Sheet Condition) (env : Env) (e : Bytes) → isTakenBy (namesOf env) (parts e) ≡ true → (g : Option Value) × (gives sem old env e ≡ ok g) × (gives sem new env e ≡ ok g)
 unfolding gives givesParts
-gives-bound old new env e h = go (parts e) h
+gives-bound sem old new env e h = go (parts e) h
   where
-    go : (ps : List Bytes) → isTakenBy (namesOf env) ps ≡ true → (g : Option Value) × (givesParts old env e ps ≡ ok g) × (givesParts new env e ps ≡ ok g)
+    go : (ps : List Bytes) → isTakenBy (namesOf env) ps ≡ true → (g : Option Value) × (givesParts sem old env e ps ≡ ok g) × (givesParts sem new env e ps ≡ ok g)
     go [] h′ = absurd (false≢true h′)
-    go (name ∷ path) h′ = let f = find-some name env h′ in (walk path (f .0), rw (f .1, givesParts) refl, rw (f .1, givesParts) refl)
+    go (name ∷ path) h′ = let f = find-some name env h′ in (walk sem path (f .0), rw (f .1, givesParts) refl, rw (f .1, givesParts) refl)
 
 -- two computations that were not refused, and how their results compare
 pub record Both {A : Type 0} (R : A → A → Type 0) (x y : Result A) : Type 0 where
@@ -207,19 +208,19 @@ module _ (Erased : Bytes → Type 0) where
       }
 
 -- an expression that no binder takes is a reading
-reading-here : (ex : Bool) (binders : List Bytes) (s e : Bytes) → readText s ≡ expression e → isTakenBy binders (parts e) ≡ false → List·Memᴰ (record { text = e; underExists = ex }) (textReadings ex binders s)
+reading-here : (ex : Bool) (binders : List Bytes) (s e : Bytes) → readText s ≡ expression e → isTakenBy binders (parts e) ≡ false → List·Memᴰ (record { text = e; exact = ex }) (textReadings ex binders s)
 unfolding textReadings
 reading-here ex binders s e p q = rw (p, textReadings, q) (List·Memᴰ·head refl)
 
 -- what is known of a reading on the two sheets
-module _ (Erased : Bytes → Type 0) (old new : Sheet Condition) where
+module _ (sem : Semantics) (Erased : Bytes → Type 0) (old new : Sheet Condition) where
   pub record Fact (r : Reading) : Type 0 where
     pub was : Option Value
     pub now : Option Value
-    pub isWas : gives old [] (r .text) ≡ ok was
-    pub isNow : gives new [] (r .text) ≡ ok now
+    pub isWas : gives sem old [] (r .text) ≡ ok was
+    pub isNow : gives sem new [] (r .text) ≡ ok now
     pub change : (now ≡ was) ⊎ (now ≡ none)
-    pub exact : r .underExists ≡ true → now ≡ was
+    pub exact : r .exact ≡ true → now ≡ was
     pub erased : (v : Value) → was ≡ some v → isNull v ≡ false → now ≡ none → Erased (r .text)
 
   later-observed : (e : Bytes) (was now : Option Value) → (now ≡ was) ⊎ (now ≡ none) → ((v : Value) → was ≡ some v → isNull v ≡ false → now ≡ none → Erased e) → LaterR Erased (observed e was) (observed e now)
@@ -231,24 +232,24 @@ module _ (Erased : Bytes → Type 0) (old new : Sheet Condition) where
       go true q = rw (p, q, observed) still
       go false q = rw (p, q, observed) (gone (e, f v refl q p, List·Memᴰ·head refl))
 
-  later-text : (ex : Bool) (env : Env) (s : Bytes) → Every Fact (textReadings ex (namesOf env) s) → Both (LaterR Erased) (resolveText old env s) (resolveText new env s)
+  later-text : (ex : Bool) (env : Env) (s : Bytes) → Every Fact (textReadings ex (namesOf env) s) → Both (LaterR Erased) (resolveText sem old env s) (resolveText sem new env s)
   unfolding resolveText
   later-text ex env s h = go (readText s) refl
     where
-      unboundOne : (e : Bytes) → readText s ≡ expression e → isTakenBy (namesOf env) (parts e) ≡ false → Both (LaterR Erased) (resolveText old env s) (resolveText new env s)
+      unboundOne : (e : Bytes) → readText s ≡ expression e → isTakenBy (namesOf env) (parts e) ≡ false → Both (LaterR Erased) (resolveText sem old env s) (resolveText sem new env s)
       unboundOne e p q =
-          let k = h (record { text = e; underExists = ex }) (reading-here ex (namesOf env) s e p q) in
+          let k = h (record { text = e; exact = ex }) (reading-here ex (namesOf env) s e p q) in
           record {
             was = observed e (k .was);
             now = observed e (k .now);
-            isWas = rw (p, resolveText) (bind-ok _ (gives-free old env e q ∙ k .isWas));
-            isNow = rw (p, resolveText) (bind-ok _ (gives-free new env e q ∙ k .isNow));
+            isWas = rw (p, resolveText) (bind-ok _ (gives-free sem old env e q ∙ k .isWas));
+            isNow = rw (p, resolveText) (bind-ok _ (gives-free sem new env e q ∙ k .isNow));
             rel = later-observed e (k .was) (k .now) (k .change) (k .erased);
           }
 
-      boundOne : (e : Bytes) → readText s ≡ expression e → isTakenBy (namesOf env) (parts e) ≡ true → Both (LaterR Erased) (resolveText old env s) (resolveText new env s)
+      boundOne : (e : Bytes) → readText s ≡ expression e → isTakenBy (namesOf env) (parts e) ≡ true → Both (LaterR Erased) (resolveText sem old env s) (resolveText sem new env s)
       boundOne e p q =
-          let k = gives-bound old new env e q in
+          let k = gives-bound sem old new env e q in
           record {
             was = observed e (k .0);
             now = observed e (k .0);
@@ -257,11 +258,11 @@ module _ (Erased : Bytes → Type 0) (old new : Sheet Condition) where
             rel = kept;
           }
 
-      decided : (e : Bytes) → readText s ≡ expression e → (b : Bool) → isTakenBy (namesOf env) (parts e) ≡ b → Both (LaterR Erased) (resolveText old env s) (resolveText new env s)
+      decided : (e : Bytes) → readText s ≡ expression e → (b : Bool) → isTakenBy (namesOf env) (parts e) ≡ b → Both (LaterR Erased) (resolveText sem old env s) (resolveText sem new env s)
       decided e p true q = boundOne e p q
       decided e p false q = unboundOne e p q
 
-      go : (w : Written) → readText s ≡ w → Both (LaterR Erased) (resolveText old env s) (resolveText new env s)
+      go : (w : Written) → readText s ≡ w → Both (LaterR Erased) (resolveText sem old env s) (resolveText sem new env s)
       go plain p = record { was = present (text s); now = present (text s); isWas = rw (p, resolveText) refl; isNow = rw (p, resolveText) refl; rel = kept }
       go (escaped t) p = record { was = present (text t); now = present (text t); isWas = rw (p, resolveText) refl; isNow = rw (p, resolveText) refl; rel = kept }
       go (expression e) p = decided e p (isTakenBy (namesOf env) (parts e)) refl
@@ -269,7 +270,7 @@ module _ (Erased : Bytes → Type 0) (old new : Sheet Condition) where
   mutual
     unfolding resolve operandReadings
 
-    later-resolve : (ex : Bool) (env : Env) (v : Value) → Every Fact (operandReadings ex (namesOf env) v) → Both (LaterR Erased) (resolve old env v) (resolve new env v)
+    later-resolve : (ex : Bool) (env : Env) (v : Value) → Every Fact (operandReadings ex (namesOf env) v) → Both (LaterR Erased) (resolve sem old env v) (resolve sem new env v)
     later-resolve ex env null h = record { was = _; now = _; isWas = refl; isNow = refl; rel = kept }
     later-resolve ex env (bool b) h = record { was = _; now = _; isWas = refl; isNow = refl; rel = kept }
     later-resolve ex env (number s) h = record { was = _; now = _; isWas = refl; isNow = refl; rel = kept }
@@ -293,7 +294,7 @@ module _ (Erased : Bytes → Type 0) (old new : Sheet Condition) where
           rel = later-same Erased object (k .rel);
         }
 
-    later-resolveIn : (ex : Bool) (env : Env) (vs : Values) → Every Fact (readingsIn ex (namesOf env) vs) → Both (LaterR Erased) (resolveIn old env vs) (resolveIn new env vs)
+    later-resolveIn : (ex : Bool) (env : Env) (vs : Values) → Every Fact (readingsIn ex (namesOf env) vs) → Both (LaterR Erased) (resolveIn sem old env vs) (resolveIn sem new env vs)
     later-resolveIn ex env nil h = record { was = _; now = _; isWas = refl; isNow = refl; rel = kept }
     later-resolveIn ex env (cons v vs) h =
         let j = later-resolve ex env v (every-left (operandReadings ex (namesOf env) v) (readingsIn ex (namesOf env) vs) h) in
@@ -306,7 +307,7 @@ module _ (Erased : Bytes → Type 0) (old new : Sheet Condition) where
           rel = later-both Erased cons (j .was) (j .now) (k .was) (k .now) (j .rel) (k .rel);
         }
 
-    later-resolveOf : (ex : Bool) (env : Env) (ms : Members) → Every Fact (readingsOf ex (namesOf env) ms) → Both (LaterR Erased) (resolveOf old env ms) (resolveOf new env ms)
+    later-resolveOf : (ex : Bool) (env : Env) (ms : Members) → Every Fact (readingsOf ex (namesOf env) ms) → Both (LaterR Erased) (resolveOf sem old env ms) (resolveOf sem new env ms)
     later-resolveOf ex env empty h = record { was = _; now = _; isWas = refl; isNow = refl; rel = kept }
     later-resolveOf ex env (member n v ms) h =
         let j = later-resolve ex env v (every-left (operandReadings ex (namesOf env) v) (readingsOf ex (namesOf env) ms) h) in
@@ -320,22 +321,22 @@ module _ (Erased : Bytes → Type 0) (old new : Sheet Condition) where
         }
 
 -- where every reading gives what it gave, evaluation does too
-module _ (old new : Sheet Condition) where
+module _ (sem : Semantics) (old new : Sheet Condition) where
   abbrev pub Alike : Reading → Type 0
-  Alike r = gives new [] (r .text) ≡ gives old [] (r .text)
+  Alike r = gives sem new [] (r .text) ≡ gives sem old [] (r .text)
 
-  gives-bound-alike : (env : Env) (e : Bytes) → isTakenBy (namesOf env) (parts e) ≡ true → gives new env e ≡ gives old env e
-  gives-bound-alike env e q = let k = gives-bound old new env e q in k .2 ∙ sym (k .1)
+  gives-bound-alike : (env : Env) (e : Bytes) → isTakenBy (namesOf env) (parts e) ≡ true → gives sem new env e ≡ gives sem old env e
+  gives-bound-alike env e q = let k = gives-bound sem old new env e q in k .2 ∙ sym (k .1)
 
-  alike-text : (ex : Bool) (env : Env) (s : Bytes) → Every Alike (textReadings ex (namesOf env) s) → resolveText new env s ≡ resolveText old env s
+  alike-text : (ex : Bool) (env : Env) (s : Bytes) → Every Alike (textReadings ex (namesOf env) s) → resolveText sem new env s ≡ resolveText sem old env s
   unfolding resolveText
   alike-text ex env s h = go (readText s) refl
     where
-      found : (e : Bytes) → readText s ≡ expression e → (b : Bool) → isTakenBy (namesOf env) (parts e) ≡ b → gives new env e ≡ gives old env e
+      found : (e : Bytes) → readText s ≡ expression e → (b : Bool) → isTakenBy (namesOf env) (parts e) ≡ b → gives sem new env e ≡ gives sem old env e
       found e p true q = gives-bound-alike env e q
-      found e p false q = gives-free new env e q ∙ h (record { text = e; underExists = ex }) (reading-here ex (namesOf env) s e p q) ∙ sym (gives-free old env e q)
+      found e p false q = gives-free sem new env e q ∙ h (record { text = e; exact = ex }) (reading-here ex (namesOf env) s e p q) ∙ sym (gives-free sem old env e q)
 
-      go : (w : Written) → readText s ≡ w → resolveText new env s ≡ resolveText old env s
+      go : (w : Written) → readText s ≡ w → resolveText sem new env s ≡ resolveText sem old env s
       go plain p = rw (p, resolveText) refl
       go (escaped t) p = rw (p, resolveText) refl
       go (expression e) p = rw (p, resolveText) (ap (λ (x : Result (Option Value)). x >>= λ g. ok (observed e g)) (found e p (isTakenBy (namesOf env) (parts e)) refl))
@@ -343,7 +344,7 @@ module _ (old new : Sheet Condition) where
   mutual
     unfolding resolve operandReadings
 
-    alike-resolve : (ex : Bool) (env : Env) (v : Value) → Every Alike (operandReadings ex (namesOf env) v) → resolve new env v ≡ resolve old env v
+    alike-resolve : (ex : Bool) (env : Env) (v : Value) → Every Alike (operandReadings ex (namesOf env) v) → resolve sem new env v ≡ resolve sem old env v
     alike-resolve ex env null h = refl
     alike-resolve ex env (bool b) h = refl
     alike-resolve ex env (number s) h = refl
@@ -351,14 +352,14 @@ module _ (old new : Sheet Condition) where
     alike-resolve ex env (array vs) h = rw (alike-resolveIn ex env vs h) refl
     alike-resolve ex env (object ms) h = rw (alike-resolveOf ex env ms h) refl
 
-    alike-resolveIn : (ex : Bool) (env : Env) (vs : Values) → Every Alike (readingsIn ex (namesOf env) vs) → resolveIn new env vs ≡ resolveIn old env vs
+    alike-resolveIn : (ex : Bool) (env : Env) (vs : Values) → Every Alike (readingsIn ex (namesOf env) vs) → resolveIn sem new env vs ≡ resolveIn sem old env vs
     alike-resolveIn ex env nil h = refl
     alike-resolveIn ex env (cons v vs) h =
         rw
         (alike-resolve ex env v (every-left (operandReadings ex (namesOf env) v) (readingsIn ex (namesOf env) vs) h), alike-resolveIn ex env vs (every-right (operandReadings ex (namesOf env) v) (readingsIn ex (namesOf env) vs) h))
         refl
 
-    alike-resolveOf : (ex : Bool) (env : Env) (ms : Members) → Every Alike (readingsOf ex (namesOf env) ms) → resolveOf new env ms ≡ resolveOf old env ms
+    alike-resolveOf : (ex : Bool) (env : Env) (ms : Members) → Every Alike (readingsOf ex (namesOf env) ms) → resolveOf sem new env ms ≡ resolveOf sem old env ms
     alike-resolveOf ex env empty h = refl
     alike-resolveOf ex env (member n v ms) h =
         rw
@@ -368,7 +369,7 @@ module _ (old new : Sheet Condition) where
   mutual
     unfolding evaluate readings
 
-    pub alike-evaluate : (env : Env) (c : Condition) → Every Alike (readings (namesOf env) c) → evaluate new env c ≡ evaluate old env c
+    pub alike-evaluate : (env : Env) (c : Condition) → Every Alike (readings (namesOf env) c) → evaluate sem new env c ≡ evaluate sem old env c
     alike-evaluate env (literal b) h = refl
     alike-evaluate env (junction m cs) h = alike-evaluateAll env m cs h
     alike-evaluate env (negation c) h = rw (alike-evaluate env c h) refl
@@ -378,11 +379,11 @@ module _ (old new : Sheet Condition) where
         (alike-resolve false env v (every-left (operandReadings false (namesOf env) v) (operandReadings false (namesOf env) w) h), alike-resolve false env w (every-right (operandReadings false (namesOf env) v) (operandReadings false (namesOf env) w) h))
         refl
     alike-evaluate env (quantified m v x c) h =
-        let body : _≡_ {A = Value → Result Answer} (λ w. evaluate new ((x, w) ∷ env) c) (λ w. evaluate old ((x, w) ∷ env) c) = fun-ext (λ w. alike-evaluate ((x, w) ∷ env) c (every-right (operandReadings false (namesOf env) v) (readings (x ∷ namesOf env) c) h)) in
-        ap (λ (r : Result (Resolved Value)). r >>= over m (λ w. evaluate new ((x, w) ∷ env) c)) (alike-resolve false env v (every-left (operandReadings false (namesOf env) v) (readings (x ∷ namesOf env) c) h)) ∙
-        ap (λ (f : Value → Result Answer). resolve old env v >>= over m f) body
+        let body : _≡_ {A = Value → Result Answer} (λ w. evaluate sem new ((x, w) ∷ env) c) (λ w. evaluate sem old ((x, w) ∷ env) c) = fun-ext (λ w. alike-evaluate ((x, w) ∷ env) c (every-right (operandReadings false (namesOf env) v) (readings (x ∷ namesOf env) c) h)) in
+        ap (λ (r : Result (Resolved Value)). r >>= over m (λ w. evaluate sem new ((x, w) ∷ env) c)) (alike-resolve false env v (every-left (operandReadings false (namesOf env) v) (readings (x ∷ namesOf env) c) h)) ∙
+        ap (λ (f : Value → Result Answer). resolve sem old env v >>= over m f) body
 
-    alike-evaluateAll : (env : Env) (m : Mode) (cs : Conditions) → Every Alike (allReadings (namesOf env) cs) → evaluateAll new env m cs ≡ evaluateAll old env m cs
+    alike-evaluateAll : (env : Env) (m : Mode) (cs : Conditions) → Every Alike (allReadings (namesOf env) cs) → evaluateAll sem new env m cs ≡ evaluateAll sem old env m cs
     alike-evaluateAll env m noMore h = refl
     alike-evaluateAll env m (also c cs) h =
         rw
@@ -390,15 +391,15 @@ module _ (old new : Sheet Condition) where
         refl
 
 -- the readings of an operand stand under `exists` where it does
-under-text : (ex : Bool) (binders : List Bytes) (s : Bytes) (r : Reading) → List·Memᴰ r (textReadings ex binders s) → r .underExists ≡ ex
+under-text : (ex : Bool) (binders : List Bytes) (s : Bytes) (r : Reading) → List·Memᴰ r (textReadings ex binders s) → r .exact ≡ ex
 unfolding textReadings
 under-text ex binders s r h = go (readText s) refl
   where
-    taken : (e : Bytes) → readText s ≡ expression e → (b : Bool) → isTakenBy binders (parts e) ≡ b → r .underExists ≡ ex
+    taken : (e : Bytes) → readText s ≡ expression e → (b : Bool) → isTakenBy binders (parts e) ≡ b → r .exact ≡ ex
     taken e p true q = absurd (List·Memᴰ·not-nil (rw (p, textReadings, q) at h))
-    taken e p false q = ap (λ (x : Reading). x .underExists) (List·Memᴰ·eq-of-singleton (rw (p, textReadings, q) at h))
+    taken e p false q = ap (λ (x : Reading). x .exact) (List·Memᴰ·eq-of-singleton (rw (p, textReadings, q) at h))
 
-    go : (w : Written) → readText s ≡ w → r .underExists ≡ ex
+    go : (w : Written) → readText s ≡ w → r .exact ≡ ex
     go plain p = absurd (List·Memᴰ·not-nil (rw (p, textReadings) at h))
     go (escaped t) p = absurd (List·Memᴰ·not-nil (rw (p, textReadings) at h))
     go (expression e) p = taken e p (isTakenBy binders (parts e)) refl
@@ -406,7 +407,7 @@ under-text ex binders s r h = go (readText s) refl
 mutual
   unfolding operandReadings
 
-  under-operand : (ex : Bool) (binders : List Bytes) (v : Value) (r : Reading) → List·Memᴰ r (operandReadings ex binders v) → r .underExists ≡ ex
+  under-operand : (ex : Bool) (binders : List Bytes) (v : Value) (r : Reading) → List·Memᴰ r (operandReadings ex binders v) → r .exact ≡ ex
   under-operand ex binders null r h = elim h [ ]
   under-operand ex binders (bool b) r h = elim h [ ]
   under-operand ex binders (number s) r h = elim h [ ]
@@ -414,17 +415,17 @@ mutual
   under-operand ex binders (array vs) r h = under-in ex binders vs r h
   under-operand ex binders (object ms) r h = under-of ex binders ms r h
 
-  under-in : (ex : Bool) (binders : List Bytes) (vs : Values) (r : Reading) → List·Memᴰ r (readingsIn ex binders vs) → r .underExists ≡ ex
+  under-in : (ex : Bool) (binders : List Bytes) (vs : Values) (r : Reading) → List·Memᴰ r (readingsIn ex binders vs) → r .exact ≡ ex
   under-in ex binders nil r h = elim h [ ]
   under-in ex binders (cons v vs) r h = ⊎-elim (λ m. under-operand ex binders v r m) (λ m. under-in ex binders vs r m) (List·Memᴰ·append-cases (operandReadings ex binders v) h)
 
-  under-of : (ex : Bool) (binders : List Bytes) (ms : Members) (r : Reading) → List·Memᴰ r (readingsOf ex binders ms) → r .underExists ≡ ex
+  under-of : (ex : Bool) (binders : List Bytes) (ms : Members) (r : Reading) → List·Memᴰ r (readingsOf ex binders ms) → r .exact ≡ ex
   under-of ex binders empty r h = elim h [ ]
   under-of ex binders (member n v ms) r h = ⊎-elim (λ m. under-operand ex binders v r m) (λ m. under-of ex binders ms r m) (List·Memᴰ·append-cases (operandReadings ex binders v) h)
 
 -- the same where readings may be lost
-module _ (Erased : Bytes → Type 0) (old new : Sheet Condition) where
-  later-compared : (f : Form) (r q s t : Resolved Value) → LaterR Erased r q → LaterR Erased s t → Later Erased (compared f r s) (compared f q t)
+module _ (sem : Semantics) (Erased : Bytes → Type 0) (old new : Sheet Condition) where
+  later-compared : (f : Form) (r q s t : Resolved Value) → LaterR Erased r q → LaterR Erased s t → Later Erased (compared sem f r s) (compared sem f q t)
   later-compared f r q s t kept kept = truthKept refl
   later-compared f (present a) q s t kept still = truthKept refl
   later-compared f (missing ms) q s t kept still = truthKept refl
@@ -459,13 +460,13 @@ module _ (Erased : Bytes → Type 0) (old new : Sheet Condition) where
   later-negated a b (truthKept e) = truthKept (ap negate e)
   later-negated a b (truthGone u l) = truthGone (ap negate u) l
 
-  exactly : (r : Reading) → Fact Erased old new r → r .underExists ≡ true → gives new [] (r .text) ≡ gives old [] (r .text)
+  exactly : (r : Reading) → Fact sem Erased old new r → r .exact ≡ true → gives sem new [] (r .text) ≡ gives sem old [] (r .text)
   exactly r k e = k .isNow ∙ ap {B = Result (Option Value)} ok (k .exact e) ∙ sym (k .isWas)
 
   mutual
     unfolding evaluate readings
 
-    pub later-evaluate : (env : Env) (c : Condition) → Every (Fact Erased old new) (readings (namesOf env) c) → Both (Later Erased) (evaluate old env c) (evaluate new env c)
+    pub later-evaluate : (env : Env) (c : Condition) → Every (Fact sem Erased old new) (readings (namesOf env) c) → Both (Later Erased) (evaluate sem old env c) (evaluate sem new env c)
     later-evaluate env (literal b) h = record { was = _; now = _; isWas = refl; isNow = refl; rel = truthKept refl }
     later-evaluate env (junction m cs) h = later-evaluateAll env m cs h
     later-evaluate env (negation c) h =
@@ -478,27 +479,27 @@ module _ (Erased : Bytes → Type 0) (old new : Sheet Condition) where
           rel = later-negated (k .was) (k .now) (k .rel);
         }
     later-evaluate env (exists v) h =
-        let k = later-resolve Erased old new true env v h in
+        let k = later-resolve sem Erased old new true env v h in
         record {
           was = certain (isPresent (k .was));
           now = certain (isPresent (k .was));
           isWas = bind-ok _ (k .isWas);
-          isNow = bind-ok _ (alike-resolve old new true env v (λ r m. exactly r (h r m) (under-operand true (namesOf env) v r m)) ∙ k .isWas);
+          isNow = bind-ok _ (alike-resolve sem old new true env v (λ r m. exactly r (h r m) (under-operand true (namesOf env) v r m)) ∙ k .isWas);
           rel = truthKept refl;
         }
     later-evaluate env (pair f v w) h =
-        let j = later-resolve Erased old new false env v (every-left (operandReadings false (namesOf env) v) (operandReadings false (namesOf env) w) h) in
-        let k = later-resolve Erased old new false env w (every-right (operandReadings false (namesOf env) v) (operandReadings false (namesOf env) w) h) in
+        let j = later-resolve sem Erased old new false env v (every-left (operandReadings false (namesOf env) v) (operandReadings false (namesOf env) w) h) in
+        let k = later-resolve sem Erased old new false env w (every-right (operandReadings false (namesOf env) v) (operandReadings false (namesOf env) w) h) in
         record {
-          was = compared f (j .was) (k .was);
-          now = compared f (j .now) (k .now);
+          was = compared sem f (j .was) (k .was);
+          now = compared sem f (j .now) (k .now);
           isWas = bind-ok _ (j .isWas) ∙ bind-ok _ (k .isWas);
           isNow = bind-ok _ (j .isNow) ∙ bind-ok _ (k .isNow);
           rel = later-compared f (j .was) (j .now) (k .was) (k .now) (j .rel) (k .rel);
         }
     later-evaluate env (quantified m v x c) h =
-        let j = later-resolve Erased old new false env v (every-left (operandReadings false (namesOf env) v) (readings (x ∷ namesOf env) c) h) in
-        let k = later-over m (λ w. evaluate old ((x, w) ∷ env) c) (λ w. evaluate new ((x, w) ∷ env) c) (j .was) (j .now) (λ w. later-evaluate ((x, w) ∷ env) c (every-right (operandReadings false (namesOf env) v) (readings (x ∷ namesOf env) c) h)) (j .rel) in
+        let j = later-resolve sem Erased old new false env v (every-left (operandReadings false (namesOf env) v) (readings (x ∷ namesOf env) c) h) in
+        let k = later-over m (λ w. evaluate sem old ((x, w) ∷ env) c) (λ w. evaluate sem new ((x, w) ∷ env) c) (j .was) (j .now) (λ w. later-evaluate ((x, w) ∷ env) c (every-right (operandReadings false (namesOf env) v) (readings (x ∷ namesOf env) c) h)) (j .rel) in
         record {
           was = k .was;
           now = k .now;
@@ -507,7 +508,7 @@ module _ (Erased : Bytes → Type 0) (old new : Sheet Condition) where
           rel = k .rel;
         }
 
-    later-evaluateAll : (env : Env) (m : Mode) (cs : Conditions) → Every (Fact Erased old new) (allReadings (namesOf env) cs) → Both (Later Erased) (evaluateAll old env m cs) (evaluateAll new env m cs)
+    later-evaluateAll : (env : Env) (m : Mode) (cs : Conditions) → Every (Fact sem Erased old new) (allReadings (namesOf env) cs) → Both (Later Erased) (evaluateAll sem old env m cs) (evaluateAll sem new env m cs)
     later-evaluateAll env m noMore h = record { was = _; now = _; isWas = refl; isNow = refl; rel = truthKept refl }
     later-evaluateAll env m (also c cs) h =
         let j = later-evaluate env c (every-left (readings (namesOf env) c) (allReadings (namesOf env) cs) h) in
@@ -519,3 +520,20 @@ module _ (Erased : Bytes → Type 0) (old new : Sheet Condition) where
           isNow = bind-ok _ (j .isNow) ∙ bind-ok _ (k .isNow);
           rel = later-joined Erased m (j .was) (j .now) (k .was) (k .now) (j .rel) (k .rel);
         }
+
+-- clean readings give a value or nothing
+pub known-gives : (sem : Semantics) (s : Sheet Condition) (rs : List Reading) → allKnown sem s rs ≡ true → Every (λ r. (g : Option Value) × (gives sem s [] (r .text) ≡ ok g)) rs
+unfolding allKnown
+known-gives sem s [] e = λ r m. elim m [ ]
+known-gives sem s (x ∷ rs) e = λ r m. ⊎-elim (λ q. rw q here) (λ n. known-gives sem s rs (both-true (isAnswer (gives sem s [] (x .text))) (allKnown sem s rs) e .1) r n) (List·Memᴰ·cases-cons m)
+  where
+    answer : (x : Result (Option Value)) → isAnswer x ≡ true → (g : Option Value) × (x ≡ ok g)
+    answer (ok g) h = (g, refl)
+    answer (refused r) h = absurd (false≢true h)
+
+    both-true : (a b : Bool) → (a && b) ≡ true → (a ≡ true) × (b ≡ true)
+    both-true true b h = (refl, h)
+    both-true false b h = absurd (false≢true h)
+
+    here : (g : Option Value) × (gives sem s [] (x .text) ≡ ok g)
+    here = answer (gives sem s [] (x .text)) (both-true (isAnswer (gives sem s [] (x .text))) (allKnown sem s rs) e .0)

@@ -1,13 +1,13 @@
--- Operands, binders and conditions on an accepted sheet.
+-- Equality of two values: numbers by the semantics, objects without order.
 -- Assumes nothing.
 use mathlib.Core.Bool.{Bool, false, not, true, _&&_}
 use mathlib.Core.Option.{none, some}
-use Prim.Native.Nat.{Ordering, Ordering·eq, Ordering·gt, Ordering·lt}
+use Rattle.evaluation.specs.Semantics.{Semantics}
 use Rattle.number.specs.Compare.{numberOrder}
 use Rattle.reader.specs.Bytes.{Bytes, sameBytes}
 use Rattle.reader.specs.Json.{Members, Value, Values, array, asArray, asBool, asNumber, asObject, asText, bool, cons, empty, isNull, member, nil, null, number, object, text}
 
--- Equality of sorted trees, over what makes two numbers equal.
+-- The members of every object stand by ascending key, so that equal objects are equal place by place.
 module _ (numbers : Bytes → Bytes → Bool) where
   unfoldable mutual
     unfolding sameBytes
@@ -32,24 +32,6 @@ module _ (numbers : Bytes → Bytes → Bool) where
     equalOf (member k v ms) empty = false
     equalOf (member k v ms) (member l w ns) = sameBytes k l && (equalBy v w && equalOf ms ns)
 
-abbrev pub isLess : Ordering → Bool
-isLess Ordering·lt = true
-isLess Ordering·eq = false
-isLess Ordering·gt = false
-
-abbrev pub isGreater : Ordering → Bool
-isGreater Ordering·lt = false
-isGreater Ordering·eq = false
-isGreater Ordering·gt = true
-
-abbrev pub isSame : Ordering → Bool
-isSame Ordering·lt = false
-isSame Ordering·eq = true
-isSame Ordering·gt = false
-
-abbrev pub sameNumber : Bytes → Bytes → Bool
-sameNumber s t = isSame (numberOrder s t)
-
-unfoldable pub equal : Value → Value → Bool
+unfoldable pub equal : Semantics → Value → Value → Bool
 unfolding equalBy numberOrder
-equal v w = equalBy sameNumber v w
+equal sem v w = equalBy (sem .sameNumber) v w

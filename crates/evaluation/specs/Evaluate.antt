@@ -1,11 +1,12 @@
--- Operands, binders and conditions on an accepted sheet.
+-- Conditions: truth and names.
 -- Assumes nothing.
 use mathlib.Core.Bool.{Bool, false, true}
 use mathlib.Core.List.{List, [], _++_, _∷_}
 use mathlib.Core.Option.{Option, none, some}
 use Rattle.evaluation.specs.Expression.{Env}
 use Rattle.evaluation.specs.Forms.{holds}
-use Rattle.evaluation.specs.Names.{Names}
+use Rattle.evaluation.specs.Names.{Names, joinNames, noNames}
+use Rattle.evaluation.specs.Semantics.{Semantics}
 use Rattle.evaluation.specs.Operand.{Resolved, missing, present, resolve}
 use Rattle.evaluation.specs.Truth.{Truth, Unknown, join, negate, ofBool, settles, start}
 use Rattle.reader.specs.Json.{Members, Value, array, bool, elements, empty, member, null, number, object, text}
@@ -19,23 +20,24 @@ pub record Answer : Type 0 where
   pub names : Names
 
 abbrev pub certain : Bool → Answer
-certain b = record { truth = ofBool b; names = [] }
+certain b = record { truth = ofBool b; names = noNames }
 
 abbrev pub unknown : Names → Answer
 unknown ns = record { truth = Unknown; names = ns }
 
 abbrev pub joined : Mode → Answer → Answer → Answer
-joined m a b = record { truth = join m (a .truth) (b .truth); names = a .names ++ b .names }
+joined m a b = record { truth = join m (a .truth) (b .truth); names = joinNames (a .names) (b .names) }
 
 abbrev pub isPresent : {A : Type 0} → Resolved A → Bool
 isPresent (present a) = true
 isPresent (missing ns) = false
 
-abbrev pub compared : Form → Resolved Value → Resolved Value → Answer
-compared f (present v) (present w) = certain (holds f v w)
-compared f (present v) (missing ns) = unknown ns
-compared f (missing ms) (present w) = unknown ms
-compared f (missing ms) (missing ns) = unknown (ms ++ ns)
+-- either missing gives Unknown
+abbrev pub compared : Semantics → Form → Resolved Value → Resolved Value → Answer
+compared sem f (present v) (present w) = certain (holds sem f v w)
+compared sem f (present v) (missing ns) = unknown ns
+compared sem f (missing ms) (present w) = unknown ms
+compared sem f (missing ms) (missing ns) = unknown (joinNames ms ns)
 
 -- the elements of an array, the values of an object's members by ascending key
 abbrev pub valuesOf : Members → List Value
@@ -52,7 +54,7 @@ collection (object ms) = some (valuesOf ms)
 
 -- the elements in order, stopping once settled
 unfoldable pub each : Mode → (Value → Result Answer) → List Value → Result Answer
-each m body [] = ok (record { truth = start m; names = [] })
+each m body [] = ok (record { truth = start m; names = noNames })
 each m body (v ∷ vs) = do
   a ← body v
   elim
@@ -65,11 +67,12 @@ each m body (v ∷ vs) = do
               ok (joined m a b))
       ]
 
+-- a missing collection is Unknown with its names, a value that is none Unknown without
 abbrev pub over : Mode → (Value → Result Answer) → Resolved Value → Result Answer
 over m body (missing ns) = ok (unknown ns)
-over m body (present v) = elim (collection v) [ none ↦ ok (unknown []) | some vs ↦ each m body vs ]
+over m body (present v) = elim (collection v) [ none ↦ ok (unknown noNames) | some vs ↦ each m body vs ]
 
-module _ {C : Type 0} (sheet : Sheet C) where
+module _ (sem : Semantics) {C : Type 0} (sheet : Sheet C) where
   unfoldable mutual
     unfolding resolve holds each
 
@@ -80,19 +83,19 @@ module _ {C : Type 0} (sheet : Sheet C) where
       a ← evaluate env c
       ok (record { truth = negate (a .truth); names = a .names })
     evaluate env (exists v) = do
-      r ← resolve sheet env v
+      r ← resolve sem sheet env v
       ok (certain (isPresent r))
     evaluate env (pair f v w) = do
-      r ← resolve sheet env v
-      q ← resolve sheet env w
-      ok (compared f r q)
+      r ← resolve sem sheet env v
+      q ← resolve sem sheet env w
+      ok (compared sem f r q)
     evaluate env (quantified m v x c) = do
-      r ← resolve sheet env v
+      r ← resolve sem sheet env v
       over m (λ w. evaluate ((x, w) ∷ env) c) r
 
     -- `all` and `any` evaluate every child
     pub evaluateAll : Env → Mode → Conditions → Result Answer
-    evaluateAll env m noMore = ok (record { truth = start m; names = [] })
+    evaluateAll env m noMore = ok (record { truth = start m; names = noNames })
     evaluateAll env m (also c cs) = do
       a ← evaluate env c
       b ← evaluateAll env m cs

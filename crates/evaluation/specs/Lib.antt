@@ -1,4 +1,5 @@
 pub mod Truth
+pub mod Semantics
 pub mod Names
 pub mod Expression
 pub mod Operand

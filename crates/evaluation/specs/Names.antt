@@ -1,18 +1,32 @@
--- Operands, binders and conditions on an accepted sheet.
+-- The names of a condition: the expressions that gave nothing or null. They are gathered in the order met and printed each once, by ascending
+-- bytes; only which names there are counts.
 -- Assumes nothing.
-use mathlib.Core.List.{List, [], _∷_}
+use mathlib.Core.List.{List, List·Memᴰ, [], _++_, _∷_}
 use Prim.Native.Nat.{Ordering·eq, Ordering·gt, Ordering·lt}
 use Rattle.reader.specs.Bytes.{Bytes, orderBytes}
 
 abbrev pub Names : Type 0
 Names = List Bytes
 
--- each name once, by ascending bytes
+abbrev pub noNames : Names
+noNames = []
+
+abbrev pub oneName : Bytes → Names
+oneName n = n ∷ []
+
+abbrev pub joinNames : Names → Names → Names
+joinNames ms ns = ms ++ ns
+
+abbrev pub Named : Bytes → Names → Type 0
+Named n ns = List·Memᴰ n ns
+
+-- a name put in its place, unless it stands there
 unfoldable pub insertName : Bytes → Names → Names
 unfolding orderBytes
 insertName n [] = n ∷ []
 insertName n (m ∷ ms) = elim (orderBytes n m) [ Ordering·lt ↦ n ∷ m ∷ ms | Ordering·eq ↦ m ∷ ms | Ordering·gt ↦ m ∷ insertName n ms ]
 
+-- each name once, by ascending bytes
 unfoldable pub ascending : Names → Names
 unfolding insertName
 ascending [] = []

@@ -1,17 +1,18 @@
--- Operands, binders and conditions on an accepted sheet.
+-- Operands: a written value with its expressions resolved, or the names of those that are missing.
 -- Assumes nothing.
 use mathlib.Core.Bool.{false, true}
 use mathlib.Core.List.{[], _++_, _∷_}
 use mathlib.Core.Option.{Option, none, some}
 use lib.Dec.{eqb}
 use Rattle.evaluation.specs.Expression.{Env, gives}
-use Rattle.evaluation.specs.Names.{Names}
+use Rattle.evaluation.specs.Names.{Names, joinNames, oneName}
+use Rattle.evaluation.specs.Semantics.{Semantics}
 use Rattle.reader.specs.Bytes.{Bytes}
 use Rattle.reader.specs.Json.{Members, Value, Values, array, bool, cons, empty, isNull, member, nil, null, number, object, text}
 use Rattle.reader.specs.Refusal.{Result, ok, _>>=_}
 use Rattle.sheet.specs.Sheet.{Sheet}
 
--- Operands. A written text is itself, a text less one `$`, or an expression.
+-- A written text is itself, a text less one `$`, or an expression.
 pub data Written : Type 0 where
   plain : Written
   escaped : Bytes → Written
@@ -34,18 +35,19 @@ abbrev pub both : {A B D : Type 0} → (A → B → D) → Resolved A → Resolv
 both f (present a) (present b) = present (f a b)
 both f (present a) (missing ns) = missing ns
 both f (missing ms) (present b) = missing ms
-both f (missing ms) (missing ns) = missing (ms ++ ns)
+both f (missing ms) (missing ns) = missing (joinNames ms ns)
 
+-- a whole of one part
 abbrev pub same : {A B : Type 0} → (A → B) → Resolved A → Resolved B
 same f (present a) = present (f a)
 same f (missing ns) = missing ns
 
 -- nothing and null are missing
 abbrev pub observed : Bytes → Option Value → Resolved Value
-observed e none = missing ((36 ∷ e) ∷ [])
-observed e (some v) = elim (isNull v) [ true ↦ missing ((36 ∷ e) ∷ []) | false ↦ present v ]
+observed e none = missing (oneName (36 ∷ e))
+observed e (some v) = elim (isNull v) [ true ↦ missing (oneName (36 ∷ e)) | false ↦ present v ]
 
-module _ {C : Type 0} (sheet : Sheet C) where
+module _ (sem : Semantics) {C : Type 0} (sheet : Sheet C) where
   unfoldable pub resolveText : Env → Bytes → Result (Resolved Value)
   unfolding gives
   resolveText env s =
@@ -57,10 +59,11 @@ module _ {C : Type 0} (sheet : Sheet C) where
             ok (present (text t))
         | expression e ↦
             (do
-              g ← gives sheet env e
+              g ← gives sem sheet env e
               ok (observed e g))
       ]
 
+  -- every part is resolved, also behind a missing one; keys are never expressions
   unfoldable mutual
     unfolding resolveText
 

@@ -1,24 +1,26 @@
--- The third demand: a decision that is run again. Clean rules, readings, and one claim about two whole Decide calls.
+-- What rules read from the sheet, and when rules are clean.
 -- Assumes nothing.
-use mathlib.Core.Bool.{Bool, false, true}
+use mathlib.Core.Bool.{Bool, false, true, _&&_}
 use mathlib.Core.List.{List, List·Memᴰ, [], _++_, _∷_}
 use mathlib.Core.Option.{Option, none, some}
-use mathlib.Core.Path.{_≡_}
 use Rattle.evaluation.specs.Expression.{gives, parts}
 use Rattle.evaluation.specs.Operand.{escaped, expression, plain, readText}
+use Rattle.evaluation.specs.Semantics.{Semantics}
 use Rattle.reader.specs.Bytes.{Bytes, isOneOf}
 use Rattle.reader.specs.Json.{Members, Value, Values, array, bool, cons, empty, member, nil, null, number, object, text}
-use Rattle.reader.specs.Refusal.{ok}
+use Rattle.reader.specs.Refusal.{Result, ok, refused}
 use Rattle.sheet.specs.Condition.{Condition, Conditions, also, exists, junction, literal, negation, noMore, pair, quantified}
 use Rattle.sheet.specs.Outcome.{Outcome}
 use Rattle.sheet.specs.Rule.{Rule}
 use Rattle.sheet.specs.Sheet.{Sheet}
 
--- A reading: the text after `$` of an expression that no binder in force takes, and whether it stands under `exists`.
+-- A reading: the text after `$` of an expression that no binder in force takes. It is exact where a repeated decision must find it exactly as before:
+-- where it stands under `exists`, which answers by whether it is there.
 pub record Reading : Type 0 where
   pub text : Bytes
-  pub underExists : Bool
+  pub exact : Bool
 
+-- whether a binder takes an expression, by its parts
 abbrev pub isTakenBy : List Bytes → List Bytes → Bool
 isTakenBy binders [] = false
 isTakenBy binders (name ∷ path) = isOneOf name binders
@@ -33,7 +35,7 @@ textReadings ex binders s =
       | escaped t ↦
           []
       | expression e ↦
-          elim (isTakenBy binders (parts e)) [ true ↦ [] | false ↦ record { text = e; underExists = ex } ∷ [] ]
+          elim (isTakenBy binders (parts e)) [ true ↦ [] | false ↦ record { text = e; exact = ex } ∷ [] ]
     ]
 
 unfoldable mutual
@@ -91,6 +93,15 @@ sheetReadings s = ruleReadings (s .preconditions) ++ guardReadings (s .outcomes)
 abbrev pub IsReading : Sheet Condition → Reading → Type 0
 IsReading s r = List·Memᴰ r (sheetReadings s)
 
--- clean: no reading is an unknown expression, or `$id` without an id
-abbrev pub Clean : Sheet Condition → Type 0
-Clean s = (r : Reading) → IsReading s r → (g : Option Value) × (gives s [] (r .text) ≡ ok g)
+-- Clean: no reading is an unknown expression, or `$id` without an id.
+abbrev pub isAnswer : Result (Option Value) → Bool
+isAnswer (ok g) = true
+isAnswer (refused r) = false
+
+unfoldable pub allKnown : Semantics → Sheet Condition → List Reading → Bool
+unfolding gives
+allKnown sem s [] = true
+allKnown sem s (r ∷ rs) = isAnswer (gives sem s [] (r .text)) && allKnown sem s rs
+
+abbrev pub clean : Semantics → Sheet Condition → Bool
+clean sem s = allKnown sem s (sheetReadings s)
