@@ -12,6 +12,7 @@ use lib.ListN.{List·getD-eq-default, drop, drop-of-length-le, getD, length, len
 use lib.Seq.{drop-at, drop-cons, length-take-le, slice, take-add, take-at}
 use Rattle.reader.proofs.Sound.{chars-sound, digits-sound, leb-le, oneNode-sound, skip-ws, word-sound}
 use Rattle.reader.specs.Bytes.{Bytes, ascii, choose, isOneOf}
+use Rattle.reader.specs.Fits.{Fits, FitsIn, FitsLeaf, FitsOf, Numeral, Span, Text, fitsArr, fitsEmpty, fitsField, fitsLeaf, fitsNode, fitsNone, fitsObj}
 use Rattle.reader.specs.Grammar.{Chars, Escape, Hex, Ws, close, noHex, noSpace, oneHex, pair, simple, space, unescaped, unit}
 use Rattle.reader.specs.Json.{Members, Value, Values, array, bool, cons, empty, member, nil, null, number, object, text}
 use Rattle.reader.specs.Limits
@@ -156,16 +157,6 @@ word-agrees w s at t k e h = subst (λ (x : Bytes). Rel Bytes ℕ (λ r p. Behin
     placed s at 1 (drop at s) r refl h (tail-is f (append-tail w r)) (omega (arith, ap length f, length-append w r)))
 
 -- a text that stands from a up to its closing quote at e; a number from a up to e
-pub record Text (s : Bytes) (a e : ℕ) : Type 0 where
-  pub read : Placing.charsAt s a ≡ ok (e + 1)
-  pub order : a ≤ e
-  pub upto : e < length s
-
-pub record Numeral (s : Bytes) (a e : ℕ) : Type 0 where
-  pub read : Placing.digitsAt s a ≡ ok e
-  pub order : a < e
-  pub upto : e ≤ length s
-
 pub record TextRead (s : Bytes) (at : ℕ) (x : Read Bytes) (p : ℕ) : Type 0 where
   pub decoded : x .got ≡ Spans.textAt s at
   pub behind : Behind s (at + 1) (x .rest) p
@@ -207,32 +198,6 @@ digits-agrees s at c v h q = subst (λ (y : ℕ). Rel (Read Bytes) ℕ (NumberRe
   where
     long : (x : Read Bytes) → drop (at + 1) s ≡ x .got ++ x .rest → Placing.placeOf s (x .rest) ≡ at + suc (length (x .got))
     long x f = omega (arith, ap length f, length-append (x .got) (x .rest), length-drop (at + 1) s)
-
--- every text and number of a tree was read where it stands, and no place is past the sheet
-pub record Span (s : Bytes) (a e : ℕ) : Type 0 where
-  pub order : a < e
-  pub upto : e ≤ length s
-
-abbrev pub FitsLeaf : Bytes → Plain → ℕ → ℕ → Type 0
-FitsLeaf s Plain.isNull a e = Span s a e
-FitsLeaf s Plain.isTrue a e = Span s a e
-FitsLeaf s Plain.isFalse a e = Span s a e
-FitsLeaf s Plain.isNumber a e = Numeral s a e
-FitsLeaf s Plain.isText a e = Text s a e
-
-mutual
-  pub data Fits (s : Bytes) : Node → Type 0 where
-    fitsLeaf : {k : Plain} {a e : ℕ} → FitsLeaf s k a e → Fits s (leaf k a e)
-    fitsArr : {a e : ℕ} {ts : Nodes} → Span s a e → FitsIn s ts → Fits s (arr a e ts)
-    fitsObj : {a e : ℕ} {fs : Fields} → Span s a e → FitsOf s fs → Fits s (obj a e fs)
-
-  pub data FitsIn (s : Bytes) : Nodes → Type 0 where
-    fitsNone : FitsIn s noNode
-    fitsNode : {t : Node} {ts : Nodes} → Fits s t → FitsIn s ts → FitsIn s (node t ts)
-
-  pub data FitsOf (s : Bytes) : Fields → Type 0 where
-    fitsEmpty : FitsOf s noField
-    fitsField : {a e : ℕ} {t : Node} {fs : Fields} → Text s a e → Fits s t → FitsOf s fs → FitsOf s (field a e t fs)
 
 -- what belongs together: a value read from a place, and its node
 pub record ValueAgrees (s : Bytes) (left n at : ℕ) (p : Parsed Value) (q : Placed Node) : Type 0 where

@@ -7,42 +7,18 @@ use Prim.Native.Nat.{Ordering, Ordering·eq, Ordering·gt, Ordering·lt, compare
 use native.Mathlib.Omega.{arith}
 use lib.Dec.{isEq, isLe}
 use lib.ListN.{drop, getD, length, length-drop}
-use Rattle.reader.proofs.Agree.{Text}
 use Rattle.reader.proofs.Laws.{ok-injective}
-use Rattle.reader.proofs.Texts.{TextView, ended, escaped, raw, text-view, written}
+use Rattle.reader.proofs.Texts.{TextView, ended, raw, text-view, written}
 use Rattle.reader.specs.Bytes.{Bytes, begins, orderBytes, sameBytes}
+use Rattle.reader.specs.Cursor.{OnText, Took, before, tails, weight}
+use Rattle.reader.specs.Escapes.{escaped}
+use Rattle.reader.specs.Fits.{Text}
 use Rattle.reader.specs.Refusal.{Refusal, ok, refused}
 use Rattle.reader.specs.Scan.{Read}
 use Rattle.reader.specs.Spans.{textAt}
 use Rattle.reader.specs.Strings.{backslash, char, other, quote}
 use Rattle.reader.specs.Utf8.{encode}
 use borrow.Author.Tests.{eq-eqb, le-leb, le-ltb, lt-leb, lt-ltb, ne-eqb}
-
--- the last bytes of a scalar value's UTF-8, and what a cursor has before it
-abbrev pub tails : ℕ → ℕ → Bytes
-tails zero u = []
-tails (suc zero) u = (128 + u % 64) ∷ []
-tails (suc (suc zero)) u = (128 + u / 64 % 64) ∷ (128 + u % 64) ∷ []
-tails (suc (suc (suc n))) u = (128 + u / 4096 % 64) ∷ (128 + u / 64 % 64) ∷ (128 + u % 64) ∷ []
-
-unfoldable pub before : Bytes → ℕ → ℕ → ℕ → Bytes
-unfolding textAt
-before s at u left = tails left u ++ textAt s at
-
--- a cursor at its place, and what falls with each byte
-pub record OnText (s : Bytes) (at left : ℕ) : Type 0 where
-  pub stop : ℕ
-  pub text : Text s at stop
-  pub few : left ≤ 3
-
-abbrev pub weight : Bytes → ℕ → ℕ → ℕ
-weight s at left = 4 * (length s - at) + left
-
--- one byte taken
-pub record Took (s : Bytes) (at u left b at′ u′ left′ : ℕ) : Type 0 where
-  pub byte : before s at u left ≡ b ∷ before s at′ u′ left′
-  pub onText : OnText s at′ left′
-  pub falls : weight s at′ left′ < weight s at left
 
 pub encode-1 : (u : ℕ) → u < 128 → encode u ≡ u ∷ tails 0 u
 unfolding encode

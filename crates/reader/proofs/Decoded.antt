@@ -7,16 +7,13 @@ use native.Mathlib.Nat.{add-zero}
 use native.Mathlib.Omega.{arith}
 use lib.ListN.{drop, getD, length, length-append, length-drop}
 use lib.Seq.{drop-append-seam, drop-drop, getD-drop}
-use Rattle.reader.proofs.Agree.{Fits, FitsIn, FitsLeaf, FitsOf, Text, fitsArr, fitsField, fitsLeaf, fitsNode, fitsObj}
 use Rattle.reader.specs.Bytes.{Bytes}
+use Rattle.reader.specs.Fits.{Fits, FitsIn, FitsLeaf, FitsOf, Text, fitsArr, fitsField, fitsLeaf, fitsNode, fitsObj}
+use Rattle.reader.specs.Held.{FieldsAt, NodeAt, NodesAt}
 use Rattle.reader.specs.Json.{array, object}
 use Rattle.reader.specs.Spans.{Fields, Node, Nodes, Plain, arr, deep, deepIn, deepOf, erase, eraseIn, eraseOf, field, isFalse, isNull, isNumber, isText, isTrue, leaf, noField, noNode, node, obj, plain, size, sizeIn, sizeOf}
 use Rattle.reader.specs.Table.{afterAt, code, endAt, kind, kindAt, membersBy, plainKind, rows, rowsIn, rowsOf, shaped, startAt, valueBy, valuesBy}
 use borrow.Author.Tests.{le-ltb, lt-ltb}
-
--- from the place i on, w begins with vs
-abbrev pub Begins : List ℕ → ℕ → List ℕ → Type 0
-Begins w i vs = (r : List ℕ) × (drop i w ≡ vs ++ r)
 
 word : (w : List ℕ) (i j : ℕ) (vs r : List ℕ) → drop i w ≡ vs ++ r → getD w (i + j) 0 ≡ getD (vs ++ r) j 0
 word w i j vs r e = sym (getD-drop i w j 0) ∙ ap (λ (l : List ℕ). getD l j 0) e
@@ -82,24 +79,6 @@ kind-code isTrue = refl
 kind-code isFalse = refl
 kind-code isNumber = refl
 kind-code isText = refl
-
--- ---- a node of the table with its tree, the nodes from k up to e, and the members
-pub record NodeAt (s : Bytes) (w : List ℕ) (left n : ℕ) (t : Node) : Type 0 where
-  pub words : Begins w (3 * n) (rows t n)
-  pub shallow : deep t ≤ left
-  pub fits : Fits s t
-
-pub record NodesAt (s : Bytes) (w : List ℕ) (left k e : ℕ) (ts : Nodes) : Type 0 where
-  pub words : Begins w (3 * k) (rowsIn ts k)
-  pub upto : e ≡ k + sizeIn ts
-  pub shallow : deepIn ts ≤ left
-  pub fits : FitsIn s ts
-
-pub record FieldsAt (s : Bytes) (w : List ℕ) (left k e : ℕ) (fs : Fields) : Type 0 where
-  pub words : Begins w (3 * k) (rowsOf fs k)
-  pub upto : e ≡ k + sizeOf fs
-  pub shallow : deepOf fs ≤ left
-  pub fits : FitsOf s fs
 
 module _ (s : Bytes) (w : List ℕ) where
   pub leaf-row : (left n : ℕ) (k : Plain) (a e : ℕ) → NodeAt s w left n (leaf k a e) → Row w n a (code k) e (n + 1)

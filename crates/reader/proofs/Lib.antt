@@ -12,3 +12,5 @@ pub mod KeyOrder
 pub mod Loops
 pub mod Words
 pub mod Samples
+pub mod Leaves
+pub mod Members

@@ -10,8 +10,9 @@ use lib.ListN.{drop, drop-of-length-le, getD, length, length-drop}
 use lib.Seq.{drop-cons}
 use Rattle.reader.proofs.Complete.{escape-length}
 use Rattle.reader.proofs.Sound.{escape-sound}
-use Rattle.reader.proofs.Texts.{escape-is, escaped}
+use Rattle.reader.proofs.Texts.{escape-is}
 use Rattle.reader.specs.Bytes.{Bytes, choose}
+use Rattle.reader.specs.Escapes.{escaped}
 use Rattle.reader.specs.Placing.{charsAt, placeOf, skipAt}
 use Rattle.reader.specs.Refusal.{Result, notJson, ok, refused, _>>=_}
 use Rattle.reader.specs.Scan.{Read, isSpace, skip}

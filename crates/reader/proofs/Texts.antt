@@ -10,11 +10,13 @@ use native.Mathlib.Omega.{arith}
 use lib.Dec.{eqb}
 use lib.ListN.{drop, getD, length, length-drop}
 use lib.Seq.{drop-drop, getD-drop}
-use Rattle.reader.proofs.Agree.{Text, chars-short, chars-tail, escape-tail, placed}
+use Rattle.reader.proofs.Agree.{chars-short, chars-tail, escape-tail, placed}
 use Rattle.reader.proofs.Complete.{chars-complete, escape-complete, escape-length, unescaped-char}
 use Rattle.reader.proofs.Laws.{ok-injective}
 use Rattle.reader.proofs.Sound.{bind-inv, chars-sound}
 use Rattle.reader.specs.Bytes.{Bytes, ascii, between, choose}
+use Rattle.reader.specs.Escapes.{escaped, highScalar, lowScalar, unitScalar}
+use Rattle.reader.specs.Fits.{Text}
 use Rattle.reader.specs.Grammar.{Chars, close, unescaped}
 use Rattle.reader.specs.Placing.{charsAt, placeOf}
 use Rattle.reader.specs.Refusal.{Result, notJson, ok, refused, _>>=_}
@@ -23,26 +25,6 @@ use Rattle.reader.specs.Spans.{textAt}
 use Rattle.reader.specs.Strings
 use Rattle.reader.specs.Strings.{char, chars, escape, hex, highUnit, lowUnit, other, plainUnit, simpleEscape, unit16}
 use Rattle.reader.specs.Utf8.{encode}
-
--- ---- an escape's scalar value, and the rest
-unfoldable pub lowScalar : ℕ → Read ℕ → Result (Read ℕ)
-lowScalar high low = elim (between 56320 57343 (low .got)) [ true ↦ ok (record { got = 65536 + (high - 55296) * 1024 + (low .got - 56320); rest = low .rest }) | false ↦ refused notJson ]
-
-unfoldable pub highScalar : ℕ → Bytes → Result (Read ℕ)
-unfolding word hex lowScalar
-highScalar high s = do
-  t ← word (ascii "\\u") s
-  low ← hex 4 0 t
-  lowScalar high low
-
-unfoldable pub unitScalar : Read ℕ → Result (Read ℕ)
-unfolding highScalar
-unitScalar u = elim (unit16 (u .got)) [ plainUnit ↦ ok u | highUnit ↦ highScalar (u .got) (u .rest) | lowUnit ↦ refused notJson ]
-
-unfoldable pub escaped : Bytes → Result (Read ℕ)
-unfolding hex unitScalar
-escaped [] = refused notJson
-escaped (c ∷ s) = elim (simpleEscape c) [ some d ↦ ok (record { got = d; rest = s }) | none ↦ elim (eqb c 117) [ true ↦ (hex 4 0 s >>= unitScalar) | false ↦ refused notJson ] ]
 
 abbrev pub inBytes : Read ℕ → Result (Read Bytes)
 inBytes u = ok (record { got = encode (u .got); rest = u .rest })

@@ -8,9 +8,11 @@ use Prim.Native.Nat.{ℕ, _*_, _+_, _-_, _<_, _≤_}
 use native.Mathlib.Omega.{arith}
 use lib.ListN.{drop, length, take, take-append-drop}
 use lib.Seq.{drop-append-le, drop-at, length-take-le, sets, sets-eq, take-add, take-append-add, take-append-le, take-length}
-use Rattle.reader.proofs.Agree.{FitsLeaf, Rel, SheetAgrees, Text, both, json-agrees, neitherOf}
-use Rattle.reader.proofs.Decoded.{Begins, FieldsAt, NodeAt, NodesAt, arr-parts, arr-row, decoded, decodedIn, decodedOf, fields-parts, leaf-fits, leaf-row, length-rows, node-after, nodes-parts, obj-parts, obj-row, size-pos}
+use Rattle.reader.proofs.Agree.{Rel, SheetAgrees, both, json-agrees, neitherOf}
+use Rattle.reader.proofs.Decoded.{arr-parts, arr-row, decoded, decodedIn, decodedOf, fields-parts, leaf-fits, leaf-row, length-rows, node-after, nodes-parts, obj-parts, obj-row, size-pos}
 use Rattle.reader.specs.Bytes.{Bytes, find, sameBytes}
+use Rattle.reader.specs.Fits.{FitsLeaf, Text}
+use Rattle.reader.specs.Held.{AreMembers, AreNodes, Begins, FieldsAt, IsNode, NodeAt, NodesAt}
 use Rattle.reader.specs.Json.{Value, array, cons, empty, entries, member, nil, object}
 use Rattle.reader.specs.Limits.{maxDepth, maxNodes}
 use Rattle.reader.specs.Placing.{spanned}
@@ -18,25 +20,6 @@ use Rattle.reader.specs.Reader.{json}
 use Rattle.reader.specs.Refusal.{Result, ok}
 use Rattle.reader.specs.Spans.{Fields, Node, Nodes, Plain, arr, erase, eraseIn, eraseOf, field, leaf, noField, noNode, node, obj, plain, size, sizeIn, sizeOf, textAt}
 use Rattle.reader.specs.Table.{afterAt, code, endAt, kindAt, membersAt, rows, startAt, valueAt, valuesAt}
-
--- a node of the table, in which so many brackets are open at most; nodes from k up to e; members from k up to e
-pub record IsNode (s : Bytes) (w : List ℕ) (left n : ℕ) : Type 0 where
-  pub tree : Node
-  pub held : NodeAt s w left n tree
-  pub depth : left ≤ maxDepth
-  pub most : n + size tree ≤ maxNodes
-
-pub record AreNodes (s : Bytes) (w : List ℕ) (left k e : ℕ) : Type 0 where
-  pub tree : Nodes
-  pub held : NodesAt s w left k e tree
-  pub depth : left ≤ maxDepth
-  pub most : e ≤ maxNodes
-
-pub record AreMembers (s : Bytes) (w : List ℕ) (left k e : ℕ) : Type 0 where
-  pub tree : Fields
-  pub held : FieldsAt s w left k e tree
-  pub depth : left ≤ maxDepth
-  pub most : e ≤ maxNodes
 
 -- what is found at a node
 pub data View (s : Bytes) (w : List ℕ) (left n : ℕ) : Type 0 where

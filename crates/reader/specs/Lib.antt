@@ -12,3 +12,8 @@ pub mod Grammar
 pub mod Spans
 pub mod Placing
 pub mod Table
+pub mod Escapes
+pub mod Fits
+pub mod Cursor
+pub mod Held
+pub mod Answers

@@ -1,1 +1,5 @@
-// The definitions of the crate stand in specs/, its laws in proofs/.
+// Reading a sheet: its bytes become the node table, or the refusal that they show first. The definitions stand in specs/, the laws in proofs/.
+pub mod escape;
+pub mod rows;
+pub mod scan;
+pub mod text;

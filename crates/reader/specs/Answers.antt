@@ -1,0 +1,100 @@
+-- What each answer of the code says of the sheet and the table.
+-- Assumes nothing.
+use mathlib.Core.Bool.{cond}
+use mathlib.Core.List.{List, [], _∷_}
+use mathlib.Core.Option.{Option, none, some}
+use mathlib.Core.Path.{_≡_}
+use Prim.Native.Nat.{Ordering, Ordering·eq, Ordering·gt, Ordering·lt, ℕ, _+_, _<_, _≤_}
+use lib.Dec.{eqb, ltb}
+use lib.ListN.{drop, length}
+use Rattle.reader.specs.Bytes.{Bytes}
+use Rattle.reader.specs.Cursor.{Took, before, tails}
+use Rattle.reader.specs.Held.{HasNode}
+use Rattle.reader.specs.Json.{Value}
+use Rattle.reader.specs.Refusal.{Result, notJson, ok, refused}
+use Rattle.reader.specs.Scan.{Read}
+use Rattle.reader.specs.Strings.{hex}
+use Rattle.reader.specs.Table.{valueAt}
+use Rattle.reader.specs.Utf8.{encode}
+use Rattle.reader.specs.declared.escape.Hex.{Hex}
+use Rattle.reader.specs.declared.escape.Scalar.{Scalar}
+use Rattle.reader.specs.declared.escape.Escaped.{Escaped}
+use Rattle.reader.specs.declared.scan.Scan.{Scan}
+use Rattle.reader.specs.declared.text.Cursor.{Cursor}
+use Rattle.reader.specs.declared.text.Taken.{Taken}
+use Rattle.reader.specs.declared.text.Step.{Step}
+use Rattle.reader.specs.declared.text.Order.{Order}
+use Rattle.reader.specs.declared.rows.Found.{Found}
+use Rattle.reader.specs.declared.escape.Hex.the-variants as hexes
+use Rattle.reader.specs.declared.escape.Escaped.the-variants as escapes
+use Rattle.reader.specs.declared.scan.Scan.the-variants as scans
+use Rattle.reader.specs.declared.text.Step.the-variants as steps
+use Rattle.reader.specs.declared.text.Order.the-variants as orders
+use Rattle.reader.specs.declared.rows.Found.the-variants as founds
+
+abbrev pub digitOf : ℕ → Option ℕ
+digitOf r = cond (ltb r 16) (some r) none
+
+abbrev pub simpleOf : ℕ → Option ℕ
+simpleOf r = cond (eqb r 0) none (some r)
+
+-- four hexadecimal digits from a place on
+unfoldable pub hexOf : Bytes → ℕ → Hex → Result (Read ℕ)
+hexOf s at hexes.Bad = refused notJson
+hexOf s at (hexes.Unit u) = ok (record { got = u; rest = drop (at + 4) s })
+
+unfoldable pub HexIn : Bytes → ℕ → Hex → Type 0
+HexIn s at hexes.Bad = Unit {0}
+HexIn s at (hexes.Unit u) = (u < 65536) × (at + 4 ≤ length s)
+
+pub record HexTold (s : Bytes) (at : ℕ) (r : Hex) : Type 0 where
+  pub answers : hex 4 0 (drop at s) ≡ hexOf s at r
+  pub bounds : HexIn s at r
+
+-- an escape, behind its backslash
+unfoldable pub escapedOf : Bytes → Escaped → Result (Read ℕ)
+escapedOf s escapes.Bad = refused notJson
+escapedOf s (escapes.Is x) = ok (record { got = x .unit; rest = drop (x .next) s })
+
+unfoldable pub EscapedIn : Bytes → ℕ → Escaped → Type 0
+EscapedIn s at escapes.Bad = Unit {0}
+EscapedIn s at (escapes.Is x) = (x .unit < 1114112) × (at < x .next) × (x .next ≤ length s)
+
+pub record EscapedTold (s : Bytes) (at : ℕ) (whole : Result (Read ℕ)) (r : Escaped) : Type 0 where
+  pub answers : whole ≡ escapedOf s r
+  pub bounds : EscapedIn s at r
+
+-- the characters up to the closing quote
+unfoldable pub scanOf : Scan → Result ℕ
+scanOf scans.Bad = refused notJson
+scanOf (scans.End p) = ok p
+
+-- a scalar value's first byte, and the cursor that has its others
+pub record FirstOf (x : Scalar) (r : Taken) : Type 0 where
+  pub bytes : encode (x .unit) ≡ r .byte ∷ tails (r .rest .left) (x .unit)
+  pub few : r .rest .left ≤ 3
+  pub unit : r .rest .unit ≡ x .unit
+  pub at : r .rest .at ≡ x .next
+
+-- a byte taken, or the end
+unfoldable pub Stepped : Bytes → Cursor → Step → Type 0
+Stepped s c steps.End = before s (c .at) (c .unit) (c .left) ≡ []
+Stepped s c (steps.Byte t) = Took s (c .at) (c .unit) (c .left) (t .byte) (t .rest .at) (t .rest .unit) (t .rest .left)
+
+unfoldable pub orderOf : Order → Ordering
+orderOf orders.Less = Ordering·lt
+orderOf orders.Same = Ordering·eq
+orderOf orders.More = Ordering·gt
+
+-- a member that was found, by its node
+unfoldable pub foundOf : Bytes → List ℕ → Found → Option Value
+foundOf s w founds.Nothing = none
+foundOf s w (founds.At n) = some (valueAt s w n)
+
+unfoldable pub FoundIn : Bytes → List ℕ → Found → Type 0
+FoundIn s w founds.Nothing = Unit {0}
+FoundIn s w (founds.At n) = HasNode s w n
+
+pub record FoundTold (s : Bytes) (w : List ℕ) (whole : Option Value) (r : Found) : Type 0 where
+  pub answers : whole ≡ foundOf s w r
+  pub bounds : FoundIn s w r

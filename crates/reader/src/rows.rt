@@ -1,0 +1,49 @@
+// Rows of the table, and members by name.
+ghost use mathlib.Core.Path.{_≡_};
+ghost use Prim.Native.Nat.{_+_, _*_, _≤_, _<_};
+ghost use lib.ListN.{length};
+ghost use Rattle.reader.specs.Bytes.{find};
+ghost use Rattle.reader.specs.Json.{entries};
+ghost use Rattle.reader.specs.Spans.{textAt};
+ghost use Rattle.reader.specs.Table.{startAt, afterAt, membersAt};
+ghost use Rattle.reader.specs.Cursor.{OnText};
+ghost use Rattle.reader.specs.Held.{HasMembers};
+ghost use Rattle.reader.specs.Answers.{FoundTold};
+
+pub enum Found {
+    Nothing,
+    At(usize),
+}
+
+// Where the text of a node starts.
+pub fn start_at(work: &[u32], node: usize) -> usize
+    requires { ⌜ (3 * node + 3 ≤ length (now work)) × (node < 4096) ⌝ }
+    ensures { λ r. ⌜ r ≡ startAt (now (work .entry)) node ⌝ }
+{
+    let w = work[3 * node];
+    (w / 8) as usize
+}
+
+// The node after all that a node holds.
+pub fn after_at(work: &[u32], node: usize) -> usize
+    requires { ⌜ (3 * node + 3 ≤ length (now work)) × (node < 4096) ⌝ }
+    ensures { λ r. ⌜ r ≡ afterAt (now (work .entry)) node ⌝ }
+{
+    work[3 * node + 2] as usize
+}
+
+// The value's node of the first member from `from` up to `end` whose name is the text at `name`.
+pub fn find(s: &[u8], work: &[u32], from: usize, end: usize, name: usize) -> Found
+    requires { ⌜ HasMembers (now s) (now work) from end × OnText (now s) name 0 ⌝ }
+    ensures { λ r. ⌜ FoundTold (now (s .entry)) (now (work .entry)) (find (textAt (now (s .entry)) name) (entries (membersAt (now (s .entry)) (now (work .entry)) from end))) r ⌝ }
+{
+    let mut k = from;
+    while k < end {
+        let a = start_at(work, k);
+        if crate::text::same(s, name, a) {
+            return Found::At(k + 1);
+        }
+        k = after_at(work, k + 1);
+    }
+    Found::Nothing
+}
