@@ -1,4 +1,6 @@
+pub mod Rules
+pub mod Guards
 pub mod Repeat
 pub mod Selected
-pub mod Checks
 pub mod Examples
+pub mod Limits

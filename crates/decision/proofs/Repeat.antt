@@ -1,280 +1,42 @@
--- The third demand, proved of the definitions.
+-- The third demand, proved: two whole decisions, from the rules and the guards tried again.
 -- Assumes nothing.
 use mathlib.Core.Bool.{Bool, false, true, true≢false}
 use mathlib.Core.List.{List, List·Memᴰ, [], _∷_}
 use mathlib.Core.Logic.{inl, inr, _≢_, _⊎_}
 use mathlib.Core.Option.{Option, none, some}
 use mathlib.Core.Path.{ap, ap₂, refl, subst, sym, _∙_, _≡_}
-use Prim.Native.Nat.{ℕ, _+_, _≤_}
-use native.Mathlib.Nat.{le-refl, le-trans}
+use Prim.Native.Nat.{ℕ, _+_, _<_, _≤_}
 use native.Mathlib.Omega.{arith}
 use lib.Dec.{leb}
 use lib.ListN.{length}
-use Rattle.decision.specs.Decide.{check, decideCall, guard as Decide·guard, select}
-use Rattle.decision.specs.Demand.{Demand, Kept, NamesVanished, Repeated, SameRules, Step, Unobservable, Vanished, atGuard, atRule, guard, rule, settled, settledBy, upTo, upToGuard, upToOutcome}
+use Rattle.decision.proofs.Guards.{GuardRefused, GuardShape, GuardTried, GuardsLater, chosen, exhausted, guard-at, later-select, stopped}
+use Rattle.decision.proofs.Rules.{RuleRefused, RuleShape, RulesLater, later-check, rule-at}
+use Rattle.decision.specs.Decide.{decideCall}
+use Rattle.decision.specs.Outcomes.{guard as Decide·guard, select}
+use Rattle.decision.specs.Rules.{check}
+use Rattle.decision.specs.Demand.{Demand, Kept, NamesVanished, Repeated, SameRules, Step, Unobservable, Vanished, atGuard, atRule, guard, isGuarded, isStep, rule, settled, settledBy, upTo, upToGuard, upToOutcome}
 use Rattle.decision.specs.Entry.{Reply, call, decide, enough, fitted, reply, workWords}
 use Rattle.decision.specs.Line.{refusalLine, refusalNumber, verdictLine}
-use Rattle.decision.specs.Outcomes.{Placed, admit, asAdmitted, eligible, firstFrom, isWrong}
+use Rattle.decision.specs.Admission.{admit, isWrong}
+use Rattle.decision.specs.Decide.{asAdmitted}
+use Rattle.decision.specs.Outcomes.{Placed, at, eligible, firstFrom}
 use Rattle.decision.specs.Verdict.{Verdict, passed}
-use Rattle.evaluation.proofs.Later.{Alike, Both, Every, Fact, Later, Lost, alike-evaluate, every-left, every-right, known-gives, later-evaluate, truthGone, truthKept}
-use Rattle.evaluation.proofs.Names.{ascending-mem}
-use Rattle.evaluation.specs.Evaluate.{Answer, evaluate}
+use Rattle.evaluation.proofs.Later.{Alike, Every, Fact, Lost, alike-evaluate, every-left, every-right, known-gives}
+use Rattle.evaluation.specs.Evaluate.{Answer}
 use Rattle.evaluation.specs.Expression.{gives}
 use Rattle.evaluation.specs.Names.{Names, ascending}
 use Rattle.evaluation.specs.Readings.{IsReading, Reading, clean, guardReadings, readings, ruleReadings, sheetReadings, whenReadings}
-use Rattle.evaluation.specs.Truth.{False, True, Truth, Unknown}
-use Rattle.reader.proofs.Laws.{bind-ok, leb-true, ltb-true, ok-injective}
 use Rattle.evaluation.specs.Semantics.{kernel}
+use Rattle.evaluation.specs.Truth.{False, True, Unknown}
+use Rattle.reader.proofs.Laws.{bind-ok, leb-true, ltb-true, ok-injective}
 use Rattle.reader.specs.Bytes.{Bytes, isOneOf}
 use Rattle.reader.specs.Json.{Value, isNull, null}
-use Rattle.reader.specs.Refusal.{Refusal, Result, Rules, guardUnknown, noInput, noOutcome, ok, orElse, preconditions, refused, ruleFalse, ruleUnknown, _>>=_}
+use Rattle.reader.specs.Refusal.{Refusal, Result, guardUnknown, noInput, noOutcome, ok, orElse, preconditions, refused, ruleFalse, ruleUnknown, _>>=_}
 use Rattle.sheet.specs.Condition.{Condition}
 use Rattle.sheet.specs.Outcome.{Effect, Outcome, moves, stays}
 use Rattle.sheet.specs.Rule.{Rule}
 use Rattle.sheet.specs.Sheet.{Sheet, readSheet}
-
--- one rule more
-module _ (s : Sheet Condition) (kind : Rules) (i : ℕ) (r : Rule Condition) (rs : List (Rule Condition)) (a : Answer) (e : evaluate kernel s [] (r .assert) ≡ ok a) where
-  check-true : a .truth ≡ True → check s kind i (r ∷ rs) ≡ check s kind (i + 1) rs
-  unfolding check
-  check-true t = bind-ok _ e ∙ rw t refl
-
-  check-false : a .truth ≡ False → check s kind i (r ∷ rs) ≡ refused (ruleFalse kind i (r .name) (r .message))
-  unfolding check
-  check-false t = bind-ok _ e ∙ rw t refl
-
-  check-unknown : a .truth ≡ Unknown → check s kind i (r ∷ rs) ≡ refused (ruleUnknown kind i (r .name) (r .message) (ascending (a .names)))
-  unfolding check
-  check-unknown t = bind-ok _ e ∙ rw t refl
-
-check-none : (s : Sheet Condition) (i : ℕ) → check s preconditions i [] ≡ ok passed
-unfolding check
-check-none s i = refl
-
-settled-false : (i : ℕ) (n m : Option Bytes) → settledBy (ruleFalse preconditions i n m) ≡ some (upTo i)
-unfolding settledBy
-settled-false i n m = refl
-
-settled-unknown : (i : ℕ) (n m : Option Bytes) (ns : Names) → settledBy (ruleUnknown preconditions i n m ns) ≡ some (upTo i)
-unfolding settledBy
-settled-unknown i n m ns = refl
-
--- where an earlier result settled: passed, or refused at a rule from a place on
-abbrev RuleShape : ℕ → Result Verdict → Type 0
-RuleShape i x = (x ≡ ok passed) ⊎ ((q : Refusal) × (j : ℕ) × (x ≡ refused q) × (settledBy q ≡ some (upTo j)) × (i ≤ j))
-
-shape-down : (i : ℕ) (x : Result Verdict) → RuleShape (i + 1) x → RuleShape i x
-shape-down i x (inl p) = inl p
-shape-down i x (inr p) = inr (p .0, p .1, p .2, p .3, le-trans (omega arith) (p .4))
-
-module _ (Erased : Bytes → Type 0) where
-  record RuleRefused (x y : Result Verdict) : Type 0 where
-    place : ℕ
-    name : Option Bytes
-    message : Option Bytes
-    names : Names
-    isNew : y ≡ refused (ruleUnknown preconditions place name message names)
-    tried : RuleShape place x
-    named : Lost Erased names ⊎ ((ms : Names) × (x ≡ refused (ruleUnknown preconditions place name message ms)))
-
-  record RulesLater (i : ℕ) (x y : Result Verdict) : Type 0 where
-    shape : RuleShape i x
-    later : (y ≡ x) ⊎ RuleRefused x y
-
-  lost-ascending : (ns : Names) → Lost Erased ns → Lost Erased (ascending ns)
-  lost-ascending ns l = (l .0, l .1, ascending-mem _ ns (l .2))
-
-  module _ (old new : Sheet Condition) where
-    -- one rule more: the case of the rule itself, and of those behind it
-    later-rule : (i : ℕ) (r : Rule Condition) (rs : List (Rule Condition)) → (k : Both (Later Erased) (evaluate kernel old [] (r .assert)) (evaluate kernel new [] (r .assert))) → RulesLater (i + 1) (check old preconditions (i + 1) rs) (check new preconditions (i + 1) rs) → RulesLater i (check old preconditions i (r ∷ rs)) (check new preconditions i (r ∷ rs))
-    later-rule i r rs k below = go (k .rel) (k .was .truth) refl
-      where
-        shapeHere : (q : Refusal) → check old preconditions i (r ∷ rs) ≡ refused q → settledBy q ≡ some (upTo i) → RuleShape i (check old preconditions i (r ∷ rs))
-        shapeHere q e f = inr (q, i, e, f, le-refl i)
-
-        shapeOf : (t : Truth) → k .was .truth ≡ t → RuleShape i (check old preconditions i (r ∷ rs))
-        shapeOf True p = rw (check-true old preconditions i r rs (k .was) (k .isWas) p) (shape-down i _ (below .shape))
-        shapeOf False p = shapeHere _ (check-false old preconditions i r rs (k .was) (k .isWas) p) (settled-false i (r .name) (r .message))
-        shapeOf Unknown p = shapeHere _ (check-unknown old preconditions i r rs (k .was) (k .isWas) p) (settled-unknown i (r .name) (r .message) (ascending (k .was .names)))
-
-        go : Later Erased (k .was) (k .now) → (t : Truth) → k .was .truth ≡ t → RulesLater i (check old preconditions i (r ∷ rs)) (check new preconditions i (r ∷ rs))
-        go (truthKept q) True p = rw (check-true old preconditions i r rs (k .was) (k .isWas) p, check-true new preconditions i r rs (k .now) (k .isNow) (q ∙ p)) (record { shape = shape-down i _ (below .shape); later = below .later })
-        go (truthKept q) False p = record { shape = shapeOf False p; later = inl (check-false new preconditions i r rs (k .now) (k .isNow) (q ∙ p) ∙ sym (check-false old preconditions i r rs (k .was) (k .isWas) p)) }
-        go (truthKept q) Unknown p =
-            record {
-              shape = shapeOf Unknown p;
-              later =
-                  inr
-                  (record {
-                    place = i;
-                    name = r .name;
-                    message = r .message;
-                    names = _;
-                    isNew = check-unknown new preconditions i r rs (k .now) (k .isNow) (q ∙ p);
-                    tried = shapeOf Unknown p;
-                    named = inr (_, check-unknown old preconditions i r rs (k .was) (k .isWas) p);
-                  });
-            }
-        go (truthGone u l) t p =
-            record {
-              shape = shapeOf t p;
-              later =
-                  inr
-                  (record {
-                    place = i;
-                    name = r .name;
-                    message = r .message;
-                    names = _;
-                    isNew = check-unknown new preconditions i r rs (k .now) (k .isNow) u;
-                    tried = shapeOf t p;
-                    named = inl (lost-ascending (k .now .names) l);
-                  });
-            }
-
-    later-check : (i : ℕ) (rs : List (Rule Condition)) → Every (Fact kernel Erased old new) (ruleReadings rs) → RulesLater i (check old preconditions i rs) (check new preconditions i rs)
-    unfolding ruleReadings
-    later-check i [] h = record { shape = inl (check-none old i); later = inl (check-none new i ∙ sym (check-none old i)) }
-    later-check i (r ∷ rs) h =
-        later-rule
-        i
-        r
-        rs
-        (later-evaluate kernel Erased old new [] (r .assert) (every-left (readings [] (r .assert)) (ruleReadings rs) h))
-        (later-check (i + 1) rs (every-right (readings [] (r .assert)) (ruleReadings rs) h))
-
--- one outcome more
-module _ (s : Sheet Condition) (i : ℕ) (o : Outcome Condition) (os : List (Outcome Condition)) where
-  pub select-skip : eligible (s .state) o ≡ false → select s i (o ∷ os) ≡ select s (i + 1) os
-  unfolding select
-  select-skip e = rw (e, select) refl
-
-  module _ (a : Answer) (e : eligible (s .state) o ≡ true) (v : Decide·guard s (o .when) ≡ ok a) where
-    pub select-true : a .truth ≡ True → select s i (o ∷ os) ≡ ok (record { place = i; outcome = o })
-    unfolding select
-    select-true t = rw (e, select) (bind-ok _ v ∙ rw t refl)
-
-    pub select-false : a .truth ≡ False → select s i (o ∷ os) ≡ select s (i + 1) os
-    unfolding select
-    select-false t = rw (e, select) (bind-ok _ v ∙ rw t refl)
-
-    pub select-unknown : a .truth ≡ Unknown → select s i (o ∷ os) ≡ refused (guardUnknown i (o .name) (ascending (a .names)))
-    unfolding select
-    select-unknown t = rw (e, select) (bind-ok _ v ∙ rw t refl)
-
-pub select-none : (s : Sheet Condition) (i : ℕ) → select s i [] ≡ refused noOutcome
-unfolding select
-select-none s i = refl
-
--- where an earlier selection settled, from a place on
-pub data GuardShape (i : ℕ) (x : Result Placed) : Type 0 where
-  chosen : (p : Placed) → x ≡ ok p → i ≤ p .place → GuardShape i x
-  exhausted : x ≡ refused noOutcome → GuardShape i x
-  stopped : (j : ℕ) (n : Bytes) (ns : Names) → x ≡ refused (guardUnknown j n ns) → i ≤ j → GuardShape i x
-
-guard-shape-down : (i : ℕ) (x : Result Placed) → GuardShape (i + 1) x → GuardShape i x
-guard-shape-down i x (chosen p e h) = chosen p e (le-trans (omega arith) h)
-guard-shape-down i x (exhausted e) = exhausted e
-guard-shape-down i x (stopped j n ns e h) = stopped j n ns e (le-trans (omega arith) h)
-
--- a guard at a place counts: the selection came later, or by that guard
-abbrev GuardTried : ℕ → Result Placed → Type 0
-GuardTried i x = GuardShape (i + 1) x ⊎ ((x ≡ refused noOutcome) ⊎ (((p : Placed) × (c : Condition) × (x ≡ ok p) × (p .outcome .when ≡ some c) × (i ≤ p .place)) ⊎ ((j : ℕ) × (n : Bytes) × (ns : Names) × (x ≡ refused (guardUnknown j n ns)) × (i ≤ j))))
-
-module _ (Erased : Bytes → Type 0) where
-  record GuardRefused (x y : Result Placed) : Type 0 where
-    place : ℕ
-    name : Bytes
-    names : Names
-    isNew : y ≡ refused (guardUnknown place name names)
-    tried : GuardTried place x
-    named : Lost Erased names ⊎ ((ms : Names) × (x ≡ refused (guardUnknown place name ms)))
-
-  record GuardsLater (i : ℕ) (x y : Result Placed) : Type 0 where
-    shape : GuardShape i x
-    later : (y ≡ x) ⊎ GuardRefused x y
-
-  record GuardLater (old new : Sheet Condition) (w : Option Condition) : Type 0 where
-    answers : Both (Later Erased) (Decide·guard old w) (Decide·guard new w)
-    has : answers .now .truth ≡ Unknown → (c : Condition) × (w ≡ some c)
-
-  module _ (old new : Sheet Condition) where
-    later-guard : (w : Option Condition) → Every (Fact kernel Erased old new) (whenReadings w) → GuardLater old new w
-    unfolding Decide·guard
-    later-guard none h = record { answers = record { was = _; now = _; isWas = refl; isNow = refl; rel = truthKept refl }; has = λ e. absurd (true≢false (ap isTrue e)) }
-      where
-        isTrue : Truth → Bool
-        isTrue True = true
-        isTrue False = false
-        isTrue Unknown = false
-    later-guard (some c) h = record { answers = later-evaluate kernel Erased old new [] c h; has = λ e. (c, refl) }
-
-    -- one outcome more, eligible on both sheets or on neither
-    later-outcome : (i : ℕ) (o : Outcome Condition) (os : List (Outcome Condition)) → eligible (new .state) o ≡ eligible (old .state) o → GuardLater old new (o .when) → GuardsLater (i + 1) (select old (i + 1) os) (select new (i + 1) os) → GuardsLater i (select old i (o ∷ os)) (select new i (o ∷ os))
-    later-outcome i o os same g below = by (eligible (old .state) o) refl
-      where
-        k : Both (Later Erased) (Decide·guard old (o .when)) (Decide·guard new (o .when))
-        k = g .answers
-
-        passOn : select old i (o ∷ os) ≡ select old (i + 1) os → select new i (o ∷ os) ≡ select new (i + 1) os → GuardsLater i (select old i (o ∷ os)) (select new i (o ∷ os))
-        passOn p q = rw (p, q) (record { shape = guard-shape-down i _ (below .shape); later = below .later })
-
-        shapeOf : eligible (old .state) o ≡ true → (t : Truth) → k .was .truth ≡ t → GuardShape i (select old i (o ∷ os))
-        shapeOf e True p = chosen _ (select-true old i o os (k .was) e (k .isWas) p) (le-refl i)
-        shapeOf e False p = rw (select-false old i o os (k .was) e (k .isWas) p) (guard-shape-down i _ (below .shape))
-        shapeOf e Unknown p = stopped i _ _ (select-unknown old i o os (k .was) e (k .isWas) p) (le-refl i)
-
-        triedOf : eligible (old .state) o ≡ true → k .now .truth ≡ Unknown → (t : Truth) → k .was .truth ≡ t → GuardTried i (select old i (o ∷ os))
-        triedOf e u True p = inr (inr (inl (_, g .has u .0, select-true old i o os (k .was) e (k .isWas) p, g .has u .1, le-refl i)))
-        triedOf e u False p = rw (select-false old i o os (k .was) e (k .isWas) p) (inl (below .shape))
-        triedOf e u Unknown p = inr (inr (inr (i, _, _, select-unknown old i o os (k .was) e (k .isWas) p, le-refl i)))
-
-        go : eligible (old .state) o ≡ true → eligible (new .state) o ≡ true → Later Erased (k .was) (k .now) → (t : Truth) → k .was .truth ≡ t → GuardsLater i (select old i (o ∷ os)) (select new i (o ∷ os))
-        go e f (truthKept q) True p = record { shape = shapeOf e True p; later = inl (select-true new i o os (k .now) f (k .isNow) (q ∙ p) ∙ sym (select-true old i o os (k .was) e (k .isWas) p)) }
-        go e f (truthKept q) False p = passOn (select-false old i o os (k .was) e (k .isWas) p) (select-false new i o os (k .now) f (k .isNow) (q ∙ p))
-        go e f (truthKept q) Unknown p =
-            record {
-              shape = shapeOf e Unknown p;
-              later =
-                  inr
-                  (record {
-                    place = i;
-                    name = o .name;
-                    names = _;
-                    isNew = select-unknown new i o os (k .now) f (k .isNow) (q ∙ p);
-                    tried = triedOf e (q ∙ p) Unknown p;
-                    named = inr (_, select-unknown old i o os (k .was) e (k .isWas) p);
-                  });
-            }
-        go e f (truthGone u l) t p =
-            record {
-              shape = shapeOf e t p;
-              later =
-                  inr
-                  (record {
-                    place = i;
-                    name = o .name;
-                    names = _;
-                    isNew = select-unknown new i o os (k .now) f (k .isNow) u;
-                    tried = triedOf e u t p;
-                    named = inl (lost-ascending Erased (k .now .names) l);
-                  });
-            }
-
-        by : (b : Bool) → eligible (old .state) o ≡ b → GuardsLater i (select old i (o ∷ os)) (select new i (o ∷ os))
-        by false e = passOn (select-skip old i o os e) (select-skip new i o os (same ∙ e))
-        by true e = go e (same ∙ e) (k .rel) (k .was .truth) refl
-
-    later-select : (i : ℕ) (os : List (Outcome Condition)) → ((o : Outcome Condition) → eligible (new .state) o ≡ eligible (old .state) o) → Every (Fact kernel Erased old new) (guardReadings os) → GuardsLater i (select old i os) (select new i os)
-    unfolding guardReadings
-    later-select i [] same h = record { shape = exhausted (select-none old i); later = inl (select-none new i ∙ sym (select-none old i)) }
-    later-select i (o ∷ os) same h =
-        later-outcome
-        i
-        o
-        os
-        (same o)
-        (later-guard (o .when) (every-left (whenReadings (o .when)) (guardReadings os) h))
-        (later-select (i + 1) os same (every-right (whenReadings (o .when)) (guardReadings os) h))
+use Rattle.evaluation.proofs.Names.{ascending-mem}
 
 -- a decision by its parts
 decideFrom : Sheet Condition → Option Bytes → List (Rule Condition) → List (Outcome Condition) → List Bytes → Result Verdict
@@ -398,6 +160,7 @@ module _ (old new : Sheet Condition) (same : SameRules old new) where
     names : Names
     unobservable : Unobservable refusal step names
     isNew : decideCall new ≡ refused refusal
+    isTried : isStep old step ≡ true
     tried : settled old step ≡ true
     named : NamesVanished old new names ⊎ ((q : Refusal) × (ms : Names) × (decideCall old ≡ refused q) × Unobservable q step ms)
 
@@ -416,6 +179,17 @@ module _ (old new : Sheet Condition) (same : SameRules old new) where
 
   oldParts : (st : Option Bytes) → old .state ≡ st → decideCall old ≡ decideFrom old st (old .preconditions) (old .outcomes) (old .states)
   oldParts st e = decide-parts old ∙ cc
+
+  rule-step : (j : ℕ) → (k : ℕ) × (j ≡ 0 + k) × (k < length (old .preconditions)) → isStep old (rule j) ≡ true
+  unfolding isStep
+  rule-step j f = ltb-true j (length (old .preconditions)) (omega (arith, f .1, f .2))
+
+  guard-step : (j : ℕ) → (k : ℕ) × (j ≡ 0 + k) × (isGuarded (new .state) (at 0 k (old .outcomes)) ≡ true) → isStep old (guard j) ≡ true
+  unfolding isStep
+  guard-step j f =
+      let p : f .0 ≡ j = omega (arith, f .1) in
+      let q = same .state in
+      ap (λ (k : ℕ). isGuarded (old .state) (at 0 k (old .outcomes))) (sym p) ∙ ap (λ (st : Option Bytes). isGuarded st (at 0 (f .0) (old .outcomes))) (sym q) ∙ f .2
 
   eligible-same : (o : Outcome Condition) → eligible (new .state) o ≡ eligible (old .state) o
   eligible-same o = ap (λ (st : Option Bytes). eligible st o) (same .state)
@@ -450,6 +224,7 @@ module _ (old new : Sheet Condition) (same : SameRules old new) where
             names = r .names;
             unobservable = atRule;
             isNew = newParts (some x) st ∙ refused-rules new x _ _ _ _ (r .isNew);
+            isTried = rule-step (r .place) (rule-at Erased old new 0 (old .preconditions) (every-left (ruleReadings (old .preconditions)) (guardReadings (old .outcomes)) facts) (r .place) (r .name) (r .message) (r .names) (r .isNew));
             tried = ruleTried (r .place) (r .tried);
             named = by (r .named);
           }
@@ -473,6 +248,7 @@ module _ (old new : Sheet Condition) (same : SameRules old new) where
               names = r .names;
               unobservable = atGuard;
               isNew = newSelect ∙ ap (λ (y : Result Placed). y >>= admitted-from (old .states) (old .outcomes) x) (r .isNew);
+              isTried = guard-step (r .place) (guard-at Erased old new 0 (old .outcomes) (every-right (ruleReadings (old .preconditions)) (guardReadings (old .outcomes)) facts) (r .place) (r .name) (r .names) (r .isNew));
               tried = guard-counts old x st pass (r .place) (r .tried);
               named = by (r .named);
             }
@@ -654,6 +430,7 @@ demand s s′ work work′ output output′ old new w w′ e e′ n n′ same cl
           names = d .names;
           unobservable = d .unobservable;
           isReply = newReply ∙ ap plain-reply (d .isNew);
-          tried = d .tried;
+          isTried = d .isTried;
+          upToSettled = d .tried;
           named = d .named;
         })

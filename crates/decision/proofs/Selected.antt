@@ -1,16 +1,17 @@
--- The second demand's claims about truth and selection, of the definitions.
+-- The outcome selected is the first eligible one with no guard or a True one, and conversely.
 -- Assumes nothing.
 use mathlib.Core.Bool.{Bool, false, true, true≢false}
-use mathlib.Core.List.{List, List·Memᴰ, List·Memᴰ·cases-cons, [], _++_, _∷_}
+use mathlib.Core.List.{List, List·Memᴰ, List·Memᴰ·cases-cons, List·Memᴰ·head, List·Memᴰ·tail, [], _++_, _∷_}
 use mathlib.Core.Logic.{inl, inr, _⊎_}
 use mathlib.Core.Option.{Option}
 use mathlib.Core.Path.{ap, refl, subst, sym, _∙_, _≡_}
-use Prim.Native.Nat.{ℕ, _+_, _-_}
+use Prim.Native.Nat.{ℕ, _+_}
 use native.Mathlib.Omega.{arith}
 use lib.ListN.{length}
-use Rattle.decision.proofs.Repeat.{select-false, select-none, select-skip, select-true, select-unknown}
-use Rattle.decision.specs.Decide.{guard, select}
+use Rattle.decision.proofs.Guards.{select-false, select-none, select-skip, select-true, select-unknown}
+use Rattle.decision.specs.Outcomes.{guard, select}
 use Rattle.decision.specs.Outcomes.{Placed, eligible}
+use Rattle.decision.specs.Selection.{Answers, FirstTrue}
 use Rattle.evaluation.specs.Evaluate.{Answer}
 use Rattle.evaluation.specs.Truth.{False, True, Truth, Unknown}
 use Rattle.reader.proofs.Laws.{ok-injective}
@@ -18,20 +19,6 @@ use Rattle.reader.specs.Refusal.{Refusal, Result, noOutcome, ok, refused}
 use Rattle.sheet.specs.Condition.{Condition}
 use Rattle.sheet.specs.Outcome.{Outcome}
 use Rattle.sheet.specs.Sheet.{Sheet}
-
--- a guard that answers a truth; a missing one answers True
-abbrev pub Answers : Sheet Condition → Option Condition → Truth → Type 0
-Answers s w t = (a : Answer) × (guard s w ≡ ok a) × (a .truth ≡ t)
-
--- The outcome selected: the first eligible one whose guard is missing or True, each eligible one before it being False.
-pub record FirstTrue (s : Sheet Condition) (i : ℕ) (os : List (Outcome Condition)) (p : Placed) : Type 0 where
-  pub before : List (Outcome Condition)
-  pub behind : List (Outcome Condition)
-  pub split : os ≡ before ++ (p .outcome ∷ behind)
-  pub place : p .place ≡ i + length before
-  pub isEligible : eligible (s .state) (p .outcome) ≡ true
-  pub isTrue : Answers s (p .outcome .when) True
-  pub areFalse : (o : Outcome Condition) → List·Memᴰ o before → (eligible (s .state) o ≡ false) ⊎ Answers s (o .when) False
 
 -- one outcome that was passed over
 passed-over : (s : Sheet Condition) (i : ℕ) (o : Outcome Condition) (os : List (Outcome Condition)) (p : Placed) → (eligible (s .state) o ≡ false) ⊎ Answers s (o .when) False → FirstTrue s (i + 1) os p → FirstTrue s i (o ∷ os) p
@@ -76,3 +63,19 @@ selected-is-first s i (o ∷ os) p e = by (λ h. selected-is-first s (i + 1) os 
     by : (select s (i + 1) os ≡ ok p → FirstTrue s (i + 1) os p) → (b : Bool) → eligible (s .state) o ≡ b → FirstTrue s i (o ∷ os) p
     by below false q = passed-over s i o os p (inl q) (below (sym (select-skip s i o os q) ∙ e))
     by below true q = guarded below q (guard s (o .when)) refl
+
+-- Conversely, that one is selected.
+first-of : (s : Sheet Condition) (i : ℕ) (before behind : List (Outcome Condition)) (o : Outcome Condition) → eligible (s .state) o ≡ true → Answers s (o .when) True → ((x : Outcome Condition) → List·Memᴰ x before → (eligible (s .state) x ≡ false) ⊎ Answers s (x .when) False) → select s i (before ++ (o ∷ behind)) ≡ ok (record { place = i + length before; outcome = o })
+first-of s i [] behind o e a h = select-true s i o behind (a .0) e (a .1) (a .2) ∙ ap (λ (k : ℕ). ok (record { place = k; outcome = o })) (omega arith)
+first-of s i (x ∷ before) behind o e a h = by (h x (List·Memᴰ·head refl)) ∙ first-of s (i + 1) before behind o e a (λ y m. h y (List·Memᴰ·tail m)) ∙ ap (λ (k : ℕ). ok (record { place = k; outcome = o })) (omega arith)
+  where
+    by : (eligible (s .state) x ≡ false) ⊎ Answers s (x .when) False → select s i (x ∷ (before ++ (o ∷ behind))) ≡ select s (i + 1) (before ++ (o ∷ behind))
+    by (inl n) = select-skip s i x (before ++ (o ∷ behind)) n
+    by (inr f) = over (eligible (s .state) x) refl
+      where
+        over : (b : Bool) → eligible (s .state) x ≡ b → select s i (x ∷ (before ++ (o ∷ behind))) ≡ select s (i + 1) (before ++ (o ∷ behind))
+        over false q = select-skip s i x (before ++ (o ∷ behind)) q
+        over true q = select-false s i x (before ++ (o ∷ behind)) (f .0) q (f .1) (f .2)
+
+pub first-is-selected : (s : Sheet Condition) (i : ℕ) (os : List (Outcome Condition)) (p : Placed) → FirstTrue s i os p → select s i os ≡ ok p
+first-is-selected s i os p f = let q = f .split in let r = f .place in let e = first-of s i (f .before) (f .behind) (p .outcome) (f .isEligible) (f .isTrue) (f .areFalse) in ap (select s i) q ∙ e ∙ ap (λ (k : ℕ). ok (record { place = k; outcome = p .outcome })) (sym r)

@@ -1,67 +1,25 @@
--- Rules, selection, admission and the decision on an accepted sheet.
+-- The calls on an accepted sheet.
 -- Assumes nothing.
-use mathlib.Core.Bool.{false, true}
-use mathlib.Core.List.{List, [], _∷_}
-use mathlib.Core.Option.{Option, none, some}
-use Prim.Native.Nat.{ℕ, _+_}
-use Rattle.decision.specs.Outcomes.{Placed, admit, asAdmitted, asSelected, at, eligible}
-use Rattle.decision.specs.Verdict.{Verdict, answered, passed}
-use Rattle.evaluation.specs.Evaluate.{Answer, certain, evaluate}
+use mathlib.Core.List.{[]}
+use Prim.Native.Nat.{ℕ}
+use Rattle.decision.specs.Admission.{admit}
+use Rattle.decision.specs.Outcomes.{Placed, at, select}
+use Rattle.decision.specs.Rules.{check}
+use Rattle.decision.specs.Verdict.{Verdict, admitted, answered, selected}
+use Rattle.evaluation.specs.Evaluate.{evaluate}
 use Rattle.evaluation.specs.Names.{ascending}
 use Rattle.evaluation.specs.Semantics.{kernel}
-use Rattle.evaluation.specs.Truth.{False, True, Unknown}
-use Rattle.reader.specs.Refusal.{Result, Rules, guardUnknown, invariants, noInput, noOutcome, ok, orElse, preconditions, refused, ruleFalse, ruleUnknown, _>>=_}
+use Rattle.reader.specs.Refusal.{Result, _>>=_, invariants, noInput, ok, orElse, preconditions}
 use Rattle.sheet.specs.Condition.{Condition}
-use Rattle.sheet.specs.Outcome.{Outcome}
-use Rattle.sheet.specs.Rule.{Rule}
 use Rattle.sheet.specs.Sheet.{Sheet}
 
+abbrev pub asSelected : Placed → Verdict
+asSelected p = selected (p .place) (p .outcome .name)
+
+abbrev pub asAdmitted : Placed → Verdict
+asAdmitted p = admitted (p .place) (p .outcome .name)
+
 module _ (sheet : Sheet Condition) where
-  -- the first rule that is not True
-  unfoldable pub check : Rules → ℕ → List (Rule Condition) → Result Verdict
-  unfolding evaluate ascending
-  check kind i [] = ok passed
-  check kind i (r ∷ rs) = do
-    a ← evaluate kernel sheet [] (r .assert)
-    elim
-        (a .truth) [
-          | True ↦
-              check kind (i + 1) rs
-          | False ↦
-              refused (ruleFalse kind i (r .name) (r .message))
-          | Unknown ↦
-              refused (ruleUnknown kind i (r .name) (r .message) (ascending (a .names)))
-        ]
-
-  -- a guard's answer; a missing guard is True
-  unfoldable pub guard : Option Condition → Result Answer
-  unfolding evaluate
-  guard none = ok (certain true)
-  guard (some c) = evaluate kernel sheet [] c
-
-  -- the first eligible outcome with no guard or a True one
-  unfoldable pub select : ℕ → List (Outcome Condition) → Result Placed
-  unfolding guard ascending eligible
-  select i [] = refused noOutcome
-  select i (o ∷ os) =
-      elim
-      (eligible (sheet .state) o) [
-        | false ↦
-            select (i + 1) os
-        | true ↦
-            (do
-              a ← guard (o .when)
-              elim
-                  (a .truth) [
-                    | True ↦
-                        ok (record { place = i; outcome = o })
-                    | False ↦
-                        select (i + 1) os
-                    | Unknown ↦
-                        refused (guardUnknown i (o .name) (ascending (a .names)))
-                  ])
-      ]
-
   -- the calls
   unfoldable pub evaluateCall : Result Verdict
   unfolding evaluate ascending
@@ -72,16 +30,16 @@ module _ (sheet : Sheet Condition) where
 
   unfoldable pub preconditionsCall : Result Verdict
   unfolding check
-  preconditionsCall = check preconditions 0 (sheet .preconditions)
+  preconditionsCall = check sheet preconditions 0 (sheet .preconditions)
 
   unfoldable pub invariantsCall : Result Verdict
   unfolding check
-  invariantsCall = check invariants 0 (sheet .invariants)
+  invariantsCall = check sheet invariants 0 (sheet .invariants)
 
   unfoldable pub selectCall : Result Verdict
   unfolding select
   selectCall = do
-    p ← select 0 (sheet .outcomes)
+    p ← select sheet 0 (sheet .outcomes)
     ok (asSelected p)
 
   unfoldable pub admitCall : ℕ → Result Verdict
@@ -96,7 +54,7 @@ module _ (sheet : Sheet Condition) where
   unfolding check select admit
   decideCall = do
     s ← orElse (sheet .state) noInput
-    _ ← check preconditions 0 (sheet .preconditions)
-    p ← select 0 (sheet .outcomes)
+    _ ← check sheet preconditions 0 (sheet .preconditions)
+    p ← select sheet 0 (sheet .outcomes)
     q ← admit (sheet .states) (sheet .outcomes) s p
     ok (asAdmitted q)

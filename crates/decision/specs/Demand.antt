@@ -1,16 +1,18 @@
--- The third demand: a decision that is run again. Clean rules, readings, and one claim about two whole Decide calls.
+-- The third demand: a decision that is run again. What must be the same, what may change, and one claim about two whole Decide calls.
 -- Assumes nothing.
-use mathlib.Core.Bool.{Bool, false, true}
+use mathlib.Core.Bool.{Bool, false, true, _&&_}
 use mathlib.Core.List.{List·Memᴰ, [], _∷_}
 use mathlib.Core.Logic.{_≢_, _⊎_}
 use mathlib.Core.Option.{Option, none, some}
 use mathlib.Core.Path.{_≡_}
 use Prim.Native.Nat.{ℕ, _≤_}
 use lib.Dec.{leb, ltb}
-use Rattle.decision.specs.Decide.{decideCall, select}
+use lib.ListN.{length}
+use Rattle.decision.specs.Decide.{decideCall}
+use Rattle.decision.specs.Outcomes.{select}
 use Rattle.decision.specs.Entry.{Reply, decide, workWords}
 use Rattle.decision.specs.Line.{refusalLine, refusalNumber}
-use Rattle.decision.specs.Outcomes.{Placed}
+use Rattle.decision.specs.Outcomes.{Placed, at, eligible}
 use Rattle.evaluation.specs.Expression.{gives}
 use Rattle.evaluation.specs.Names.{Names}
 use Rattle.evaluation.specs.Readings.{IsReading, Reading, clean}
@@ -49,6 +51,20 @@ module _ (old new : Sheet Condition) where
 -- a rule or a guard, by its place
 pub data Step : Type 0 where
   rule guard : ℕ → Step
+
+-- a step that is tried: a rule, or the guard of an eligible outcome
+abbrev pub hasGuard : Option Condition → Bool
+hasGuard none = false
+hasGuard (some c) = true
+
+abbrev pub isGuarded : Option Bytes → Option Placed → Bool
+isGuarded state none = false
+isGuarded state (some p) = eligible state (p .outcome) && hasGuard (p .outcome .when)
+
+unfoldable pub isStep : Sheet Condition → Step → Bool
+unfolding at eligible
+isStep s (rule k) = ltb k (length (s .preconditions))
+isStep s (guard k) = isGuarded (s .state) (at 0 k (s .outcomes))
 
 -- unobservable refusals, the step at which they stand, and their names
 pub data Unobservable : Refusal → Step → Names → Type 0 where
@@ -119,7 +135,8 @@ pub record Repeated (old new : Sheet Condition) (r : Reply) : Type 0 where
   pub names : Names
   pub unobservable : Unobservable refusal step names
   pub isReply : r ≡ record { number = refusalNumber refusal; line = refusalLine refusal }
-  pub tried : settled old step ≡ true
+  pub isTried : isStep old step ≡ true
+  pub upToSettled : settled old step ≡ true
   pub named : NamesVanished old new names ⊎ ((q : Refusal) × (ms : Names) × (decideCall old ≡ refused q) × Unobservable q step ms)
 
 unfoldable pub Demand : Type 0

@@ -1,14 +1,18 @@
--- Rules, selection, admission and the decision on an accepted sheet.
+-- The outcomes: which are eligible, their guards, and the one selected.
 -- Assumes nothing.
-use mathlib.Core.Bool.{Bool, false, not, true, _&&_}
+use mathlib.Core.Bool.{Bool, _&&_, false, not, true}
 use mathlib.Core.List.{List, [], _∷_}
 use mathlib.Core.Option.{Option, none, some}
-use Prim.Native.Nat.{suc, ℕ, _+_}
-use Rattle.decision.specs.Verdict.{Verdict, admitted, selected}
-use Rattle.reader.specs.Bytes.{Bytes, isOneOf, sameBytes}
-use Rattle.reader.specs.Refusal.{Result, notASource, ok, orElse, refused, wrongState}
+use Prim.Native.Nat.{_+_, suc, ℕ}
+use Rattle.evaluation.specs.Evaluate.{Answer, certain, evaluate}
+use Rattle.evaluation.specs.Names.{ascending}
+use Rattle.evaluation.specs.Semantics.{kernel}
+use Rattle.evaluation.specs.Truth.{False, True, Unknown}
+use Rattle.reader.specs.Bytes.{Bytes, sameBytes}
+use Rattle.reader.specs.Refusal.{Result, _>>=_, guardUnknown, noOutcome, ok, refused}
 use Rattle.sheet.specs.Condition.{Condition}
-use Rattle.sheet.specs.Outcome.{Effect, Outcome, moves, stays}
+use Rattle.sheet.specs.Outcome.{Outcome}
+use Rattle.sheet.specs.Sheet.{Sheet}
 
 -- an outcome at its place
 pub record Placed : Type 0 where
@@ -25,55 +29,42 @@ at i n [] = none
 at i ℕ.zero (o ∷ os) = some (record { place = i; outcome = o })
 at i (suc n) (o ∷ os) = at (i + 1) n os
 
-abbrev pub sources : Effect → List Bytes
-sources stays = []
-sources (moves to from) = from
-
 -- eligible: not for the wrong state, and no state of its own, no state in hand, or both equal
 abbrev pub fits : Option Bytes → Option Bytes → Bool
 fits none s = true
 fits (some i) none = true
 fits (some i) (some s) = sameBytes i s
 
-abbrev pub asSelected : Placed → Verdict
-asSelected p = selected (p .place) (p .outcome .name)
-
-abbrev pub asAdmitted : Placed → Verdict
-asAdmitted p = admitted (p .place) (p .outcome .name)
-
 unfoldable pub eligible : Option Bytes → Outcome Condition → Bool
 unfolding sameBytes
 eligible state o = not (o .wrongState) && fits (o .inState) state
 
-unfoldable pub isSource : Bytes → List (Outcome Condition) → Bool
-unfolding isOneOf
-isSource s [] = false
-isSource s (o ∷ os) = elim (isOneOf s (sources (o .effect))) [ true ↦ true | false ↦ isSource s os ]
+module _ (sheet : Sheet Condition) where
+  -- a guard's answer; a missing guard is True
+  unfoldable pub guard : Option Condition → Result Answer
+  unfolding evaluate
+  guard none = ok (certain true)
+  guard (some c) = evaluate kernel sheet [] c
 
--- a declared state that no outcome starts from
-abbrev pub isWrong : List Bytes → List (Outcome Condition) → Bytes → Bool
-isWrong states os s = isOneOf s states && not (isSource s os)
-
--- the outcome that is kept in a state, or the first for the wrong state
-unfoldable pub admit : List Bytes → List (Outcome Condition) → Bytes → Placed → Result Placed
-unfolding isOneOf isSource firstFrom
-admit states os s p =
-    elim
-    (p .outcome .effect) [
-      | stays ↦
-          ok p
-      | moves to from ↦
-          elim
-          (isOneOf s from) [
-            | true ↦
-                ok p
-            | false ↦
-                elim
-                (isWrong states os s) [
-                  | true ↦
-                      orElse (firstFrom (λ o. o .wrongState) 0 os) (wrongState s)
-                  | false ↦
-                      refused (notASource (p .place) (p .outcome .name) s from)
-                ]
-          ]
-    ]
+  -- the first eligible outcome with no guard or a True one
+  unfoldable pub select : ℕ → List (Outcome Condition) → Result Placed
+  unfolding guard ascending eligible
+  select i [] = refused noOutcome
+  select i (o ∷ os) =
+      elim
+      (eligible (sheet .state) o) [
+        | false ↦
+            select (i + 1) os
+        | true ↦
+            (do
+              a ← guard (o .when)
+              elim
+                  (a .truth) [
+                    | True ↦
+                        ok (record { place = i; outcome = o })
+                    | False ↦
+                        select (i + 1) os
+                    | Unknown ↦
+                        refused (guardUnknown i (o .name) (ascending (a .names)))
+                  ])
+      ]

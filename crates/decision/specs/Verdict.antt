@@ -1,11 +1,10 @@
--- Rules, selection, admission and the decision on an accepted sheet.
+-- What a call answers where nothing is refused.
 -- Assumes nothing.
 use Prim.Native.Nat.{ℕ}
 use Rattle.evaluation.specs.Names.{Names}
 use Rattle.evaluation.specs.Truth.{Truth}
 use Rattle.reader.specs.Bytes.{Bytes}
 
--- what a call answers
 pub data Verdict : Type 0 where
   answered : Truth → Names → Verdict
   passed : Verdict
