@@ -9,7 +9,7 @@ use Prim.Native.Nat.{suc, zero, ℕ, _*_, _+_, _-_, _≤_}
 use native.Mathlib.Omega.{arith}
 use lib.Dec.{eqb, leb, ltb}
 use lib.ListN.{length, length-append}
-use Rattle.reader.proofs.Laws.{bind-ok, eqb-false, eqb-no, eqb-same, eqb-true, leb-true, ltb-true, sameBytes-true}
+use Rattle.reader.proofs.Laws.{bind-ok, eqb-false, eqb-no, eqb-same, eqb-true, leb-true, ok-injective, ltb-true, sameBytes-true}
 use Rattle.reader.proofs.Sound.{AfterInt, From, between-in, between-not, between-of, between-out, json-sound, leb-false, leb-le, one-here, skip-ws}
 use Rattle.reader.specs.Bytes.{Bytes, ascii, between, choose, isOneOf, sameBytes}
 use Rattle.reader.specs.Grammar
@@ -687,3 +687,7 @@ json-complete s v w =
 -- Reading is RFC 8259 within the limits, exactly.
 pub read-exactly : (s : Bytes) (v : Value) → (Reader.json s ≡ ok v) ↔ Within v s
 read-exactly s v = (json-sound s v, json-complete s v)
+
+-- A text has one tree.
+pub one-tree : (s : Bytes) (v w : Value) → Within v s → Within w s → v ≡ w
+one-tree s v w p q = ok-injective (sym (json-complete s v p) ∙ json-complete s w q)
