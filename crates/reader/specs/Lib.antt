@@ -12,6 +12,7 @@ pub mod Grammar
 pub mod Spans
 pub mod Placing
 pub mod Table
+pub mod Marks
 pub mod Escapes
 pub mod Fits
 pub mod Cursor
