@@ -16,11 +16,11 @@ use Rattle.decision.specs.Outcomes.{guard as Decide·guard, select}
 use Rattle.decision.specs.Rules.{check}
 use Rattle.decision.specs.Demand.{Demand, Kept, NamesVanished, Repeated, SameRules, Step, Unobservable, Vanished, atGuard, atRule, guard, isGuarded, isStep, rule, settled, settledBy, upTo, upToGuard, upToOutcome}
 use Rattle.decision.specs.Entry.{Reply, call, decide, enough, fitted, reply, workWords}
-use Rattle.decision.specs.Line.{refusalLine, refusalNumber, verdictLine}
+use Rattle.line.specs.Line.{refusalLine, refusalNumber, verdictLine}
 use Rattle.decision.specs.Admission.{admit, isWrong}
 use Rattle.decision.specs.Decide.{asAdmitted}
 use Rattle.decision.specs.Outcomes.{Placed, at, eligible, firstFrom}
-use Rattle.decision.specs.Verdict.{Verdict, passed}
+use Rattle.line.specs.Verdict.{Verdict, passed}
 use Rattle.evaluation.proofs.Later.{Alike, Every, Fact, Lost, alike-evaluate, every-left, every-right, known-gives}
 use Rattle.evaluation.specs.Evaluate.{Answer}
 use Rattle.evaluation.specs.Expression.{gives}

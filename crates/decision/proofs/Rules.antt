@@ -11,7 +11,7 @@ use native.Mathlib.Omega.{arith}
 use lib.ListN.{length}
 use Rattle.decision.specs.Rules.{check}
 use Rattle.decision.specs.Demand.{settledBy, upTo}
-use Rattle.decision.specs.Verdict.{Verdict, passed}
+use Rattle.line.specs.Verdict.{Verdict, passed}
 use Rattle.evaluation.proofs.Later.{Both, Every, Fact, Later, Lost, every-left, every-right, later-evaluate, truthGone, truthKept}
 use Rattle.evaluation.proofs.Names.{ascending-mem}
 use Rattle.evaluation.specs.Evaluate.{Answer, evaluate}

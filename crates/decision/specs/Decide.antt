@@ -5,7 +5,7 @@ use Prim.Native.Nat.{ℕ}
 use Rattle.decision.specs.Admission.{admit}
 use Rattle.decision.specs.Outcomes.{Placed, at, select}
 use Rattle.decision.specs.Rules.{check}
-use Rattle.decision.specs.Verdict.{Verdict, admitted, answered, selected}
+use Rattle.line.specs.Verdict.{Verdict, admitted, answered, selected}
 use Rattle.evaluation.specs.Evaluate.{evaluate}
 use Rattle.evaluation.specs.Names.{ascending}
 use Rattle.evaluation.specs.Semantics.{kernel}

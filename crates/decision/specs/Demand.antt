@@ -11,7 +11,7 @@ use lib.ListN.{length}
 use Rattle.decision.specs.Decide.{decideCall}
 use Rattle.decision.specs.Outcomes.{select}
 use Rattle.decision.specs.Entry.{Reply, decide, workWords}
-use Rattle.decision.specs.Line.{refusalLine, refusalNumber}
+use Rattle.line.specs.Line.{refusalLine, refusalNumber}
 use Rattle.decision.specs.Outcomes.{Placed, at, eligible}
 use Rattle.evaluation.specs.Expression.{gives}
 use Rattle.evaluation.specs.Names.{Names}

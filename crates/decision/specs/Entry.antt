@@ -7,8 +7,8 @@ use Prim.Native.Nat.{ℕ}
 use lib.Dec.{leb}
 use lib.ListN.{drop, length, replicate}
 use Rattle.decision.specs.Decide.{admitCall, decideCall, evaluateCall, invariantsCall, preconditionsCall, selectCall}
-use Rattle.decision.specs.Line.{refusalLine, refusalNumber, verdictLine}
-use Rattle.decision.specs.Verdict.{Verdict}
+use Rattle.line.specs.Line.{refusalLine, refusalNumber, verdictLine}
+use Rattle.line.specs.Verdict.{Verdict}
 use Rattle.reader.specs.Bytes.{Bytes}
 use Rattle.reader.specs.Refusal.{Result, lineTooLong, ok, refused, workTooSmall, _>>=_}
 use Rattle.sheet.specs.Condition.{Condition}

@@ -1,9 +1,7 @@
-pub mod Verdict
 pub mod Rules
 pub mod Outcomes
 pub mod Admission
 pub mod Decide
-pub mod Line
 pub mod Entry
 pub mod Selection
 pub mod Demand

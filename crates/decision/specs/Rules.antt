@@ -2,7 +2,7 @@
 -- Assumes nothing.
 use mathlib.Core.List.{List, [], _∷_}
 use Prim.Native.Nat.{_+_, ℕ}
-use Rattle.decision.specs.Verdict.{Verdict, passed}
+use Rattle.line.specs.Verdict.{Verdict, passed}
 use Rattle.evaluation.specs.Evaluate.{evaluate}
 use Rattle.evaluation.specs.Names.{ascending}
 use Rattle.evaluation.specs.Semantics.{kernel}

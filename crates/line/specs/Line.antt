@@ -5,7 +5,7 @@ use mathlib.Core.List.{List, [], _++_, _∷_}
 use mathlib.Core.Option.{Option, none, some}
 use Prim.Native.Nat.{suc, zero, ℕ, _%_, _+_, _/_}
 use lib.Dec.{eqb, ltb}
-use Rattle.decision.specs.Verdict.{Verdict, admitted, answered, passed, selected}
+use Rattle.line.specs.Verdict.{Verdict, admitted, answered, passed, selected}
 use Rattle.evaluation.specs.Names.{Names}
 use Rattle.evaluation.specs.Truth.{False, True, Truth, Unknown}
 use Rattle.reader.specs.Bytes.{Bytes, ascii, choose}
