@@ -3,11 +3,11 @@
 use mathlib.Core.Bool.{Bool, false, true, true≢false}
 use mathlib.Core.List.{List·Memᴰ, List·Memᴰ·cases-cons, List·Memᴰ·head, List·Memᴰ·tail, [], _∷_}
 use mathlib.Core.Logic.{inl, inr, ⊎-elim, _⊎_, _↔_}
-use mathlib.Core.Path.{ap, refl, subst, sym, _∙_, _≡_}
+use mathlib.Core.Path.{refl, subst, sym, _∙_, _≡_}
 use Prim.Native.Nat.{Ordering, Ordering·eq, Ordering·gt, Ordering·lt}
-use Rattle.evaluation.specs.Names.{Named, Names, ascending, insertName}
+use Rattle.evaluation.specs.Names.{Ascends, Named, Names, ascending, follow, insertName, noneFollow}
 use Rattle.reader.proofs.Laws.{orderBytes-eq}
-use Rattle.reader.proofs.Sorted.{Less, less-order, less-trans, more-order, same-order, OrderView, isEq′, isGt, isLt, order-view}
+use Rattle.reader.proofs.Sorted.{Less, less-order, less-trans, same-order, OrderView, isEq′, isGt, isLt, order-view}
 use Rattle.reader.specs.Bytes.{Bytes, orderBytes}
 
 -- names keep their members when they are put in order
@@ -54,10 +54,13 @@ unfolding ascending
 ascending-only x [] h = h
 ascending-only x (m ∷ ms) h = ⊎-elim (λ e. List·Memᴰ·head e) (λ d. List·Memᴰ·tail (ascending-only x ms d)) (insertName-only m x (ascending ms) h)
 
--- each name below all that follow it
-data Ascends : Names → Type 0 where
-  noneFollow : Ascends []
-  follow : {n : Bytes} {ms : Names} → ((m : Bytes) → Named m ms → Less n m) → Ascends ms → Ascends (n ∷ ms)
+less-of : (s t : Bytes) → orderBytes s t ≡ Ordering·lt → Less s t
+less-of s t e = go (orderBytes s t) e (order-view s t)
+  where
+    go : (o : Ordering) → o ≡ Ordering·lt → OrderView s t o → Less s t
+    go o q (isLt l) = l
+    go o q (isEq′ p) = let z : _≡_ {A = Bool} true false = cc in absurd (true≢false z)
+    go o q (isGt l) = let z : _≡_ {A = Bool} true false = cc in absurd (true≢false z)
 
 insertName-ascends : (n : Bytes) (ms : Names) → Ascends ms → Ascends (insertName n ms)
 unfolding insertName
@@ -65,15 +68,15 @@ insertName-ascends n [] h = follow {n = n} {ms = []} (λ m k. elim k [ ]) noneFo
 insertName-ascends n (m ∷ ms) (follow above h) = go (insertName-ascends n ms h) (orderBytes n m) refl (order-view n m)
   where
     here : Less n m → (x : Bytes) → Named x (m ∷ ms) → Less n x
-    here l x k = ⊎-elim (λ e. rw e l) (λ d. less-trans l (above x d)) (List·Memᴰ·cases-cons k)
+    here l x k = ⊎-elim (λ e. rw e l) (λ d. less-trans l (less-of m x (above x d))) (List·Memᴰ·cases-cons k)
 
     further : Less m n → (x : Bytes) → Named x (insertName n ms) → Less m x
-    further l x k = ⊎-elim (λ e. rw e l) (λ d. above x d) (insertName-only n x ms k)
+    further l x k = ⊎-elim (λ e. rw e l) (λ d. less-of m x (above x d)) (insertName-only n x ms k)
 
     go : Ascends (insertName n ms) → (o : Ordering) → orderBytes n m ≡ o → OrderView n m o → Ascends (insertName n (m ∷ ms))
-    go below o q (isLt l) = rw (q, insertName) (follow {n = n} {ms = m ∷ ms} (here l) (follow {n = m} {ms = ms} above h))
+    go below o q (isLt l) = rw (q, insertName) (follow {n = n} {ms = m ∷ ms} (λ x k. less-order (here l x k)) (follow {n = m} {ms = ms} above h))
     go below o q (isEq′ e) = rw (q, insertName) (follow {n = m} {ms = ms} above h)
-    go below o q (isGt l) = rw (q, insertName) (follow {n = m} {ms = insertName n ms} (further l) below)
+    go below o q (isGt l) = rw (q, insertName) (follow {n = m} {ms = insertName n ms} (λ x k. less-order (further l x k)) below)
 
 ascending-ascends : (ms : Names) → Ascends (ascending ms)
 unfolding ascending
@@ -104,13 +107,17 @@ ascends-same (m ∷ ms) (n ∷ ns) (follow above a) (follow over b) f g =
 
     heads : (Covers ms ns → Covers ns ms → ms ≡ ns) → m ≡ n → m ∷ ms ≡ n ∷ ns
     heads below e =
-        let tails = below (λ x k. rest m n x e (above x k) (List·Memᴰ·cases-cons (f x (List·Memᴰ·tail k)))) (λ x k. rest n m x (sym e) (over x k) (List·Memᴰ·cases-cons (g x (List·Memᴰ·tail k)))) in
+        let tails = below (λ x k. rest m n x e (less-of m x (above x k)) (List·Memᴰ·cases-cons (f x (List·Memᴰ·tail k)))) (λ x k. rest n m x (sym e) (less-of n x (over x k)) (List·Memᴰ·cases-cons (g x (List·Memᴰ·tail k)))) in
         cc
 
     by : (Covers ms ns → Covers ns ms → ms ≡ ns) → (m ≡ n) ⊎ Named m ns → (n ≡ m) ⊎ Named n ms → m ∷ ms ≡ n ∷ ns
     by below (inl e) q = heads below e
     by below (inr d) (inl e) = heads below (sym e)
-    by below (inr d) (inr k) = never-less m (less-trans (above n k) (over m d))
+    by below (inr d) (inr k) = never-less m (less-trans (less-of m n (above n k)) (less-of n m (over m d)))
+
+-- The printed names are the names met, each once, ascending.
+pub printed-names : (ns : Names) → ((x : Bytes) → Named x (ascending ns) ↔ Named x ns) × Ascends (ascending ns)
+printed-names ns = (λ x. (ascending-only x ns, ascending-mem x ns), ascending-ascends ns)
 
 -- The printed names depend on the set of names only.
 pub ascending-set : (ms ns : Names) → ((x : Bytes) → Named x ms ↔ Named x ns) → ascending ms ≡ ascending ns

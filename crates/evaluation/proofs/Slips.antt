@@ -1,17 +1,20 @@
 -- The slips that the paper warns of, each ruled out for every sheet: `all` that stops at False, `gt` of texts Unknown, `$state` read as
 -- `from_state`, a written null counted as missing. (Exponents as machine integers: `numbers-exact` of the crate number.)
 -- Assumes nothing.
-use mathlib.Core.Bool.{false}
+use mathlib.Core.Bool.{Bool, false, _||_}
 use mathlib.Core.List.{[]}
+use mathlib.Core.Logic.{inl, inr, _⊎_}
+use mathlib.Core.Option.{Option, none, some}
 use mathlib.Core.Path.{refl, _∙_, _≡_}
+use Prim.Native.Nat.{Ordering}
 use Rattle.evaluation.specs.Evaluate.{Answer, evaluate, evaluateAll}
 use Rattle.evaluation.specs.Expression.{Env, gives}
-use Rattle.evaluation.specs.Forms.{holds}
+use Rattle.evaluation.specs.Forms.{holds, isGreater, isLess, numbers}
 use Rattle.evaluation.specs.Operand.{present, resolve}
-use Rattle.evaluation.specs.Semantics.{Semantics}
+use Rattle.evaluation.specs.Semantics.{Semantics, isSame}
 use Rattle.reader.proofs.Laws.{bind-ok}
 use Rattle.reader.specs.Bytes.{Bytes, ascii}
-use Rattle.reader.specs.Json.{Value, null, text}
+use Rattle.reader.specs.Json.{Value, asNumber, null, text}
 use Rattle.reader.specs.Refusal.{Refusal, ok, refused, _>>=_}
 use Rattle.sheet.specs.Condition.{Condition, Conditions, Form, Mode, also, gt, gte, lt, lte}
 use Rattle.sheet.specs.Sheet.{Sheet}
@@ -22,7 +25,7 @@ module _ (sem : Semantics) {C : Type 0} (sheet : Sheet C) where
   unfolding evaluate
   later-refusal env m c cs a r e f = bind-ok _ e ∙ rw (f, _>>=_) refl
 
-  pub state-is-to-state : gives sem sheet [] (ascii "state") ≡ gives sem sheet [] (ascii "to_state")
+  pub state-is-to-state : gives sem sheet [] (ascii "state") ≡ ok (some (text (sheet .toState)))
   unfolding gives
   state-is-to-state = refl
 
@@ -30,16 +33,25 @@ module _ (sem : Semantics) {C : Type 0} (sheet : Sheet C) where
   unfolding resolve
   null-is-present env = refl
 
--- an order of two texts is False, not Unknown: both are present
+-- an order of anything but two numbers is False, not Unknown
+unordered : (p : Ordering → Bool) (v w : Value) → (asNumber v ≡ none) ⊎ (asNumber w ≡ none) → numbers p v w ≡ false
+unordered p v w (inl e) = rw (e, numbers) refl
+unordered p v w (inr e) = go (asNumber v) refl
+  where
+    go : (o : Option Bytes) → asNumber v ≡ o → numbers p v w ≡ false
+    go none q = rw (q, numbers) refl
+    go (some s) q = rw (q, numbers, e) refl
+
 pub data IsOrder : Form → Type 0 where
   isGt : IsOrder gt
   isGte : IsOrder gte
   isLt : IsOrder lt
   isLte : IsOrder lte
 
-pub texts-not-ordered : (sem : Semantics) {f : Form} → IsOrder f → (s t : Bytes) → holds sem f (text s) (text t) ≡ false
+-- whatever is no number
+pub not-ordered : (sem : Semantics) {f : Form} → IsOrder f → (v w : Value) → (asNumber v ≡ none) ⊎ (asNumber w ≡ none) → holds sem f v w ≡ false
 unfolding holds
-texts-not-ordered sem isGt s t = refl
-texts-not-ordered sem isGte s t = refl
-texts-not-ordered sem isLt s t = refl
-texts-not-ordered sem isLte s t = refl
+not-ordered sem isGt v w h = unordered isGreater v w h
+not-ordered sem isGte v w h = unordered (λ o. isGreater o || isSame o) v w h
+not-ordered sem isLt v w h = unordered isLess v w h
+not-ordered sem isLte v w h = unordered (λ o. isLess o || isSame o) v w h

@@ -2,6 +2,7 @@
 -- bytes; only which names there are counts.
 -- Assumes nothing.
 use mathlib.Core.List.{List, List·Memᴰ, [], _++_, _∷_}
+use mathlib.Core.Path.{_≡_}
 use Prim.Native.Nat.{Ordering·eq, Ordering·gt, Ordering·lt}
 use Rattle.reader.specs.Bytes.{Bytes, orderBytes}
 
@@ -31,3 +32,8 @@ unfoldable pub ascending : Names → Names
 unfolding insertName
 ascending [] = []
 ascending (n ∷ ns) = insertName n (ascending ns)
+
+-- each name below all that follow it
+pub data Ascends : Names → Type 0 where
+  noneFollow : Ascends []
+  follow : {n : Bytes} {ms : Names} → ((m : Bytes) → Named m ms → orderBytes n m ≡ Ordering·lt) → Ascends ms → Ascends (n ∷ ms)
