@@ -14,7 +14,7 @@ use Rattle.decision.proofs.Rules.{RuleRefused, RuleShape, RulesLater, l
 use Rattle.decision.specs.Decide.{decideCall}
 use Rattle.decision.specs.Outcomes.{guard as Decide·guard, select}
 use Rattle.decision.specs.Rules.{check}
-use Rattle.decision.specs.Demand.{Demand, Kept, NamesVanished, Repeated, SameRules, Step, Unobservable, Vanished, atGuard, atRule, guard, isGuarded, isStep, rule, settled, settledBy, upTo, upToGuard, upToOutcome}
+use Rattle.decision.specs.Demand.{Demand, Kept, NamesVanished, Repeated, SameRules, Step, Unobservable, Vanished, atGuard, atRule, guard, isGuarded, isStep, rule, settled, settler, upTo, upToOutcome, upToSettler, Settler, atPlace, everything, selection}
 use Rattle.decision.specs.Entry.{Reply, call, decide, enough, fitted, reply, workWords}
 use Rattle.line.specs.Line.{refusalLine, refusalNumber, verdictLine}
 use Rattle.decision.specs.Admission.{admit, isWrong}
@@ -53,10 +53,10 @@ decide-parts s = refl
 
 -- what admission answers is no rule's or guard's refusal
 abbrev AdmitShape : Result Placed → Type 0
-AdmitShape x = ((p : Placed) × (x ≡ ok p)) ⊎ ((q : Refusal) × (x ≡ refused q) × (settledBy q ≡ none))
+AdmitShape x = ((p : Placed) × (x ≡ ok p)) ⊎ ((q : Refusal) × (x ≡ refused q) × (settler q ≡ selection))
 
 admit-shape : (states : List Bytes) (os : List (Outcome Condition)) (s : Bytes) (p : Placed) → AdmitShape (admit states os s p)
-unfolding admit settledBy
+unfolding admit settler
 admit-shape states os s p = by (p .outcome .effect)
   where
     first : (o : Option Placed) → AdmitShape (orElse o (Refusal.wrongState s))
@@ -79,25 +79,25 @@ admit-shape states os s p = by (p .outcome .effect)
     by (moves to from) = outer from (isOneOf s from)
 
 -- which steps count, by what the decision was
-settled-refused : (s : Sheet Condition) (q : Refusal) (f : Step → Bool) (k : Step) → decideCall s ≡ refused q → settledBy q ≡ some f → settled s k ≡ f k
+settled-refused : (s : Sheet Condition) (q : Refusal) (t : Settler) (k : Step) → decideCall s ≡ refused q → settler q ≡ t → settled s k ≡ upToSettler (select s 0 (s .outcomes)) t k
 unfolding settled
-settled-refused s q f k p e = rw (p, settled, e) refl
+settled-refused s q t k p e = rw (p, settled, e) refl
 
 settled-ok : (s : Sheet Condition) (v : Verdict) (p : Placed) (k : Step) → decideCall s ≡ ok v → select s 0 (s .outcomes) ≡ ok p → settled s k ≡ upToOutcome (p .outcome .when) (p .place) k
 unfolding settled
 settled-ok s v p k e f = rw (e, settled, f) refl
 
-settled-late : (s : Sheet Condition) (q : Refusal) (p : Placed) (k : Step) → decideCall s ≡ refused q → settledBy q ≡ none → select s 0 (s .outcomes) ≡ ok p → settled s k ≡ upToOutcome (p .outcome .when) (p .place) k
+settled-late : (s : Sheet Condition) (q : Refusal) (p : Placed) (k : Step) → decideCall s ≡ refused q → settler q ≡ selection → select s 0 (s .outcomes) ≡ ok p → settled s k ≡ upToOutcome (p .outcome .when) (p .place) k
 unfolding settled
 settled-late s q p k e n f = rw (e, settled, n, f) refl
 
-settledBy-noOutcome : settledBy noOutcome ≡ some (λ k. true)
-unfolding settledBy
-settledBy-noOutcome = refl
+settler-noOutcome : settler noOutcome ≡ everything
+unfolding settler
+settler-noOutcome = refl
 
-settledBy-guard : (j : ℕ) (n : Bytes) (ns : Names) → settledBy (guardUnknown j n ns) ≡ some (upToGuard j)
-unfolding settledBy
-settledBy-guard j n ns = refl
+settler-guard : (j : ℕ) (n : Bytes) (ns : Names) → settler (guardUnknown j n ns) ≡ atPlace (guard j)
+unfolding settler
+settler-guard j n ns = refl
 
 admitted-from : List Bytes → List (Outcome Condition) → Bytes → Placed → Result Verdict
 admitted-from states os x p = do
@@ -122,10 +122,10 @@ module _ (s : Sheet Condition) (x : Bytes) (st : s .state ≡ some x) (pass : ch
       by (inr a) = settled-late s (a .0) p k (decide-select ∙ bind-ok _ e ∙ ap (λ (y : Result Placed). y >>= λ q. ok (asAdmitted q)) (a .1)) (a .2) e
 
   settled-exhausted : (k : Step) → select s 0 (s .outcomes) ≡ refused noOutcome → settled s k ≡ true
-  settled-exhausted k e = settled-refused s noOutcome (λ _. true) k (decide-refused noOutcome e) settledBy-noOutcome
+  settled-exhausted k e = settled-refused s noOutcome everything k (decide-refused noOutcome e) settler-noOutcome
 
-  settled-stopped : (j : ℕ) (n : Bytes) (ns : Names) (k : Step) → select s 0 (s .outcomes) ≡ refused (guardUnknown j n ns) → settled s k ≡ upToGuard j k
-  settled-stopped j n ns k e = settled-refused s (guardUnknown j n ns) (upToGuard j) k (decide-refused _ e) (settledBy-guard j n ns)
+  settled-stopped : (j : ℕ) (n : Bytes) (ns : Names) (k : Step) → select s 0 (s .outcomes) ≡ refused (guardUnknown j n ns) → settled s k ≡ upTo (guard j) k
+  settled-stopped j n ns k e = settled-refused s (guardUnknown j n ns) (atPlace (guard j)) k (decide-refused _ e) (settler-guard j n ns)
 
   rule-counts : (k : ℕ) → GuardShape 0 (select s 0 (s .outcomes)) → settled s (rule k) ≡ true
   rule-counts k (chosen p e h) = settled-chosen p (rule k) e ∙ by (p .outcome .when)
@@ -214,7 +214,7 @@ module _ (old new : Sheet Condition) (same : SameRules old new) where
       -- the rules passed on the old sheet, so a new refusal at a rule came before what settled it
       ruleTried : (k : ℕ) → RuleShape k (check old preconditions 0 (old .preconditions)) → settled old (rule k) ≡ true
       ruleTried k (inl p) = rule-counts old x st p k (G .shape)
-      ruleTried k (inr t) = settled-refused old (t .0) (upTo (t .1)) (rule k) (oldParts (some x) st ∙ refused-rules old x _ _ _ (t .0) (t .2)) (t .3) ∙ leb-true k (t .1) (t .4)
+      ruleTried k (inr t) = settled-refused old (t .0) (atPlace (rule (t .1))) (rule k) (oldParts (some x) st ∙ refused-rules old x _ _ _ (t .0) (t .2)) (t .3) ∙ leb-true k (t .1) (t .4)
 
       at-rule : RuleRefused Erased (check old preconditions 0 (old .preconditions)) (check new preconditions 0 (old .preconditions)) → DecisionRefused
       at-rule r =

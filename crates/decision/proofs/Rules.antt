@@ -10,7 +10,7 @@ use native.Mathlib.Nat.{le-refl, le-trans}
 use native.Mathlib.Omega.{arith}
 use lib.ListN.{length}
 use Rattle.decision.specs.Rules.{check}
-use Rattle.decision.specs.Demand.{settledBy, upTo}
+use Rattle.decision.specs.Demand.{atPlace, rule, settler}
 use Rattle.line.specs.Verdict.{Verdict, passed}
 use Rattle.evaluation.proofs.Later.{Both, Every, Fact, Later, Lost, every-left, every-right, later-evaluate, truthGone, truthKept}
 use Rattle.evaluation.proofs.Names.{ascending-mem}
@@ -46,17 +46,17 @@ pub check-none : (s : Sheet Condition) (i : ℕ) → check s preconditions i [] 
 unfolding check
 check-none s i = refl
 
-pub settled-false : (i : ℕ) (n m : Option Bytes) → settledBy (ruleFalse preconditions i n m) ≡ some (upTo i)
-unfolding settledBy
+pub settled-false : (i : ℕ) (n m : Option Bytes) → settler (ruleFalse preconditions i n m) ≡ atPlace (rule i)
+unfolding settler
 settled-false i n m = refl
 
-pub settled-unknown : (i : ℕ) (n m : Option Bytes) (ns : Names) → settledBy (ruleUnknown preconditions i n m ns) ≡ some (upTo i)
-unfolding settledBy
+pub settled-unknown : (i : ℕ) (n m : Option Bytes) (ns : Names) → settler (ruleUnknown preconditions i n m ns) ≡ atPlace (rule i)
+unfolding settler
 settled-unknown i n m ns = refl
 
 -- where an earlier result settled: passed, or refused at a rule from a place on
 abbrev pub RuleShape : ℕ → Result Verdict → Type 0
-RuleShape i x = (x ≡ ok passed) ⊎ ((q : Refusal) × (j : ℕ) × (x ≡ refused q) × (settledBy q ≡ some (upTo j)) × (i ≤ j))
+RuleShape i x = (x ≡ ok passed) ⊎ ((q : Refusal) × (j : ℕ) × (x ≡ refused q) × (settler q ≡ atPlace (rule j)) × (i ≤ j))
 
 pub shape-down : (i : ℕ) (x : Result Verdict) → RuleShape (i + 1) x → RuleShape i x
 shape-down i x (inl p) = inl p
@@ -84,7 +84,7 @@ module _ (Erased : Bytes → Type 0) where
     pub later-rule : (i : ℕ) (r : Rule Condition) (rs : List (Rule Condition)) → (k : Both (Later Erased) (evaluate kernel old [] (r .assert)) (evaluate kernel new [] (r .assert))) → RulesLater (i + 1) (check old preconditions (i + 1) rs) (check new preconditions (i + 1) rs) → RulesLater i (check old preconditions i (r ∷ rs)) (check new preconditions i (r ∷ rs))
     later-rule i r rs k below = go (k .rel) (k .was .truth) refl
       where
-        shapeHere : (q : Refusal) → check old preconditions i (r ∷ rs) ≡ refused q → settledBy q ≡ some (upTo i) → RuleShape i (check old preconditions i (r ∷ rs))
+        shapeHere : (q : Refusal) → check old preconditions i (r ∷ rs) ≡ refused q → settler q ≡ atPlace (rule i) → RuleShape i (check old preconditions i (r ∷ rs))
         shapeHere q e f = inr (q, i, e, f, le-refl i)
 
         shapeOf : (t : Truth) → k .was .truth ≡ t → RuleShape i (check old preconditions i (r ∷ rs))

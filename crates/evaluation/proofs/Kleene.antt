@@ -1,4 +1,5 @@
--- The second demand's claims about truth and selection, of the definitions.
+-- and, or and not are Kleene's strong tables; a junction is the least or the greatest of all its children, and a quantifier of all its elements,
+-- although it stops once settled.
 -- Assumes nothing.
 use mathlib.Core.Path.{refl, _≡_}
 use Prim.Native.Nat.{max, min, ℕ, _-_}
