@@ -5,6 +5,7 @@ use mathlib.Core.List.{List, List·Memᴰ, List·Memᴰ·append-cases, List·Mem
 use mathlib.Core.Logic.{inl, inr, ⊎-elim, _⊎_}
 use mathlib.Core.Option.{Option, none, some}
 use mathlib.Core.Path.{ap, fun-ext, refl, sym, _∙_, _≡_}
+use Rattle.evaluation.proofs.Kleene.{settles-join}
 use Rattle.evaluation.specs.Evaluate.{Answer, certain, collection, compared, each, evaluate, evaluateAll, isPresent, joined, over, unknown}
 use Rattle.evaluation.specs.Expression.{Env, gives, givesParts, parts, walk}
 use Rattle.evaluation.specs.Names.{Names}
@@ -138,14 +139,6 @@ module _ (Erased : Bytes → Type 0) where
       unknowns : (m′ : Mode) → b .truth ≡ Unknown → d .truth ≡ Unknown → join m′ (b .truth) (d .truth) ≡ Unknown
       unknowns every p q = cc
       unknowns Mode.any p q = cc
-
-  settles-join : (m : Mode) (t u : Truth) → settles m t ≡ true → join m t u ≡ t
-  settles-join every True u e = absurd (false≢true e)
-  settles-join every False u e = refl
-  settles-join every Unknown u e = absurd (false≢true e)
-  settles-join Mode.any True u e = refl
-  settles-join Mode.any False u e = absurd (false≢true e)
-  settles-join Mode.any Unknown u e = absurd (false≢true e)
 
   settles-unknown : (m : Mode) → settles m Unknown ≡ false
   settles-unknown every = refl
