@@ -9,9 +9,8 @@ use Prim.Native.Nat.{ℕ, suc, _+_, _≤_}
 use native.Mathlib.Nat.{le-refl, le-trans}
 use native.Mathlib.Omega.{arith}
 use Rattle.decision.proofs.Rules.{lost-ascending}
-use Rattle.decision.specs.Outcomes.{guard as Decide·guard, select}
+use Rattle.decision.specs.Outcomes.{Placed, at, eligible, guard as Decide·guard, select}
 use Rattle.decision.specs.Demand.{isGuarded}
-use Rattle.decision.specs.Outcomes.{Placed, at, eligible}
 use Rattle.evaluation.proofs.Later.{Both, Every, Fact, Later, Lost, every-left, every-right, later-evaluate, truthGone, truthKept}
 use Rattle.evaluation.specs.Evaluate.{Answer}
 use Rattle.evaluation.specs.Names.{Names, ascending}
@@ -24,11 +23,6 @@ use Rattle.reader.specs.Refusal.{Result, guardUnknown, noOutcome, ok, refused}
 use Rattle.sheet.specs.Condition.{Condition}
 use Rattle.sheet.specs.Outcome.{Outcome}
 use Rattle.sheet.specs.Sheet.{Sheet}
-use lib.Dec.{leb}
-use lib.ListN.{length}
-use Rattle.evaluation.proofs.Names.{ascending-mem}
-use Rattle.evaluation.specs.Expression.{gives}
-use Rattle.sheet.specs.Rule.{Rule}
 
 -- one outcome more
 module _ (s : Sheet Condition) (i : ℕ) (o : Outcome Condition) (os : List (Outcome Condition)) where

@@ -4,3 +4,4 @@ pub mod Repeat
 pub mod Selected
 pub mod Examples
 pub mod Limits
+pub mod Sentences

@@ -1,6 +1,7 @@
 -- Each limit met and passed by one, through whole calls, as one table and one theorem; and the ties. A text that is read but is no object gives 9.
 -- Assumes nothing.
 use mathlib.Core.List.{List, map, [], _++_, _∷_}
+use mathlib.Core.Option.{Option, none, some}
 use mathlib.Core.Path.{refl, _≡_}
 use Prim.Native.Nat.{ℕ, suc, zero}
 use lib.ListN.{replicate}
@@ -14,11 +15,16 @@ pub record Case : Type 0 where
   pub output : ℕ
   pub number : ℕ
 
-abbrev pub numberOf : Case → ℕ
-numberOf c = (decide (c .text) (c .work) (c .output)) .number
+abbrev pub replyOf : Case → Reply
+replyOf c = decide (c .text) (c .work) (c .output)
 
-abbrev pub expected : Case → ℕ
-expected c = c .number
+-- the first row answers with a line; the others write nothing
+abbrev pub lineOf : ℕ → Option Bytes
+lineOf zero = some (ascii "(admitted 1 \"rebuild\")\n")
+lineOf (suc n) = none
+
+abbrev pub expected : Case → Reply
+expected c = record { number = c .number; line = lineOf (c .number) }
 
 -- so many zeros, each after a comma
 abbrev pub zeros : ℕ → Bytes
@@ -67,6 +73,6 @@ cases =
     gives (ascii "{\"a\":1 \"a\":2}") 4 ∷
     []
 
-pub limits : map numberOf cases ≡ map expected cases
+pub limits : map replyOf cases ≡ map expected cases
 unfolding decide
 limits = refl

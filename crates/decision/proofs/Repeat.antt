@@ -11,15 +11,13 @@ use lib.Dec.{leb}
 use lib.ListN.{length}
 use Rattle.decision.proofs.Guards.{GuardRefused, GuardShape, GuardTried, GuardsLater, chosen, exhausted, guard-at, later-select, stopped}
 use Rattle.decision.proofs.Rules.{RuleRefused, RuleShape, RulesLater, later-check, rule-at}
-use Rattle.decision.specs.Decide.{decideCall}
-use Rattle.decision.specs.Outcomes.{guard as Decide·guard, select}
+use Rattle.decision.specs.Decide.{asAdmitted, decideCall}
+use Rattle.decision.specs.Outcomes.{Placed, at, eligible, firstFrom, guard as Decide·guard, select}
 use Rattle.decision.specs.Rules.{check}
 use Rattle.decision.specs.Demand.{Demand, Kept, NamesVanished, Repeated, SameRules, Step, Unobservable, Vanished, atGuard, atRule, guard, isGuarded, isStep, rule, settled, settler, upTo, upToOutcome, upToSettler, Settler, atPlace, everything, selection}
 use Rattle.decision.specs.Entry.{Reply, call, decide, enough, fitted, reply, workWords}
 use Rattle.line.specs.Line.{refusalLine, refusalNumber, verdictLine}
 use Rattle.decision.specs.Admission.{admit, isWrong}
-use Rattle.decision.specs.Decide.{asAdmitted}
-use Rattle.decision.specs.Outcomes.{Placed, at, eligible, firstFrom}
 use Rattle.line.specs.Verdict.{Verdict, passed}
 use Rattle.evaluation.proofs.Later.{Alike, Every, Fact, Lost, alike-evaluate, every-left, every-right, known-gives}
 use Rattle.evaluation.specs.Evaluate.{Answer}
@@ -36,7 +34,6 @@ use Rattle.sheet.specs.Condition.{Condition}
 use Rattle.sheet.specs.Outcome.{Effect, Outcome, moves, stays}
 use Rattle.sheet.specs.Rule.{Rule}
 use Rattle.sheet.specs.Sheet.{Sheet, readSheet}
-use Rattle.evaluation.proofs.Names.{ascending-mem}
 
 -- a decision by its parts
 decideFrom : Sheet Condition → Option Bytes → List (Rule Condition) → List (Outcome Condition) → List Bytes → Result Verdict

@@ -3,7 +3,7 @@
 use mathlib.Core.Bool.{Bool, false, true, true≢false}
 use mathlib.Core.List.{List, [], _∷_}
 use mathlib.Core.Logic.{inl, inr, _≢_, _⊎_}
-use mathlib.Core.Option.{Option, some}
+use mathlib.Core.Option.{Option}
 use mathlib.Core.Path.{refl, sym, _∙_, _≡_}
 use Prim.Native.Nat.{ℕ, _+_, _<_, _≤_}
 use native.Mathlib.Nat.{le-refl, le-trans}
@@ -25,8 +25,6 @@ use Rattle.reader.specs.Refusal.{Refusal, Result, Rules, ok, preconditions, ref
 use Rattle.sheet.specs.Condition.{Condition}
 use Rattle.sheet.specs.Rule.{Rule}
 use Rattle.sheet.specs.Sheet.{Sheet}
-use lib.Dec.{leb}
-use Rattle.evaluation.specs.Expression.{gives}
 
 -- one rule more
 module _ (s : Sheet Condition) (kind : Rules) (i : ℕ) (r : Rule Condition) (rs : List (Rule Condition)) (a : Answer) (e : evaluate kernel s [] (r .assert) ≡ ok a) where

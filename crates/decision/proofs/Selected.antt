@@ -3,14 +3,12 @@
 use mathlib.Core.Bool.{Bool, false, true, true≢false}
 use mathlib.Core.List.{List, List·Memᴰ, List·Memᴰ·cases-cons, List·Memᴰ·head, List·Memᴰ·tail, [], _++_, _∷_}
 use mathlib.Core.Logic.{inl, inr, _⊎_}
-use mathlib.Core.Option.{Option}
 use mathlib.Core.Path.{ap, refl, subst, sym, _∙_, _≡_}
 use Prim.Native.Nat.{ℕ, _+_}
 use native.Mathlib.Omega.{arith}
 use lib.ListN.{length}
 use Rattle.decision.proofs.Guards.{select-false, select-none, select-skip, select-true, select-unknown}
-use Rattle.decision.specs.Outcomes.{guard, select}
-use Rattle.decision.specs.Outcomes.{Placed, eligible}
+use Rattle.decision.specs.Outcomes.{Placed, eligible, guard, select}
 use Rattle.decision.specs.Selection.{Answers, FirstTrue}
 use Rattle.evaluation.specs.Evaluate.{Answer}
 use Rattle.evaluation.specs.Truth.{False, True, Truth, Unknown}

@@ -9,10 +9,9 @@ use Prim.Native.Nat.{ℕ, _≤_}
 use lib.Dec.{leb, ltb}
 use lib.ListN.{length}
 use Rattle.decision.specs.Decide.{decideCall}
-use Rattle.decision.specs.Outcomes.{select}
+use Rattle.decision.specs.Outcomes.{Placed, at, eligible, select}
 use Rattle.decision.specs.Entry.{Reply, decide, workWords}
 use Rattle.line.specs.Line.{refusalLine, refusalNumber}
-use Rattle.decision.specs.Outcomes.{Placed, at, eligible}
 use Rattle.evaluation.specs.Expression.{gives}
 use Rattle.evaluation.specs.Names.{Names}
 use Rattle.evaluation.specs.Readings.{IsReading, Reading, clean}
@@ -143,6 +142,7 @@ pub record Repeated (old new : Sheet Condition) (r : Reply) : Type 0 where
   pub upToSettled : settled old step ≡ true
   pub named : NamesVanished old new names ⊎ ((q : Refusal) × (ms : Names) × (decideCall old ≡ refused q) × Unobservable q step ms)
 
+-- The demand. A reply depends on the bytes and the two sizes alone, so that it does not matter what work table and output hold at entry.
 unfoldable pub Demand : Type 0
 Demand =
     (s s′ : Bytes) (work work′ output output′ : ℕ) (old new : Sheet Condition) →

@@ -24,6 +24,7 @@ unfoldable pub firstFrom : (Outcome Condition → Bool) → ℕ → List (Outcom
 firstFrom p i [] = none
 firstFrom p i (o ∷ os) = elim (p o) [ true ↦ some (record { place = i; outcome = o }) | false ↦ firstFrom p (i + 1) os ]
 
+-- the outcome at a place, places counted from i on
 unfoldable pub at : ℕ → ℕ → List (Outcome Condition) → Option Placed
 at i n [] = none
 at i ℕ.zero (o ∷ os) = some (record { place = i; outcome = o })

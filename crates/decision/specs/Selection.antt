@@ -7,8 +7,7 @@ use mathlib.Core.Option.{Option}
 use mathlib.Core.Path.{_≡_}
 use Prim.Native.Nat.{ℕ, _+_}
 use lib.ListN.{length}
-use Rattle.decision.specs.Outcomes.{guard}
-use Rattle.decision.specs.Outcomes.{Placed, eligible}
+use Rattle.decision.specs.Outcomes.{Placed, eligible, guard}
 use Rattle.evaluation.specs.Evaluate.{Answer}
 use Rattle.evaluation.specs.Truth.{False, True, Truth}
 use Rattle.reader.specs.Refusal.{ok}

@@ -12,7 +12,7 @@ use Rattle.evaluation.specs.Semantics.{Semantics}
 use Rattle.evaluation.specs.Truth.{False, True, Truth, Unknown, and, join, negate, or, settles, start}
 use Rattle.reader.proofs.Laws.{bind-ok}
 use Rattle.reader.specs.Json.{Value}
-use Rattle.reader.specs.Refusal.{Result, ok, _>>=_}
+use Rattle.reader.specs.Refusal.{Result, ok}
 use Rattle.sheet.specs.Condition.{Condition, Conditions, Mode, also, every, noMore}
 use Rattle.sheet.specs.Sheet.{Sheet}
 

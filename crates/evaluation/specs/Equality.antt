@@ -7,7 +7,7 @@ use Rattle.number.specs.Compare.{numberOrder}
 use Rattle.reader.specs.Bytes.{Bytes, sameBytes}
 use Rattle.reader.specs.Json.{Members, Value, Values, array, asArray, asBool, asNumber, asObject, asText, bool, cons, empty, isNull, member, nil, null, number, object, text}
 
--- The members of every object stand by ascending key, so that equal objects are equal place by place.
+-- A sheet keeps sorted trees (`sorted`), so that equal objects are equal place by place.
 module _ (numbers : Bytes → Bytes → Bool) where
   unfoldable mutual
     unfolding sameBytes

@@ -1,7 +1,7 @@
 -- Conditions: truth and names.
 -- Assumes nothing.
 use mathlib.Core.Bool.{Bool, false, true}
-use mathlib.Core.List.{List, [], _++_, _∷_}
+use mathlib.Core.List.{List, [], _∷_}
 use mathlib.Core.Option.{Option, none, some}
 use Rattle.evaluation.specs.Expression.{Env}
 use Rattle.evaluation.specs.Forms.{holds}

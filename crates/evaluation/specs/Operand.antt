@@ -1,7 +1,7 @@
 -- Operands: a written value with its expressions resolved, or the names of those that are missing.
 -- Assumes nothing.
 use mathlib.Core.Bool.{false, true}
-use mathlib.Core.List.{[], _++_, _∷_}
+use mathlib.Core.List.{[], _∷_}
 use mathlib.Core.Option.{Option, none, some}
 use lib.Dec.{eqb}
 use Rattle.evaluation.specs.Expression.{Env, gives}

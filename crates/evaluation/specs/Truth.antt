@@ -1,4 +1,5 @@
--- Kleene's strong truth tables. Assumes nothing.
+-- Kleene's strong truth tables, and how `all` and `any` start, join and settle.
+-- Assumes nothing.
 use mathlib.Core.Bool.{Bool, false, true}
 use Rattle.sheet.specs.Condition.{Mode, any, every}
 

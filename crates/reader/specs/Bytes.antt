@@ -53,7 +53,7 @@ unfoldable pub natural : ℕ → Bytes → ℕ
 natural n [] = n
 natural n (c ∷ s) = natural (n * 10 + (c - 48)) s
 
--- Texts and collections.
+-- whether a text begins with another
 unfoldable pub begins : Bytes → Bytes → Bool
 begins [] s = true
 begins (c ∷ p) [] = false

@@ -1,4 +1,4 @@
--- RFC 8259's rules, over bytes. `Rule x s r` says that `s` begins with what the rule spells, `x`, and that `r` is the rest. The text as a whole is UTF-8 (`Reader.utf8`).
+-- RFC 8259's rules, over bytes. `Rule x s r` says that `s` begins with what the rule spells, `x`, and that `r` is the rest. The text as a whole is UTF-8 (`Utf8.utf8`).
 -- Assumes nothing.
 use mathlib.Core.Bool.{Bool, false, not as Bool·not, true, _&&_}
 use mathlib.Core.List.{[], _++_, _∷_}

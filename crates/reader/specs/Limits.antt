@@ -1,4 +1,4 @@
--- The tree of a JSON text. A number keeps its characters, a text its decoded bytes, an object its members as written.
+-- The limits: bytes, open brackets, nodes, bytes of a number; and what a tree must keep of them. A name stands once in an object.
 -- Assumes nothing.
 use mathlib.Core.Bool.{Bool, not, true, _&&_}
 use Prim.Native.Nat.{max, ℕ, _+_}

@@ -1,4 +1,4 @@
--- Reading a text: the tree, or the first refusal of 2 to 8. One definition for each rule of RFC 8259; `Grammar` has the rules themselves.
+-- Reading a number, byte by byte, and its 255 bytes.
 -- Assumes nothing.
 use mathlib.Core.Bool.{Bool, false, true}
 use mathlib.Core.List.{[], _∷_}

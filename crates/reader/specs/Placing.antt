@@ -1,4 +1,4 @@
--- The tree of a text with the place of every node, and reading by place: `readAt` walks the sheet by index, as code does. `Agree` proves it to be `Reader.json`.
+-- Reading by place: `readAt` walks the sheet by index, as code does. `Agree` proves it to be `Reader.json`.
 -- Assumes nothing.
 use mathlib.Core.Bool.{false, true}
 use mathlib.Core.List.{List, [], _∷_}

@@ -9,16 +9,23 @@ pub data Rules : Type 0 where
   preconditions invariants : Rules
 
 pub data Refusal : Type 0 where
+  -- 1 to 8
   workTooSmall tooLong notUtf8 notJson tooDeep numberTooLong tooManyNodes repeatedName : Refusal
+  -- 9 to 12
   wrongSheet wrongShape notCarried noInput : Refusal
+  -- 13 with the expression, 14
   unknownExpression : Bytes → Refusal
   noId : Refusal
+  -- 15 and 17, 16 and 18: place, name, message, names
   ruleFalse : Rules → ℕ → Option Bytes → Option Bytes → Refusal
   ruleUnknown : Rules → ℕ → Option Bytes → Option Bytes → List Bytes → Refusal
+  -- 19, 20: place, name, names
   noOutcome : Refusal
   guardUnknown : ℕ → Bytes → List Bytes → Refusal
+  -- 21: state; 22: place, name, state, sources
   wrongState : Bytes → Refusal
   notASource : ℕ → Bytes → Bytes → List Bytes → Refusal
+  -- 23
   lineTooLong : Refusal
 
 pub data Result (A : Type 0) : Type 0 where

@@ -1,4 +1,4 @@
--- Reading a text: the tree, or the first refusal of 2 to 8. One definition for each rule of RFC 8259; `Grammar` has the rules themselves.
+-- Spaces, one byte, one word: what is read, and the rest.
 -- Assumes nothing.
 use mathlib.Core.Bool.{Bool, false, true, _||_}
 use mathlib.Core.List.{[], _∷_}
@@ -25,7 +25,7 @@ word [] s = ok s
 word (c ∷ w) [] = refused notJson
 word (c ∷ w) (d ∷ s) = elim (eqb c d) [ true ↦ word w s | false ↦ refused notJson ]
 
--- strings
+-- what was read, and the rest
 pub record Read (A : Type 0) : Type 0 where
   pub got : A
   pub rest : Bytes

@@ -1,4 +1,4 @@
--- The tree of a JSON text. A number keeps its characters, a text its decoded bytes, an object its members as written.
+-- A tree with every object's members by ascending key bytes.
 -- Assumes nothing.
 use Prim.Native.Nat.{Ordering·eq, Ordering·gt, Ordering·lt}
 use Rattle.reader.specs.Bytes.{Bytes, orderBytes}

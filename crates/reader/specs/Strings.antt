@@ -1,4 +1,4 @@
--- Reading a text: the tree, or the first refusal of 2 to 8. One definition for each rule of RFC 8259; `Grammar` has the rules themselves.
+-- Reading a string: its characters and escapes up to the closing quote, decoded. One definition for each rule of RFC 8259.
 -- Assumes nothing.
 use mathlib.Core.Bool.{false, true}
 use mathlib.Core.List.{[], _++_, _∷_}
