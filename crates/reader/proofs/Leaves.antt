@@ -27,7 +27,7 @@ use Rattle.reader.specs.Answers.{EscapedIn, EscapedTold, FirstOf, HexIn,
 use Rattle.reader.specs.Bytes.{Bytes, ascii, between, choose, orderBytes}
 use Rattle.reader.specs.Cursor.{OnText, Took, before}
 use Rattle.reader.specs.Escapes.{escaped, highScalar, lowScalar, unitScalar}
-use Rattle.reader.specs.Placing.{charsAt, skipAt}
+use Rattle.reader.specs.Placing.{charsAt, placeOf, skipAt, wordAt}
 use Rattle.reader.specs.Refusal.{Refusal, Result, _>>=_, notJson, ok, refused}
 use Rattle.reader.specs.Scan.{Read, isSpace, word}
 use Rattle.reader.specs.Spans.{textAt}
@@ -48,8 +48,8 @@ no-digit c f g h = rw (between-out 48 57 c f, between-out 65 70 c g, between-out
 pub not-simple : (c : ℕ) → (c ≡ 34 → ⊥) → (c ≡ 92 → ⊥) → (c ≡ 47 → ⊥) → (c ≡ 98 → ⊥) → (c ≡ 102 → ⊥) → (c ≡ 110 → ⊥) → (c ≡ 114 → ⊥) → (c ≡ 116 → ⊥) → simpleEscape c ≡ none
 not-simple c p1 p2 p3 p4 p5 p6 p7 p8 = rw (ne-eqb c 34 p1, ne-eqb c 92 p2, ne-eqb c 47 p3, ne-eqb c 98 p4, ne-eqb c 102 p5, ne-eqb c 110 p6, ne-eqb c 114 p7, ne-eqb c 116 p8, choose)
 
-here : (s : Bytes) (at : ℕ) → at < length s → drop at s ≡ getD s at 0 ∷ drop (at + 1) s
-here s at h = rw add-one (drop-cons s at 0 h)
+first-byte : (s : Bytes) (at : ℕ) → at < length s → drop at s ≡ getD s at 0 ∷ drop (at + 1) s
+first-byte s at h = rw add-one (drop-cons s at 0 h)
 
 -- ---- four digits
 hex-short : (n u : ℕ) (t : Bytes) → length t < n → hex n u t ≡ refused notJson
@@ -64,11 +64,11 @@ hex-short (suc n) u (c ∷ t) h = go (hexDigit c) refl (λ v. hex-short n v t (o
 
 hex-step : (n u : ℕ) (s : Bytes) (at d : ℕ) → at < length s → hexDigit (getD s at 0) ≡ digitOf d → d < 16 → hex (suc n) u (drop at s) ≡ hex n (u * 16 + d) (drop (at + 1) s)
 unfolding hex
-hex-step n u s at d h e l = let q : hexDigit (getD s at 0) ≡ some d = e ∙ rw (lt-ltb d 16 l) in rw (here s at h, q, hex)
+hex-step n u s at d h e l = let q : hexDigit (getD s at 0) ≡ some d = e ∙ rw (lt-ltb d 16 l) in rw (first-byte s at h, q, hex)
 
 hex-stop : (n u : ℕ) (s : Bytes) (at d : ℕ) → at < length s → hexDigit (getD s at 0) ≡ digitOf d → 16 ≤ d → hex (suc n) u (drop at s) ≡ refused notJson
 unfolding hex
-hex-stop n u s at d h e l = let q : hexDigit (getD s at 0) ≡ none = e ∙ rw (le-ltb d 16 l) in rw (here s at h, q, hex)
+hex-stop n u s at d h e l = let q : hexDigit (getD s at 0) ≡ none = e ∙ rw (le-ltb d 16 l) in rw (first-byte s at h, q, hex)
 
 pub told-bad : {s : Bytes} {at : ℕ} → hex 4 0 (drop at s) ≡ refused notJson → HexTold s at hexes.Bad
 unfolding hexOf HexIn
@@ -144,7 +144,7 @@ module _ (high : ℕ) (s : Bytes) (at : ℕ) where
 
   module _ (room : at + 2 ≤ length s) where
     both-bytes : drop at s ≡ getD s at 0 ∷ getD s (at + 1) 0 ∷ drop (at + 2) s
-    both-bytes = let q : at + 1 + 1 ≡ at + 2 = omega arith in here s at (omega arith) ∙ rw (here s (at + 1) (omega arith), q)
+    both-bytes = let q : at + 1 + 1 ≡ at + 2 = omega arith in first-byte s at (omega arith) ∙ rw (first-byte s (at + 1) (omega arith), q)
 
     pub not-backslash : (getD s at 0 ≡ 92 → ⊥) → highScalar high (drop at s) ≡ refused notJson
     unfolding highScalar word
@@ -178,7 +178,7 @@ module _ (s : Bytes) (at : ℕ) where
   module _ (h : at < length s) where
     pub escape-simple : (d : ℕ) → simpleEscape (getD s at 0) ≡ simpleOf d → (d ≡ 0 → ⊥) → escaped (drop at s) ≡ ok (record { got = d; rest = drop (at + 1) s })
     unfolding escaped
-    escape-simple d e f = let q : simpleEscape (getD s at 0) ≡ some d = e ∙ rw (ne-eqb d 0 f) in rw (here s at h, q, escaped)
+    escape-simple d e f = let q : simpleEscape (getD s at 0) ≡ some d = e ∙ rw (ne-eqb d 0 f) in rw (first-byte s at h, q, escaped)
 
     module _ (d : ℕ) (isSimple : simpleEscape (getD s at 0) ≡ simpleOf d) (z : d ≡ 0) where
       none-simple : simpleEscape (getD s at 0) ≡ none
@@ -186,12 +186,12 @@ module _ (s : Bytes) (at : ℕ) where
 
       pub escape-other : (getD s at 0 ≡ 117 → ⊥) → escaped (drop at s) ≡ refused notJson
       unfolding escaped
-      escape-other f = rw (here s at h, none-simple, escaped, ne-eqb (getD s at 0) 117 f)
+      escape-other f = rw (first-byte s at h, none-simple, escaped, ne-eqb (getD s at 0) 117 f)
 
       module _ (isU : getD s at 0 ≡ 117) where
         escape-u : escaped (drop at s) ≡ (hex 4 0 (drop (at + 1) s) >>= unitScalar)
         unfolding escaped
-        escape-u = rw (here s at h, none-simple, escaped, eq-eqb (getD s at 0) 117 isU)
+        escape-u = rw (first-byte s at h, none-simple, escaped, eq-eqb (getD s at 0) 117 isU)
 
         pub no-unit : hex 4 0 (drop (at + 1) s) ≡ refused notJson → escaped (drop at s) ≡ refused notJson
         no-unit e = escape-u ∙ rw e
@@ -269,3 +269,28 @@ no-space c p q r t = rw (ne-eqb c 32 p, ne-eqb c 9 q, ne-eqb c 10 r, ne-eqb c 13
 pub record Skipping (s : Bytes) (at here : ℕ) : Type 0 where
   pub upto : here ≤ length s
   pub same : skipAt s at ≡ skipAt s here
+
+-- ---- a word, byte by byte
+pub record Wording (w s : Bytes) (at here k : ℕ) : Type 0 where
+  pub upto : here ≤ length s
+  pub within : k ≤ length w
+  pub same : wordAt w s at ≡ wordAt (drop k w) s here
+
+module _ {w s : Bytes} {at here k : ℕ} (l : Wording w s at here k) where
+  pub word-done : length w ≤ k → wordAt w s at ≡ ok here
+  unfolding wordAt word placeOf
+  word-done h = l .same ∙ rw (drop-of-length-le w h) (let q : length s - length (drop here s) ≡ here = omega (arith, length-drop here s, l .upto) in ap {B = Result ℕ} (λ (n : ℕ). ok n) q)
+
+  module _ (more : k < length w) where
+    pub word-short : length s ≤ here → wordAt w s at ≡ refused notJson
+    unfolding wordAt word
+    word-short h = l .same ∙ rw (first-byte w k more, drop-of-length-le s h)
+
+    module _ (inside : here < length s) where
+      pub word-apart : (getD s here 0 ≡ getD w k 0 → ⊥) → wordAt w s at ≡ refused notJson
+      unfolding wordAt word
+      word-apart f = l .same ∙ rw (first-byte w k more, first-byte s here inside, ne-eqb (getD w k 0) (getD s here 0) (λ e. f (sym e)), word)
+
+      pub word-on : getD s here 0 ≡ getD w k 0 → Wording w s at (here + 1) (k + 1)
+      unfolding wordAt word
+      word-on e = record { upto = omega arith; within = omega arith; same = l .same ∙ rw (first-byte w k more, first-byte s here inside, eq-eqb (getD w k 0) (getD s here 0) (sym e), word) }

@@ -14,3 +14,6 @@ pub mod Words
 pub mod Samples
 pub mod Leaves
 pub mod Members
+pub mod Entries
+pub mod Numbers
+pub mod Encoding

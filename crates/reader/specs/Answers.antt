@@ -4,33 +4,48 @@ use mathlib.Core.Bool.{cond}
 use mathlib.Core.List.{List, [], _∷_}
 use mathlib.Core.Option.{Option, none, some}
 use mathlib.Core.Path.{_≡_}
-use Prim.Native.Nat.{Ordering, Ordering·eq, Ordering·gt, Ordering·lt, ℕ, _+_, _<_, _≤_}
+use Prim.Native.Nat.{Ordering, Ordering·eq, Ordering·gt, Ordering·lt, suc, zero, ℕ, _+_, _<_, _≤_}
 use lib.Dec.{eqb, ltb}
 use lib.ListN.{drop, length}
-use Rattle.reader.specs.Bytes.{Bytes}
+use Rattle.reader.specs.Bytes.{Bytes, choose}
 use Rattle.reader.specs.Cursor.{Took, before, tails}
 use Rattle.reader.specs.Held.{HasNode}
 use Rattle.reader.specs.Json.{Value}
-use Rattle.reader.specs.Refusal.{Result, notJson, ok, refused}
+use Rattle.reader.specs.Numerals.{Digit, Place, expDigits, expSign, exponent, fraction, isE, isMinus, isNonzero, isOther, isPlus, isPoint, isZero, point, sign, stop, whole, zeroed}
+use Rattle.reader.specs.Refusal.{Refusal, Result, notJson, notUtf8, numberTooLong, ok, refused, repeatedName, tooDeep, tooLong, tooManyNodes, workTooSmall}
 use Rattle.reader.specs.Scan.{Read}
 use Rattle.reader.specs.Strings.{hex}
 use Rattle.reader.specs.Table.{valueAt}
-use Rattle.reader.specs.Utf8.{encode}
+use Rattle.reader.specs.Utf8.{Expect, encode, lead, scalar, tail, utf8}
+use Rattle.reader.specs.declared.answer.Refusal.{Refusal as Why}
+use Rattle.reader.specs.declared.answer.Scan.{Scan}
 use Rattle.reader.specs.declared.escape.Hex.{Hex}
 use Rattle.reader.specs.declared.escape.Scalar.{Scalar}
 use Rattle.reader.specs.declared.escape.Escaped.{Escaped}
-use Rattle.reader.specs.declared.scan.Scan.{Scan}
 use Rattle.reader.specs.declared.text.Cursor.{Cursor}
 use Rattle.reader.specs.declared.text.Taken.{Taken}
 use Rattle.reader.specs.declared.text.Step.{Step}
 use Rattle.reader.specs.declared.text.Order.{Order}
 use Rattle.reader.specs.declared.rows.Found.{Found}
+use Rattle.reader.specs.declared.utf8.Expect.{Expect as Expected}
+use Rattle.reader.specs.declared.answer.Refusal.the-variants as whys
+use Rattle.reader.specs.declared.answer.Scan.the-variants as scans
 use Rattle.reader.specs.declared.escape.Hex.the-variants as hexes
 use Rattle.reader.specs.declared.escape.Escaped.the-variants as escapes
-use Rattle.reader.specs.declared.scan.Scan.the-variants as scans
 use Rattle.reader.specs.declared.text.Step.the-variants as steps
 use Rattle.reader.specs.declared.text.Order.the-variants as orders
 use Rattle.reader.specs.declared.rows.Found.the-variants as founds
+
+-- a refusal of the code is one of the paper's
+abbrev pub refusalOf : Why → Refusal
+refusalOf whys.WorkTooSmall = workTooSmall
+refusalOf whys.TooLong = tooLong
+refusalOf whys.NotUtf8 = notUtf8
+refusalOf whys.NotJson = notJson
+refusalOf whys.TooDeep = tooDeep
+refusalOf whys.NumberTooLong = numberTooLong
+refusalOf whys.TooManyNodes = tooManyNodes
+refusalOf whys.RepeatedName = repeatedName
 
 abbrev pub digitOf : ℕ → Option ℕ
 digitOf r = cond (ltb r 16) (some r) none
@@ -66,8 +81,39 @@ pub record EscapedTold (s : Bytes) (at : ℕ) (whole : Result (Read ℕ)) (r : E
 
 -- the characters up to the closing quote
 unfoldable pub scanOf : Scan → Result ℕ
-scanOf scans.Bad = refused notJson
+scanOf (scans.Bad r) = refused (refusalOf r)
 scanOf (scans.End p) = ok p
+
+-- a number's places and the classes of its bytes, by their rows and columns in the code's table
+abbrev pub classOf : ℕ → Digit
+classOf r = choose ((eqb r 0, isZero) ∷ (eqb r 1, isNonzero) ∷ (eqb r 2, isMinus) ∷ (eqb r 3, isPlus) ∷ (eqb r 4, isPoint) ∷ (eqb r 5, isE) ∷ []) isOther
+
+abbrev pub placeBy : ℕ → Place
+placeBy r = choose ((eqb r 0, sign) ∷ (eqb r 1, zeroed) ∷ (eqb r 2, whole) ∷ (eqb r 3, point) ∷ (eqb r 4, fraction) ∷ (eqb r 5, exponent) ∷ (eqb r 6, expSign) ∷ (eqb r 7, expDigits) ∷ []) stop
+
+-- what may come next in UTF-8
+abbrev pub expecting : ℕ → ℕ → ℕ → Expect
+expecting low high zero = scalar
+expecting low high (suc n) = tail low high n
+
+abbrev pub expectOf : Expected → Expect
+expectOf e = expecting (e .low) (e .high) (e .left)
+
+-- what a byte makes of it: the same answer for every rest
+abbrev pub Leads : ℕ → Expected → Type 0
+Leads c r = (t : Bytes) → utf8 (lead c) t ≡ utf8 (expectOf r) t
+
+abbrev pub Follows : Expected → ℕ → Expected → Type 0
+Follows e c r = (t : Bytes) → utf8 (expectOf e) (c ∷ t) ≡ utf8 (expectOf r) t
+
+-- a row that fits the table
+pub record RowFits (words node kind start end after : ℕ) : Type 0 where
+  pub long : 12288 ≤ words
+  pub room : node < 4096
+  pub kindFits : kind < 8
+  pub startFits : start ≤ 32768
+  pub endFits : end ≤ 32768
+  pub afterFits : after ≤ 4096
 
 -- a scalar value's first byte, and the cursor that has its others
 pub record FirstOf (x : Scalar) (r : Taken) : Type 0 where

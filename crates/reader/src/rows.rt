@@ -1,14 +1,16 @@
 // Rows of the table, and members by name.
+ghost use mathlib.Core.List.{_∷_, []};
 ghost use mathlib.Core.Path.{_≡_};
 ghost use Prim.Native.Nat.{_+_, _*_, _≤_, _<_};
 ghost use lib.ListN.{length};
+ghost use lib.Seq.{sets};
 ghost use Rattle.reader.specs.Bytes.{find};
 ghost use Rattle.reader.specs.Json.{entries};
 ghost use Rattle.reader.specs.Spans.{textAt};
 ghost use Rattle.reader.specs.Table.{startAt, afterAt, membersAt};
 ghost use Rattle.reader.specs.Cursor.{OnText};
 ghost use Rattle.reader.specs.Held.{HasMembers};
-ghost use Rattle.reader.specs.Answers.{FoundTold};
+ghost use Rattle.reader.specs.Answers.{FoundTold, RowFits};
 
 pub enum Found {
     Nothing,
@@ -30,6 +32,17 @@ pub fn after_at(work: &[u32], node: usize) -> usize
     ensures { λ r. ⌜ r ≡ afterAt (now (work .entry)) node ⌝ }
 {
     work[3 * node + 2] as usize
+}
+
+// A node's row.
+pub fn put_row(work: &mut [u32], node: usize, kind: u32, start: usize, end: usize, after: usize)
+    requires { ⌜ RowFits (length (now work)) node kind start end after ⌝ }
+    ensures { λ _. ⌜ now (work .exit) ≡ sets (now (work .entry)) (3 * node) ((8 * start + kind) ∷ end ∷ after ∷ []) ⌝ }
+{
+    let at = 3 * node;
+    work[at] = (8 * start) as u32 + kind;
+    work[at + 1] = end as u32;
+    work[at + 2] = after as u32;
 }
 
 // The value's node of the first member from `from` up to `end` whose name is the text at `name`.

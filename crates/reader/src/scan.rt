@@ -1,16 +1,13 @@
 // Scans of the sheet: spaces, and a text up to its closing quote.
+use crate::answer::Refusal;
+use crate::answer::Scan;
 use crate::escape::Escaped;
 ghost use mathlib.Core.Path.{_≡_};
 ghost use Prim.Native.Nat.{_≤_};
-ghost use lib.ListN.{length};
+ghost use lib.ListN.{getD, length};
 ghost use Rattle.reader.specs.Scan.{isSpace};
-ghost use Rattle.reader.specs.Placing.{charsAt, skipAt};
+ghost use Rattle.reader.specs.Placing.{charsAt, skipAt, wordAt};
 ghost use Rattle.reader.specs.Answers.{scanOf};
-
-pub enum Scan {
-    Bad,
-    End(usize),
-}
 
 // The place behind the closing quote of the text whose content starts at `at`.
 pub fn string(s: &[u8], at: usize) -> Scan
@@ -24,12 +21,12 @@ pub fn string(s: &[u8], at: usize) -> Scan
             return Scan::End(here + 1);
         }
         if c < 32 {
-            return Scan::Bad;
+            return Scan::Bad(Refusal::NotJson);
         }
         if c == b'\\' {
             match crate::escape::escape(s, here + 1) {
                 Escaped::Bad => {
-                    return Scan::Bad;
+                    return Scan::Bad(Refusal::NotJson);
                 }
                 Escaped::Is(x) => {
                     here = x.next;
@@ -39,7 +36,7 @@ pub fn string(s: &[u8], at: usize) -> Scan
             here += 1;
         }
     }
-    Scan::Bad
+    Scan::Bad(Refusal::NotJson)
 }
 
 pub fn is_space(c: u8) -> bool
@@ -68,4 +65,34 @@ pub fn skip(s: &[u8], at: usize) -> usize
         here += 1;
     }
     here
+}
+
+// The byte at a place; 0 past the end, which is no byte of JSON outside a text.
+pub fn byte_at(s: &[u8], at: usize) -> u8
+    ensures { λ r. ⌜ r ≡ getD (now (s .entry)) at 0 ⌝ }
+{
+    if at < s.len() {
+        return s[at];
+    }
+    0
+}
+
+// The place behind the word `w`.
+pub fn word(s: &[u8], at: usize, w: &[u8]) -> Scan
+    requires { ⌜ at ≤ length (now s) ⌝ }
+    ensures { λ r. ⌜ wordAt (now (w .entry)) (now (s .entry)) at ≡ scanOf r ⌝ }
+{
+    let mut here = at;
+    let mut k = 0;
+    while k < w.len() {
+        if s.len() <= here {
+            return Scan::Bad(Refusal::NotJson);
+        }
+        if s[here] != w[k] {
+            return Scan::Bad(Refusal::NotJson);
+        }
+        here += 1;
+        k += 1;
+    }
+    Scan::End(here)
 }

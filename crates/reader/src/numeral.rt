@@ -1,0 +1,164 @@
+// Numbers of the sheet. `[minus] int [frac] [exp]` is a state machine: where a number stands, and what a further byte makes of it.
+use crate::answer::Refusal;
+use crate::answer::Scan;
+ghost use mathlib.Core.Bool.{cond};
+ghost use mathlib.Core.Path.{_≡_};
+ghost use Prim.Native.Nat.{_<_};
+ghost use lib.ListN.{length};
+ghost use Rattle.reader.specs.Numerals.{digit, first, onward, complete};
+ghost use Rattle.reader.specs.Placing.{digitsAt};
+ghost use Rattle.reader.specs.Refusal.{notJson, ok, refused};
+ghost use Rattle.reader.specs.Answers.{classOf, placeBy, scanOf};
+
+// A row for each place: sign, zero, whole, point, fraction, exponent, its sign, its digits, stop.
+// A column for each class of bytes: 0, 1 to 9, minus, plus, point, e, other.
+const ONWARD: [usize; 63] = [
+    1,
+    2,
+    8,
+    8,
+    8,
+    8,
+    8,
+    8,
+    8,
+    8,
+    8,
+    3,
+    5,
+    8,
+    2,
+    2,
+    8,
+    8,
+    3,
+    5,
+    8,
+    4,
+    4,
+    8,
+    8,
+    8,
+    8,
+    8,
+    4,
+    4,
+    8,
+    8,
+    8,
+    5,
+    8,
+    7,
+    7,
+    6,
+    6,
+    8,
+    8,
+    8,
+    7,
+    7,
+    8,
+    8,
+    8,
+    8,
+    8,
+    7,
+    7,
+    8,
+    8,
+    8,
+    8,
+    8,
+    8,
+    8,
+    8,
+    8,
+    8,
+    8,
+    8,
+];
+
+fn class(c: u8) -> usize
+    ensures { λ r. ⌜ (digit c ≡ classOf r) × (r < 7) ⌝ }
+{
+    match c {
+        48 => 0,
+        49..=57 => 1,
+        45 => 2,
+        43 => 3,
+        46 => 4,
+        69 => 5,
+        101 => 5,
+        _ => 6,
+    }
+}
+
+// Where the first byte leads.
+fn first(c: u8) -> usize
+    ensures { λ r. ⌜ (first c ≡ placeBy r) × (r < 9) ⌝ }
+{
+    match c {
+        45 => 0,
+        48 => 1,
+        49..=57 => 2,
+        _ => 8,
+    }
+}
+
+// Where a further byte leads; 8 is no number any more.
+fn onward(place: usize, c: u8) -> usize
+    requires { ⌜ place < 9 ⌝ }
+    ensures { λ r. ⌜ (onward (placeBy place) (digit c) ≡ placeBy r) × (r < 9) ⌝ }
+{
+    let column = class(c);
+    ONWARD[7 * place + column]
+}
+
+// Whether a number may end there.
+fn complete(place: usize) -> bool
+    requires { ⌜ place < 9 ⌝ }
+    ensures { λ r. ⌜ r ≡ complete (placeBy place) ⌝ }
+{
+    match place {
+        1 => true,
+        2 => true,
+        4 => true,
+        7 => true,
+        _ => false,
+    }
+}
+
+// The number's end, where it may end.
+fn ending(place: usize, at: usize) -> Scan
+    requires { ⌜ place < 9 ⌝ }
+    ensures { λ r. ⌜ cond (complete (placeBy place)) (ok at) (refused notJson) ≡ scanOf r ⌝ }
+{
+    if complete(place) {
+        Scan::End(at)
+    } else {
+        Scan::Bad(Refusal::NotJson)
+    }
+}
+
+// The place behind the number that starts at `at`; its 256th byte is one too many.
+pub fn number(s: &[u8], at: usize) -> Scan
+    requires { ⌜ at < length (now s) ⌝ }
+    ensures { λ r. ⌜ digitsAt (now (s .entry)) at ≡ scanOf r ⌝ }
+{
+    let mut place = first(s[at]);
+    let mut here = at + 1;
+    let mut left: usize = 254;
+    while here < s.len() {
+        let next = onward(place, s[here]);
+        if next == 8 {
+            return ending(place, here);
+        }
+        if left == 0 {
+            return Scan::Bad(Refusal::NumberTooLong);
+        }
+        place = next;
+        left -= 1;
+        here += 1;
+    }
+    ending(place, here)
+}
