@@ -17,3 +17,5 @@ pub mod Members
 pub mod Entries
 pub mod Numbers
 pub mod Encoding
+pub mod Marks
+pub mod MemberName

@@ -175,7 +175,7 @@ one-there : (k x : Bytes) (xs : List Bytes) → sameBytes k x ≡ false → isOn
 unfolding isOneOf
 one-there k x xs e = rw (e, isOneOf)
 
-one-more : (k x : Bytes) (xs : List Bytes) → isOneOf k (xs ++ (x ∷ [])) ≡ isOneOf k (x ∷ xs)
+pub one-more : (k x : Bytes) (xs : List Bytes) → isOneOf k (xs ++ (x ∷ [])) ≡ isOneOf k (x ∷ xs)
 one-more k x [] = refl
 one-more k x (y ∷ ys) = go (sameBytes k y) (sameBytes k x) refl refl (one-more k x ys)
   where
@@ -193,7 +193,7 @@ one-same k x xs ys e = go (sameBytes k x) refl
     go true q = rw (q, isOneOf)
     go false q = rw (q, isOneOf) e
 
-keys-more : (s : Bytes) (fs : Fields) (a e : ℕ) (t : Node) → keys (eraseOf s (joinedOf fs (field a e t noField))) ≡ keys (eraseOf s fs) ++ (textAt s a ∷ [])
+pub keys-more : (s : Bytes) (fs : Fields) (a e : ℕ) (t : Node) → keys (eraseOf s (joinedOf fs (field a e t noField))) ≡ keys (eraseOf s fs) ++ (textAt s a ∷ [])
 unfolding joinedOf eraseOf
 keys-more s noField a e t = refl
 keys-more s (field b f x fs) a e t = ap {B = List Bytes} (λ l. textAt s b ∷ l) (keys-more s fs a e t)
@@ -210,22 +210,22 @@ pub record Naming (s : Bytes) (val : Placer Node) (at : ℕ) (whole : Result (Pl
   pub rest : whole ≡ closesOf at fs (fieldsAt s val fuel names n here)
   pub named : (k : Bytes) → isOneOf k names ≡ isOneOf k (keys (eraseOf s fs))
 
-bind-refused : {A B : Type 0} {x : Result A} {r : Refusal} (f : A → Result B) → x ≡ refused r → (x >>= f) ≡ refused r
+pub bind-refused : {A B : Type 0} {x : Result A} {r : Refusal} (f : A → Result B) → x ≡ refused r → (x >>= f) ≡ refused r
 bind-refused f e = ap (λ y. y >>= f) e
 
-byte-is : (c : ℕ) (s : Bytes) (at : ℕ) → getD s at 0 ≡ c → byteAt c s at ≡ ok (at + 1)
+pub byte-is : (c : ℕ) (s : Bytes) (at : ℕ) → getD s at 0 ≡ c → byteAt c s at ≡ ok (at + 1)
 unfolding byteAt
 byte-is c s at e = rw (eq-eqb c (getD s at 0) (sym e), byteAt)
 
-byte-not : (c : ℕ) (s : Bytes) (at : ℕ) → (getD s at 0 ≡ c → ⊥) → byteAt c s at ≡ refused notJson
+pub byte-not : (c : ℕ) (s : Bytes) (at : ℕ) → (getD s at 0 ≡ c → ⊥) → byteAt c s at ≡ refused notJson
 unfolding byteAt
 byte-not c s at f = rw (ne-eqb c (getD s at 0) (λ e. f (sym e)), byteAt)
 
-none-left : (n : ℕ) → maxNodes ≤ n → oneNode n ≡ refused tooManyNodes
+pub none-left : (n : ℕ) → maxNodes ≤ n → oneNode n ≡ refused tooManyNodes
 unfolding oneNode
 none-left n h = rw (le-ltb n maxNodes h, oneNode)
 
-not-new : (k : Bytes) (names : List Bytes) → isOneOf k names ≡ true → newName k names [] ≡ refused repeatedName
+pub not-new : (k : Bytes) (names : List Bytes) → isOneOf k names ≡ true → newName k names [] ≡ refused repeatedName
 unfolding newName
 not-new k names e = rw (e, newName)
 

@@ -142,3 +142,15 @@ text-view s a e h = go (drop a s) (drop (e + 1) s) (textAt s a) refl refl refl (
         let w : u .rest ≡ drop (placeOf s t′) s = ap (λ (v : Read Bytes). v .rest) d ∙ b .rest in
         let v : encode (u .got) ≡ y = ap (λ (v : Read Bytes). v .got) d in
         written (u .got) (placeOf s t′) (g .0 ∙ q) (ap escaped (sym (g .1)) ∙ o .1 ∙ ap {B = Result (Read ℕ)} (λ (r′ : Bytes). ok (record { got = u .got; rest = r′ })) w) (k ∙ p ∙ cc (v, m .1)) (m .0) (omega (arith, b .past))
+
+-- a text that was scanned
+pub text-read : (s : Bytes) (a e : ℕ) → a ≤ length s → charsAt s a ≡ ok e → Text s a (e - 1) × (a < e) × (e ≤ length s)
+unfolding charsAt
+text-read s a e h q =
+    let i = bind-inv (chars (length (drop a s)) (drop a s)) _ q in
+    let x = i .0 in
+    let f = chars-sound (length (drop a s)) (drop a s) x (i .1) in
+    let b = placed s a 1 (drop a s) (x .rest) refl h (chars-tail f) (chars-short f) in
+    let p : placeOf s (x .rest) ≡ e = ok-injective (i .2) in
+    let z : e - 1 + 1 ≡ e = omega (arith, b .past) in
+    (record { read = rw z q; order = omega (arith, b .past); upto = omega (arith, b .past, b .upto) }, omega (arith, b .past), omega (arith, b .upto))

@@ -18,3 +18,5 @@ pub mod Fits
 pub mod Cursor
 pub mod Held
 pub mod Answers
+pub mod Naming
+pub mod Laid
