@@ -19,3 +19,6 @@ pub mod Numbers
 pub mod Encoding
 pub mod Marks
 pub mod MemberName
+pub mod Values
+pub mod ArrayLoop
+pub mod ObjectLoop

@@ -6,4 +6,5 @@ pub mod numeral;
 pub mod rows;
 pub mod scan;
 pub mod text;
+pub mod tree;
 pub mod utf8;

@@ -30,11 +30,11 @@ byte-at-requires c κs = search needs
 
 returns : tie.Need-returns
 unfolding NameTold
-returns c = (no-quote (c .before .before .before .before .before .args .s .now) _ (c .before .before .before .before .before .args .count) (c .before .before .before .before .before .args .at) (λ q. c .if1 .taken (c .before .byte-at .ensures ∙ q)), refl)
+returns c = (no-quote (c .before .before .before .before .before .args .s .now) _ (c .before .before .before .before .before .args .count) (c .before .before .before .before .before .args .at) (λ q. c .if1 .taken (c .before .byte-at .ensures ∙ q)), refl, refl)
 
 returns-2 : tie.Need-returns-2
 unfolding NameTold
-returns-2 c = (no-room (c .before .before .before .before .before .before .args .s .now) _ (c .before .before .before .before .before .before .args .count) (c .before .before .before .before .before .before .args .at) (sym (c .before .before .byte-at .ensures) ∙ c .before .if1 .left) (c .if2 .taken), refl)
+returns-2 c = (no-room (c .before .before .before .before .before .before .args .s .now) _ (c .before .before .before .before .before .before .args .count) (c .before .before .before .before .before .before .args .at) (sym (c .before .before .byte-at .ensures) ∙ c .before .if1 .left) (c .if2 .taken), refl, refl)
 
 add-string : tie.Need-add-string
 add-string c = search needs
@@ -73,7 +73,7 @@ unfolding NameTold
 returns-3 c =
     let a = c .before .before .before .before .before .before .before .before .before .before .before .before .before .before .before .args in
     let q = scanned (c .before .before .before .before .before) in
-    (again (a .s .now) (earlier (a .s .now) (a .work .now) (a .object) (a .count)) (a .count) (a .at) (q .isQuote) (q .room) _ (q .isText) (sym (c .before .repeated .ensures) ∙ c .if3 .taken), refl)
+    (again (a .s .now) (earlier (a .s .now) (a .work .now) (a .object) (a .count)) (a .count) (a .at) (q .isQuote) (q .room) _ (q .isText) (sym (c .before .repeated .ensures) ∙ c .if3 .taken), refl, refl)
 
 skip-requires : tie.Need-skip-requires
 skip-requires c κs = scanned (c .before .before .before .before .before) .upto
@@ -89,7 +89,7 @@ unfolding NameTold
 returns-4 c =
     let a = c .before .before .before .before .before .before .before .before .before .before .before .before .before .before .before .before .before .before .args in
     let q = scanned (c .before .before .before .before .before .before .before .before) in
-    (no-colon (a .s .now) (earlier (a .s .now) (a .work .now) (a .object) (a .count)) (a .count) (a .at) (q .isQuote) (q .room) _ (q .isText) (sym (c .before .before .before .before .repeated .ensures) ∙ c .before .before .before .if3 .left) (λ z. c .if4 .taken (c .before .byte-at2 .ensures ∙ ap (λ (i : ℕ). getD (a .s .now) i 0) (c .before .before .skip .ensures) ∙ z)), refl)
+    (no-colon (a .s .now) (earlier (a .s .now) (a .work .now) (a .object) (a .count)) (a .count) (a .at) (q .isQuote) (q .room) _ (q .isText) (sym (c .before .before .before .before .repeated .ensures) ∙ c .before .before .before .if3 .left) (λ z. c .if4 .taken (c .before .byte-at2 .ensures ∙ ap (λ (i : ℕ). getD (a .s .now) i 0) (c .before .before .skip .ensures) ∙ z)), refl, refl)
 
 slice-write-seen : tie.Need-slice-write-seen
 slice-write-seen c = search needs
@@ -122,7 +122,7 @@ returns-5 : tie.Need-returns-5
 unfolding NameTold scanOf
 returns-5 c =
     let a = c .before .before .before .before .before .before .before .before .before .before .args in
-    (bad-text (a .s .now) (earlier (a .s .now) (a .work .now) (a .object) (a .count)) (a .count) (a .at) (sym (c .before .before .before .before .before .before .byte-at .ensures) ∙ c .before .before .before .before .before .if1 .left) (c .before .before .before .before .if2 .left) _ (c .before .before .before .string .ensures ∙ ap scanOf (c .before .n .given .1)), refl)
+    (bad-text (a .s .now) (earlier (a .s .now) (a .work .now) (a .object) (a .count)) (a .count) (a .at) (sym (c .before .before .before .before .before .before .byte-at .ensures) ∙ c .before .before .before .before .before .if1 .left) (c .before .before .before .before .if2 .left) _ (c .before .before .before .string .ensures ∙ ap scanOf (c .before .n .given .1)), refl, refl)
 
 same-length-3 : tie.Need-same-length-3
 same-length-3 c = search needs
