@@ -22,3 +22,4 @@ pub mod MemberName
 pub mod Values
 pub mod ArrayLoop
 pub mod ObjectLoop
+pub mod Whole

@@ -20,3 +20,4 @@ pub mod Held
 pub mod Answers
 pub mod Naming
 pub mod Laid
+pub mod Reads

@@ -1,4 +1,11 @@
 // Reading a sheet: its bytes become the node table, or the refusal that they show first. The definitions stand in specs/, the laws in proofs/.
+use crate::answer::Parsed;
+use crate::answer::Read;
+use crate::answer::Refusal;
+ghost use Prim.Native.Nat.{_≤_};
+ghost use lib.ListN.{length};
+ghost use Rattle.reader.specs.Reads.{Cleared, ReadTold};
+
 pub mod answer;
 pub mod escape;
 pub mod names;
@@ -8,3 +15,42 @@ pub mod scan;
 pub mod text;
 pub mod tree;
 pub mod utf8;
+
+// The words for marks, 12,288 to 16,383, become zero.
+fn clear(work: &mut [u32])
+    requires { ⌜ 16384 ≤ length (now work) ⌝ }
+    ensures { λ _. ⌜ Cleared (now (work .entry)) (now (work .exit)) ⌝ }
+{
+    let mut k = 12288;
+    while k < 16384 {
+        work[k] = 0;
+        k += 1;
+    }
+}
+
+// The sheet's tree in the table, or the first refusal of 1 to 8. One pass for UTF-8 and one for the rest, without a step back; besides the
+// lent table it takes the marks of names, 32,749 bytes of stack, and at most 64 calls of three functions each.
+pub fn read(sheet: &[u8], work: &mut [u32]) -> Read
+    ensures { λ r. ⌜ ReadTold (now (sheet .entry)) (now (work .entry)) (now (work .exit)) r ⌝ }
+{
+    if work.len() < 16384 {
+        return Read::Refused(Refusal::WorkTooSmall);
+    }
+    clear(work);
+    if 32768 < sheet.len() {
+        return Read::Refused(Refusal::TooLong);
+    }
+    if !crate::utf8::utf8(sheet) {
+        return Read::Refused(Refusal::NotUtf8);
+    }
+    let at = crate::scan::skip(sheet, 0);
+    match crate::tree::root(sheet, work, at) {
+        Parsed::Bad(n) => Read::Refused(n),
+        Parsed::Done(p) => {
+            if crate::scan::skip(sheet, p.at) == sheet.len() {
+                return Read::Table(p.node);
+            }
+            Read::Refused(Refusal::NotJson)
+        }
+    }
+}

@@ -152,6 +152,15 @@ pub fn value(
     leaf(s, work, at, node)
 }
 
+// The sheet's value, with no mark of a name set.
+pub fn root(s: &[u8], work: &mut [u32], at: usize) -> Parsed
+    requires { ⌜ Ready (now s) (now work) at 0 ⌝ }
+    ensures { λ r. ⌜ ParsedTold (readAt 64 (now (s .entry)) 0 at) (now (work .entry)) (now (work .exit)) 0 r ⌝ }
+{
+    let mut seen = [false; 32749];
+    value(s, work, &mut seen, at, 0, 64)
+}
+
 // An array from its bracket on, each element with `left` brackets.
 fn array(
     s: &[u8],
