@@ -89,11 +89,11 @@ unfolding natural
 natural-split n [] = omega arith
 natural-split n (c ∷ s) = rw (pow-suc 10 (length s)) (omega (arith, natural-split (n * 10 + (c - 48)) s, natural-split (0 * 10 + (c - 48)) s))
 
-natural-cons : (c : ℕ) (s : Bytes) → natural 0 (c ∷ s) ≡ (c - 48) * 10 ^ length s + natural 0 s
+pub natural-cons : (c : ℕ) (s : Bytes) → natural 0 (c ∷ s) ≡ (c - 48) * 10 ^ length s + natural 0 s
 unfolding natural
 natural-cons c s = natural-split (0 * 10 + (c - 48)) s ∙ ap (λ (k : ℕ). k * 10 ^ length s + natural 0 s) (omega arith)
 
-natural-nil : (n : ℕ) → natural n [] ≡ n
+pub natural-nil : (n : ℕ) → natural n [] ≡ n
 unfolding natural
 natural-nil n = refl
 

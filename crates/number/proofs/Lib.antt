@@ -1,2 +1,4 @@
 pub mod Exact
 pub mod Digits
+mod Columns
+mod Signs

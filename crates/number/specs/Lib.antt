@@ -1,2 +1,4 @@
 pub mod Decimal
 pub mod Compare
+pub mod Places
+pub mod Compared

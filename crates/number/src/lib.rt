@@ -1,1 +1,8 @@
-// The definitions of the crate stand in specs/, its laws in proofs/.
+// The exact order of two numbers by their characters.
+mod places;
+
+pub enum Order {
+    Less,
+    Equal,
+    Greater,
+}
