@@ -1,9 +1,9 @@
 -- Laws of a loop over decimal digits, the lowest first: one digit written at each turn, a carry or a borrow handed on, and the order by the highest digit that differs.
 -- Assumes nothing.
 use mathlib.Core.Bool.{Bool, false, true}
-use mathlib.Core.List.{List, [], _++_, _∷_}
+use mathlib.Core.List.{[], List, _++_, _∷_}
 use mathlib.Core.Logic.{_≢_}
-use mathlib.Core.Path.{ap, refl, subst, sym, _∙_, _≡_}
+use mathlib.Core.Path.{ap, refl, sym, _∙_, _≡_}
 use Prim.Native.Nat.{suc, zero, ℕ, _%_, _*_, _+_, _-_, _/_, _<_, _^_, _≤_}
 use native.Mathlib.Nat.{mul-suc, pow-suc}
 use native.Mathlib.Numerals.{add-one}

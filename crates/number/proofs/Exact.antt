@@ -140,11 +140,11 @@ trim-digits (c ∷ s) h = go (trim-digits s (h .1)) (isZero c) refl
     go below false q = rw (q, trim) h
 
 -- zeros at the end
-record Ending (s : Bytes) : Type 0 where
-  zeros : ℕ
-  split : s ≡ trimEnd s ++ replicate zeros 48
+pub record Ending (s : Bytes) : Type 0 where
+  pub zeros : ℕ
+  pub split : s ≡ trimEnd s ++ replicate zeros 48
 
-abbrev Put : ℕ → Bytes → Bytes → Type 0
+abbrev pub Put : ℕ → Bytes → Bytes → Type 0
 Put c t u = ((t ≡ []) × (c ≡ 48) × (u ≡ [])) ⊎ ((u ≡ c ∷ t) × ((t ≢ []) ⊎ (c ≢ 48)))
 
 put-view : (c : ℕ) (t : Bytes) → Put c t (put c t)
@@ -155,15 +155,15 @@ put-view c [] = go (isZero c) refl
     go false q = inr (rw (q, put) refl, inr (eqb-no c 48 q))
 put-view c (d ∷ t) = inr (refl, inl (λ f. let z : _≡_ {A = Bool} true false = cc in true≢false z))
 
-trimEnd-cons : (c : ℕ) (s : Bytes) → Put c (trimEnd s) (trimEnd (c ∷ s))
+pub trimEnd-cons : (c : ℕ) (s : Bytes) → Put c (trimEnd s) (trimEnd (c ∷ s))
 unfolding trimEnd
 trimEnd-cons c s = put-view c (trimEnd s)
 
-trimEnd-nil : trimEnd [] ≡ []
+pub trimEnd-nil : trimEnd [] ≡ []
 unfolding trimEnd
 trimEnd-nil = refl
 
-ending : (s : Bytes) → Ending s
+pub ending : (s : Bytes) → Ending s
 ending [] = record { zeros = 0; split = cc (trimEnd-nil) }
 ending (c ∷ s) = go (ending s) (trimEnd-cons c s)
   where

@@ -2,3 +2,5 @@ pub mod Exact
 pub mod Digits
 mod Columns
 mod Signs
+mod Parts
+mod Steps

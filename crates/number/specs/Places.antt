@@ -1,7 +1,7 @@
 -- An integer held in decimal digits, the lowest first, with a sign; its order.
 -- Assumes nothing.
 use mathlib.Core.Bool.{true}
-use mathlib.Core.List.{List, [], _∷_}
+use mathlib.Core.List.{[], List, _∷_}
 use mathlib.Core.Path.{_≡_}
 use Prim.Native.Nat.{Ordering, compare, ℕ, _*_, _+_, _<_, _≤_}
 use lib.ListN.{getD}

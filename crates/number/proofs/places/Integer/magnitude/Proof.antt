@@ -1,8 +1,8 @@
 -- `Integer::magnitude` meets its contract: the digits above the place that is looked at stand for the same number.
 -- Assumes nothing.
 use borrow.Author.Needs.{needs}
-use mathlib.Core.Path.{refl, sym, ap, _≡_, _∙_}
-use Prim.Native.Nat.{Ordering·eq, Ordering·gt, Ordering·lt, ℕ, _+_, _-_, _<_, _≤_}
+use mathlib.Core.Path.{sym, _≡_}
+use Prim.Native.Nat.{Ordering·eq, Ordering·gt, Ordering·lt, _+_, _-_, _≤_}
 use native.Mathlib.Omega.{arith}
 use lib.ListN.{drop, length}
 use Rattle.number.proofs.Columns.{above-same, equal-here, less-here}

@@ -1,12 +1,11 @@
 -- `Integer::minus` meets its contract: below the place that is looked at, both digits written and the second number make up the first, but for what is borrowed.
 -- Assumes nothing.
 use borrow.Author.Needs.{needs}
-use mathlib.Core.Path.{refl, sym, ap, _≡_, _∙_}
-use Prim.Native.Nat.{ℕ, _+_, _-_, _<_, _≤_}
+use mathlib.Core.Path.{refl, sym, _≡_}
+use Prim.Native.Nat.{_-_, _<_, _≤_}
 use native.Mathlib.Omega.{arith}
-use lib.ListN.{drop, length}
+use lib.ListN.{length}
 use Rattle.number.proofs.Columns.{Borrowing, all-borrowed, borrow-on, borrowing, none-written, written-digits}
-use Rattle.number.specs.Places.{value}
 use Rattle.number.proofs.places.Integer.minus.Statement.{statement}
 use Rattle.number.proofs.places.Integer.minus.Tie as tie
 

@@ -1,10 +1,10 @@
 -- `Integer::parse` meets its contract: first the text is read from its end, then what is carried over goes into further digits.
 -- Assumes nothing.
 use borrow.Author.Needs.{needs}
-use mathlib.Core.Path.{refl, sym, ap, _≡_, _∙_}
-use Prim.Native.Nat.{ℕ, _+_, _-_, _<_}
+use mathlib.Core.Path.{refl, ap}
+use Prim.Native.Nat.{ℕ, _+_, _-_}
 use native.Mathlib.Omega.{arith}
-use lib.ListN.{drop, length}
+use lib.ListN.{drop}
 use Rattle.reader.specs.Bytes.{natural}
 use Rattle.number.proofs.Columns.{Carrying, Reading, all-carried, all-read, carry-more, none-written, read-on, reading, room}
 use Rattle.number.proofs.places.Integer.parse.Statement.{statement}

@@ -8,7 +8,6 @@ use lib.ListN.{drop, length, drop-of-length-le}
 use Rattle.reader.specs.Bytes.{Bytes, natural}
 use Rattle.number.proofs.Exact.{natural-nil}
 use Rattle.number.specs.Compared.{orderOf}
-use Rattle.number.specs.Places.{value}
 use Rattle.number.proofs.Signs.{alike, cmp-of, held, is-less, is-more, is-same, sum-first, sum-none, sum-nothing, sum-same, sum-second, unlike}
 use borrow.Author.Needs.{needs}
 use Rattle.number.proofs.places.Integer.sum.Statement.{statement}

@@ -1,0 +1,59 @@
+-- `Decimal::magnitude` meets its contract: by the places, then by the digits.
+-- Assumes nothing.
+use borrow.Author.Needs.{needs}
+use mathlib.Core.Path.{ap, sym, _∙_}
+use Rattle.number.specs.Compared.{orderOf}
+use Rattle.number.proofs.Steps.{places-less, places-more, places-same}
+use Rattle.number.proofs.text.Decimal.magnitude.Statement.{statement}
+use Rattle.number.proofs.text.Decimal.magnitude.Tie as tie
+
+places-requires : tie.Need-places-requires
+places-requires c κs = search needs
+
+places-requires-2 : tie.Need-places-requires-2
+places-requires-2 c κs = search needs
+
+cmp-requires : tie.Need-cmp-requires
+cmp-requires c κs = search needs
+
+enum-told : tie.Need-enum-told
+enum-told c = search needs
+
+enum-told-2 : tie.Need-enum-told-2
+enum-told-2 c = search needs
+
+digits-requires : tie.Need-digits-requires
+digits-requires c κs = search needs
+
+enum-told-3 : tie.Need-enum-told-3
+enum-told-3 c = search needs
+
+returns : tie.Need-returns
+returns c =
+    let a = c .before .before .before .before .before .before .before .args in
+    sym (places-less (a .left .now) (a .right .now) _ _ (c .before .before .before .before .places .ensures .1) (c .before .before .before .places2 .ensures .1) (sym (c .before .before .cmp .ensures) ∙ ap orderOf (c .enum-told .given .1)))
+
+returns-2 : tie.Need-returns-2
+returns-2 c =
+    let a = c .before .before .before .before .before .before .before .before .before .before .args in
+    c .digits .ensures ∙ sym (places-same (a .left .now) (a .right .now) _ _ (c .before .before .before .before .before .before .before .places .ensures .1) (c .before .before .before .before .before .before .places2 .ensures .1) (a .self) (a .other) (c .before .before .before .before .before .before .before .before .before .before .pre .0 .0) (c .before .before .before .before .before .before .before .before .before .before .pre .1 .0) (sym (c .before .before .before .before .before .cmp .ensures) ∙ ap orderOf (c .before .before .before .enum-told2 .given .1)))
+
+returns-3 : tie.Need-returns-3
+returns-3 c =
+    let a = c .before .before .before .before .before .before .before .args in
+    sym (places-more (a .left .now) (a .right .now) _ _ (c .before .before .before .before .places .ensures .1) (c .before .before .before .places2 .ensures .1) (sym (c .before .before .cmp .ensures) ∙ ap orderOf (c .enum-told3 .given .1)))
+
+pub magnitude-spec : {M : Type 1} → statement M
+magnitude-spec =
+    tie.close
+    (tie.spec
+    places-requires
+    places-requires-2
+    cmp-requires
+    enum-told
+    enum-told-2
+    digits-requires
+    enum-told-3
+    returns
+    returns-2
+    returns-3)

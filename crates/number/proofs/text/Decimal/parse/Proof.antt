@@ -1,0 +1,82 @@
+-- `Decimal::parse` meets its contract.
+-- Assumes nothing.
+use borrow.Author.Needs.{needs}
+use mathlib.Core.Path.{sym, _∙_}
+use native.Mathlib.Omega.{arith}
+use Rattle.number.proofs.Parts.{parsed-fraction, parsed-whole}
+use Rattle.number.proofs.Steps.{fraction-upto, point-within}
+use Rattle.number.proofs.text.Decimal.parse.Statement.{statement}
+use Rattle.number.proofs.text.Decimal.parse.Tie as tie
+
+sign-requires : tie.Need-sign-requires
+sign-requires c κs = search needs
+
+zeros-requires : tie.Need-zeros-requires
+zeros-requires c κs = search needs
+
+point-at-requires : tie.Need-point-at-requires
+point-at-requires c κs = search needs
+
+add-zeros : tie.Need-add-zeros
+add-zeros c = search needs
+
+zeros-requires-2 : tie.Need-zeros-requires-2
+zeros-requires-2 c κs = omega (arith, point-within (c .before .before .before .before .before .args .s .now) (c .before .before .zeros .result) (sym (c .before .point-at .ensures) ∙ c .if1 .taken))
+
+part-requires : tie.Need-part-requires
+part-requires c κs = search needs
+
+sub-t15 : tie.Need-sub-t15
+sub-t15 c = search needs
+
+sub-t17 : tie.Need-sub-t17
+sub-t17 c = search needs
+
+sub-t18 : tie.Need-sub-t18
+sub-t18 c = search needs
+
+behind-requires : tie.Need-behind-requires
+behind-requires c κs = search needs
+
+returns : tie.Need-returns
+returns c = parsed-fraction (c .before .before .before .before .before .before .before .before .args .s .now) (c .before .before .before .before .before .before .sign .result .next) (c .before .before .before .before .before .zeros .result) (c .before .before .before .before .before .before .sign .ensures .rest) (c .before .before .before .before .before .zeros .ensures) (c .before .before .zeros2 .result) (sym (c .before .before .before .before .point-at .ensures) ∙ c .before .before .before .if1 .taken) (c .before .before .zeros2 .ensures) (c .before .part .result) (c .before .part .ensures) (c .behind .result) (c .behind .ensures) (c .before .before .before .before .before .before .sign .result .negative) (c .before .before .before .before .before .before .sign .ensures .negative)
+
+part-requires-2 : tie.Need-part-requires-2
+part-requires-2 c κs = search needs
+
+fraction-requires : tie.Need-fraction-requires
+fraction-requires c κs = search needs
+
+sub-t21 : tie.Need-sub-t21
+sub-t21 c = search needs
+
+sub-t22 : tie.Need-sub-t22
+sub-t22 c = search needs
+
+behind-requires-2 : tie.Need-behind-requires-2
+behind-requires-2 c κs = fraction-upto (c .before .before .before .before .before .before .before .before .args .s .now) (c .before .before .part2 .result) (c .before .fraction .result) (c .before .fraction .ensures) (c .before .before .part2 .ensures .upto)
+
+returns-2 : tie.Need-returns-2
+returns-2 c = parsed-whole (c .before .before .before .before .before .before .before .before .before .args .s .now) (c .before .before .before .before .before .before .before .sign .result .next) (c .before .before .before .before .before .before .zeros .result) (c .before .before .before .before .before .before .before .sign .ensures .rest) (c .before .before .before .before .before .before .zeros .ensures) (sym (c .before .before .before .before .before .point-at .ensures) ∙ c .before .before .before .before .if1 .left) (c .before .before .before .part2 .result) (c .before .before .fraction .result) (c .before .before .before .part2 .ensures) (c .behind2 .result) (c .behind2 .ensures) (c .before .before .before .before .before .before .before .sign .result .negative) (c .before .before .before .before .before .before .before .sign .ensures .negative) (c .before .before .fraction .ensures)
+
+pub parse-spec : {M : Type 1} → statement M
+parse-spec =
+    tie.close
+    (tie.spec
+    sign-requires
+    zeros-requires
+    point-at-requires
+    add-zeros
+    zeros-requires-2
+    part-requires
+    sub-t15
+    sub-t17
+    sub-t18
+    behind-requires
+    returns
+    part-requires-2
+    fraction-requires
+    sub-t21
+    sub-t22
+    behind-requires-2
+    returns-2)
