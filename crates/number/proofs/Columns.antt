@@ -66,7 +66,7 @@ pub record Written (out : List ℕ) (i : ℕ) : Type 0 where
   pub clear : (k : ℕ) → i ≤ k → getD out k 0 ≡ 0
 
 pub written-digits : (out : List ℕ) (i : ℕ) → Written out i → i ≤ 260 → Digits out i
-written-digits out i w h = record { few = h; small = w .small; clear = w .clear }
+written-digits out i w h = record { long = w .long; few = h; small = w .small; clear = w .clear }
 
 pub written-value : (out : List ℕ) (i : ℕ) → Written out i → value (take i out) ≡ value out
 written-value out i w = below-clear out i (w .clear) i (omega arith)
@@ -207,7 +207,7 @@ pub record Borrowing (a b out : List ℕ) (borrow i : ℕ) : Type 0 where
   pub written : Written out i
   pub total : value (take i a) + 10 ^ i * borrow ≡ value (take i out) + value (take i b)
 
-module _ (a b : List ℕ) (m n : ℕ) (la : length a ≡ 260) (lb : length b ≡ 260) (da : Digits a m) (db : Digits b n) where
+module _ (a b : List ℕ) (n : ℕ) (da : Digits a n) (db : Digits b n) where
   pub borrowing : (out : List ℕ) → Written out 0 → Borrowing a b out 0 0
   unfolding value
   borrowing out w = record { small = omega arith; written = w; total = refl }
@@ -221,8 +221,8 @@ module _ (a b : List ℕ) (m n : ℕ) (la : length a ≡ 260) (lb : length b ≡
             omega (
               arith,
               r .total,
-              value-next a i (omega (arith, la, h)),
-              value-next b i (omega (arith, lb, h)),
+              value-next a i (omega (arith, da .long, h)),
+              value-next b i (omega (arith, db .long, h)),
               write-value out i (t % 10) (r .written) h,
               power-next i,
               ap (λ (z : ℕ). 10 ^ i * z) column,
@@ -238,17 +238,21 @@ module _ (a b : List ℕ) (m n : ℕ) (la : length a ≡ 260) (lb : length b ≡
   none-borrowed B v y x zero e h l = omega (arith, e)
   none-borrowed B v y x (suc k) e h l = absurd (omega (arith, e, h, l, mul-suc B k))
 
-  pub all-borrowed : (out : List ℕ) (borrow i : ℕ) → Borrowing a b out borrow i → m ≤ i → n ≤ i → value b ≤ value a → value out + value b ≡ value a
-  all-borrowed out borrow i r p q l =
+  pub all-borrowed : (out : List ℕ) (borrow i : ℕ) → Borrowing a b out borrow i → n ≤ i → value b ≤ value a → value out + value b ≡ value a
+  all-borrowed out borrow i r p l =
       none-borrowed
       (10 ^ i)
       (value out)
       (value b)
       (value a)
       borrow
-      (rw (below-clear a m (da .clear) i p, below-clear b n (db .clear) i q, written-value out i (r .written)) at (r .total))
+      (rw (below-clear a n (da .clear) i p, below-clear b n (db .clear) i p, written-value out i (r .written)) at (r .total))
       (rw (written-value out i (r .written)) at (written-below out i (r .written)))
       l
+
+-- a larger count serves as well
+pub wider : (ds : List ℕ) (m n : ℕ) → m ≤ n → n ≤ 260 → Digits ds m → Digits ds n
+wider ds m n h k d = record { long = d .long; few = k; small = d .small; clear = λ i p. d .clear i (omega (arith, h, p)) }
 
 -- ---- the order: the highest digit that differs
 -- what holds of the upper digits holds of the whole
@@ -258,8 +262,8 @@ less-down (suc i) a b p la lb h =
     let e : i + 1 ≡ suc i = omega arith in
     less-down i a b p (omega arith) (omega arith) (omega (arith, p i, rw e at (value-at a i (omega arith)), rw e at (value-at b i (omega arith))))
 
-pub above-same : (a b : List ℕ) (m n i : ℕ) → Digits a m → Digits b n → m ≤ i → n ≤ i → value (drop i a) ≡ value (drop i b)
-above-same a b m n i p q h k = above-clear a m (p .clear) i h ∙ sym (above-clear b n (q .clear) i k)
+pub above-same : (a b : List ℕ) (n : ℕ) → Digits a n → Digits b n → value (drop n a) ≡ value (drop n b)
+above-same a b n p q = above-clear a n (p .clear) n (omega arith) ∙ sym (above-clear b n (q .clear) n (omega arith))
 
 module _ (a b : List ℕ) (i : ℕ) (la : i < length a) (lb : i < length b) (e : value (drop (i + 1) a) ≡ value (drop (i + 1) b)) where
   pub less-here : ((k : ℕ) → getD a k 0 < 10) → getD a i 0 < getD b i 0 → value a < value b

@@ -51,9 +51,6 @@ module _ (m n : ℕ) where
 
 -- an integer that is held, by its sign
 module _ (h : Held) (b : Bool) (e : h .negative ≡ b) where
-  pub by-sign : integer h ≡ signed b (value (h .digits))
-  by-sign = ap (λ (z : Bool). signed z (value (h .digits))) e
-
   pub held : Digits (h .digits) (h .count) → (b ≡ true → 0 < value (h .digits)) → (i : Integer) → Same (signed b (value (h .digits))) i → Tidy h × Same (integer h) i
   held d p i q = (record { digits = d; sign = λ k. p (sym e ∙ k) }, subst (λ (z : Bool). Same (signed z (value (h .digits))) i) (sym e) q)
 

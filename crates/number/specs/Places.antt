@@ -4,7 +4,7 @@ use mathlib.Core.Bool.{true}
 use mathlib.Core.List.{[], List, _∷_}
 use mathlib.Core.Path.{_≡_}
 use Prim.Native.Nat.{Ordering, compare, ℕ, _*_, _+_, _<_, _≤_}
-use lib.ListN.{getD}
+use lib.ListN.{getD, length}
 use Rattle.number.specs.Decimal.{Integer, signed}
 use Rattle.number.specs.declared.places.Integer.{Integer as Held}
 
@@ -15,6 +15,7 @@ value (d ∷ ds) = d + 10 * value ds
 
 -- 260 digits, of which `count` are in use
 pub record Digits (ds : List ℕ) (count : ℕ) : Type 0 where
+  pub long : length ds ≡ 260
   pub few : count ≤ 260
   pub small : (i : ℕ) → getD ds i 0 < 10
   pub clear : (i : ℕ) → count ≤ i → getD ds i 0 ≡ 0

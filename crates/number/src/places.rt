@@ -26,7 +26,7 @@ fn digit(c: u8) -> usize
     (c - 48) as usize
 }
 
-fn larger(a: usize, b: usize) -> usize
+pub fn larger(a: usize, b: usize) -> usize
     ensures { λ r. ⌜ (a ≤ r) × (b ≤ r) ⌝ }
     ensures { λ r. ⌜ ((n : ℕ) → a ≤ n → b ≤ n → r ≤ n) ⌝ }
 {
@@ -34,6 +34,68 @@ fn larger(a: usize, b: usize) -> usize
         return b;
     }
     a
+}
+
+// The order of two rows of digits: the highest digit that differs decides.
+fn magnitude<'a>(a: &'a [u8; 260], b: &'a [u8; 260], count: usize) -> Order
+    requires { ⌜ Digits (now a) count × Digits (now b) count ⌝ }
+    ensures { λ r. ⌜ orderOf r ≡ compare (value (now (a .entry))) (value (now (b .entry))) ⌝ }
+{
+    let mut i = count;
+    while 0 < i {
+        i -= 1;
+        let x = a[i];
+        let y = b[i];
+        if x < y {
+            return Order::Less;
+        }
+        if y < x {
+            return Order::Greater;
+        }
+    }
+    Order::Equal
+}
+
+// The order of two integers, by their signs and the digits that either has in use.
+pub fn order<'a>(x: bool, a: &'a [u8; 260], y: bool, b: &'a [u8; 260], count: usize) -> Order
+    requires { ⌜ Digits (now a) count × Digits (now b) count ⌝ }
+    requires { ⌜ (x ≡ true → 0 < value (now a)) ⌝ }
+    requires { ⌜ (y ≡ true → 0 < value (now b)) ⌝ }
+    ensures { λ r. ⌜ orderOf r ≡ orderIntegers (signed x (value (now (a .entry)))) (signed y (value (now (b .entry)))) ⌝ }
+{
+    if x {
+        if y {
+            return magnitude(b, a, count);
+        }
+        return Order::Less;
+    }
+    if y {
+        return Order::Greater;
+    }
+    magnitude(a, b, count)
+}
+
+// The difference of two rows of digits, where the first is not the smaller.
+fn minus<'a>(a: &'a [u8; 260], b: &'a [u8; 260], count: usize, negative: bool) -> Integer
+    requires { ⌜ Digits (now a) count × Digits (now b) count × (value (now b) ≤ value (now a)) ⌝ }
+    ensures { λ r. ⌜ Digits (r .digits) (r .count) ⌝ }
+    ensures { λ r. ⌜ value (r .digits) + value (now (b .entry)) ≡ value (now (a .entry)) ⌝ }
+    ensures { λ r. ⌜ r .negative ≡ negative ⌝ }
+{
+    let mut digits = [0u8; 260];
+    let mut borrow = 0u8;
+    let mut i = 0;
+    while i < count {
+        let t = 10 + a[i] - b[i] - borrow;
+        digits[i] = t % 10;
+        borrow = 1 - t / 10;
+        i += 1;
+    }
+    Integer {
+        digits: digits,
+        count: count,
+        negative: negative,
+    }
 }
 
 impl Integer {
@@ -67,72 +129,6 @@ impl Integer {
         }
     }
 
-    // The order of two integers without their signs: the highest digit that differs decides.
-    pub fn magnitude(self, other: Integer) -> Order
-        requires { ⌜ Digits (self .digits) (self .count) × Digits (other .digits) (other .count) ⌝ }
-        ensures { λ r. ⌜ orderOf r ≡ compare (value (self .digits)) (value (other .digits)) ⌝ }
-    {
-        let a = self.digits;
-        let b = other.digits;
-        let mut i = larger(self.count, other.count);
-        while 0 < i {
-            i -= 1;
-            let x = a[i];
-            let y = b[i];
-            if x < y {
-                return Order::Less;
-            }
-            if y < x {
-                return Order::Greater;
-            }
-        }
-        Order::Equal
-    }
-
-    // The difference of two integers without their signs, where the first is not the smaller; the sign is the first's.
-    pub fn minus(self, other: Integer) -> Integer
-        requires { ⌜ Digits (self .digits) (self .count) × Digits (other .digits) (other .count) × (value (other .digits) ≤ value (self .digits)) ⌝ }
-        ensures { λ r. ⌜ Digits (r .digits) (r .count) ⌝ }
-        ensures { λ r. ⌜ value (r .digits) + value (other .digits) ≡ value (self .digits) ⌝ }
-        ensures { λ r. ⌜ r .negative ≡ self .negative ⌝ }
-    {
-        let a = self.digits;
-        let b = other.digits;
-        let count = larger(self.count, other.count);
-        let mut digits = [0u8; 260];
-        let mut borrow = 0u8;
-        let mut i = 0;
-        while i < count {
-            let t = 10 + a[i] - b[i] - borrow;
-            digits[i] = t % 10;
-            borrow = 1 - t / 10;
-            i += 1;
-        }
-        let negative = self.negative;
-        Integer {
-            digits: digits,
-            count: count,
-            negative: negative,
-        }
-    }
-
-    // The order of two integers.
-    pub fn cmp(self, other: Integer) -> Order
-        requires { ⌜ Tidy self × Tidy other ⌝ }
-        ensures { λ r. ⌜ orderOf r ≡ orderIntegers (integer self) (integer other) ⌝ }
-    {
-        if self.negative {
-            if other.negative {
-                return other.magnitude(self);
-            }
-            return Order::Less;
-        }
-        if other.negative {
-            return Order::Greater;
-        }
-        self.magnitude(other)
-    }
-
     // The signed number that the bytes from `at` on spell, and a signed `amount`. Where the signs differ, the smaller is
     // taken from the larger.
     pub fn sum(s: &[u8], at: usize, negative: bool, amount: usize, less: bool) -> Integer
@@ -150,10 +146,11 @@ impl Integer {
         }
         let x = Integer::parse(s, at, 0, negative);
         let y = Integer::parse(s, end, amount, less);
-        match x.magnitude(y) {
-            Order::Less => y.minus(x),
+        let count = larger(x.count, y.count);
+        match magnitude(&x.digits, &y.digits, count) {
+            Order::Less => minus(&y.digits, &x.digits, count, less),
             Order::Equal => Integer::parse(s, end, 0, false),
-            Order::Greater => x.minus(y),
+            Order::Greater => minus(&x.digits, &y.digits, count, negative),
         }
     }
 }

@@ -1,8 +1,9 @@
 // The parts of a number's characters, found where they stand.
 use crate::Order;
+use crate::places;
 use crate::places::Integer;
 ghost use mathlib.Core.Path.{_≡_};
-ghost use Prim.Native.Nat.{_+_, _≤_};
+ghost use Prim.Native.Nat.{_≤_};
 ghost use lib.ListN.{length, drop};
 ghost use Rattle.reader.specs.Bytes.{orderBytes};
 ghost use Rattle.number.specs.Compare.{scaled, scaledOrder, signOf};
@@ -317,7 +318,8 @@ impl Decimal {
     {
         let x = self.places(left);
         let y = other.places(right);
-        match x.cmp(y) {
+        let count = places::larger(x.count, y.count);
+        match places::order(x.negative, &x.digits, y.negative, &y.digits, count) {
             Order::Less => Order::Less,
             Order::Equal => {
                 let a = self.digits;

@@ -3,6 +3,7 @@
 use borrow.Author.Needs.{needs}
 use mathlib.Core.Path.{ap, sym, _∙_}
 use Rattle.number.specs.Compared.{orderOf}
+use Rattle.number.proofs.Columns.{wider}
 use Rattle.number.proofs.Steps.{places-less, places-more, places-same}
 use Rattle.number.proofs.text.Decimal.magnitude.Statement.{statement}
 use Rattle.number.proofs.text.Decimal.magnitude.Tie as tie
@@ -13,8 +14,16 @@ places-requires c κs = search needs
 places-requires-2 : tie.Need-places-requires-2
 places-requires-2 c κs = search needs
 
-cmp-requires : tie.Need-cmp-requires
-cmp-requires c κs = search needs
+larger-requires : tie.Need-larger-requires
+larger-requires c κs = search needs
+
+order-requires : tie.Need-order-requires
+order-requires c κs =
+    let l = c .before .before .before .before .larger .ensures in
+    let x = c .before .before .before .before .before .before .places .ensures .0 in
+    let y = c .before .before .before .before .before .places2 .ensures .0 in
+    let k = l .1 260 (x .digits .few) (y .digits .few) in
+    ((wider _ _ _ (l .0 .0) k (x .digits), wider _ _ _ (l .0 .1) k (y .digits)), (x .sign, y .sign))
 
 enum-told : tie.Need-enum-told
 enum-told c = search needs
@@ -30,18 +39,18 @@ enum-told-3 c = search needs
 
 returns : tie.Need-returns
 returns c =
-    let a = c .before .before .before .before .before .before .before .args in
-    sym (places-less (a .left .now) (a .right .now) _ _ (c .before .before .before .before .places .ensures .1) (c .before .before .before .places2 .ensures .1) (sym (c .before .before .cmp .ensures) ∙ ap orderOf (c .enum-told .given .1)))
+    let a = c .before .before .before .before .before .before .before .before .before .before .before .before .args in
+    sym (places-less (a .left .now) (a .right .now) _ _ (c .before .before .before .before .before .before .before .before .before .places .ensures .1) (c .before .before .before .before .before .before .before .before .places2 .ensures .1) (sym (c .before .before .order .ensures) ∙ ap orderOf (c .enum-told .given .1)))
 
 returns-2 : tie.Need-returns-2
 returns-2 c =
-    let a = c .before .before .before .before .before .before .before .before .before .before .args in
-    c .digits .ensures ∙ sym (places-same (a .left .now) (a .right .now) _ _ (c .before .before .before .before .before .before .before .places .ensures .1) (c .before .before .before .before .before .before .places2 .ensures .1) (a .self) (a .other) (c .before .before .before .before .before .before .before .before .before .before .pre .0 .0) (c .before .before .before .before .before .before .before .before .before .before .pre .1 .0) (sym (c .before .before .before .before .before .cmp .ensures) ∙ ap orderOf (c .before .before .before .enum-told2 .given .1)))
+    let a = c .before .before .before .before .before .before .before .before .before .before .before .before .before .before .before .args in
+    c .digits .ensures ∙ sym (places-same (a .left .now) (a .right .now) _ _ (c .before .before .before .before .before .before .before .before .before .before .before .before .places .ensures .1) (c .before .before .before .before .before .before .before .before .before .before .before .places2 .ensures .1) (a .self) (a .other) (c .before .before .before .before .before .before .before .before .before .before .before .before .before .before .before .pre .0 .0) (c .before .before .before .before .before .before .before .before .before .before .before .before .before .before .before .pre .1 .0) (sym (c .before .before .before .before .before .order .ensures) ∙ ap orderOf (c .before .before .before .enum-told2 .given .1)))
 
 returns-3 : tie.Need-returns-3
 returns-3 c =
-    let a = c .before .before .before .before .before .before .before .args in
-    sym (places-more (a .left .now) (a .right .now) _ _ (c .before .before .before .before .places .ensures .1) (c .before .before .before .places2 .ensures .1) (sym (c .before .before .cmp .ensures) ∙ ap orderOf (c .enum-told3 .given .1)))
+    let a = c .before .before .before .before .before .before .before .before .before .before .before .before .args in
+    sym (places-more (a .left .now) (a .right .now) _ _ (c .before .before .before .before .before .before .before .before .before .places .ensures .1) (c .before .before .before .before .before .before .before .before .places2 .ensures .1) (sym (c .before .before .order .ensures) ∙ ap orderOf (c .enum-told3 .given .1)))
 
 pub magnitude-spec : {M : Type 1} → statement M
 magnitude-spec =
@@ -49,7 +58,8 @@ magnitude-spec =
     (tie.spec
     places-requires
     places-requires-2
-    cmp-requires
+    larger-requires
+    order-requires
     enum-told
     enum-told-2
     digits-requires
