@@ -23,3 +23,4 @@ pub mod Values
 pub mod ArrayLoop
 pub mod ObjectLoop
 pub mod Whole
+pub mod Alike

@@ -3,6 +3,7 @@ pub mod Refusal
 pub mod Json
 pub mod Limits
 pub mod Sorted
+pub mod Alike
 pub mod Utf8
 pub mod Scan
 pub mod Strings
