@@ -28,8 +28,8 @@ use Rattle.reader.specs.declared.answer.Parsed.the-variants as parseds
 use Rattle.reader.specs.declared.answer.Place.{Place}
 use Rattle.reader.specs.declared.answer.Refusal.{Refusal as Why}
 use Rattle.reader.specs.declared.answer.Refusal.the-variants as whys
-use Rattle.reader.specs.declared.tree.Sep.{Sep}
-use Rattle.reader.specs.declared.tree.Sep.the-variants as seps
+use Rattle.reader.specs.declared.bracket.Sep.{Sep}
+use Rattle.reader.specs.declared.bracket.Sep.the-variants as seps
 
 -- what falls with each turn of a loop over separators
 unfoldable pub reach : Bytes → Sep → ℕ

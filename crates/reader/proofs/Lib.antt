@@ -14,7 +14,7 @@ pub mod Words
 pub mod Samples
 pub mod Leaves
 pub mod Members
-pub mod Entries
+pub mod TableRule
 pub mod Numbers
 pub mod Encoding
 pub mod Marks

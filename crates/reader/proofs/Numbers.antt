@@ -9,7 +9,7 @@ use native.Mathlib.Omega.{arith}
 use lib.Dec.{eqb, eqb→eq}
 use lib.ListN.{drop, drop-of-length-le, getD, length, length-drop}
 use lib.Seq.{drop-cons}
-use Rattle.reader.proofs.Entries.{at}
+use Rattle.reader.proofs.TableRule.{at}
 use Rattle.reader.proofs.Sound.{between-of, between-out}
 use Rattle.reader.specs.Answers.{classOf, placeBy}
 use Rattle.reader.specs.Bytes.{Bytes, choose}

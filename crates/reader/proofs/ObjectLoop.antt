@@ -40,8 +40,8 @@ use Rattle.reader.specs.declared.answer.Refusal.the-variants as whys
 use Rattle.reader.specs.declared.names.Named.{Named}
 use Rattle.reader.specs.declared.names.Named.the-variants as nameds
 use Rattle.reader.specs.declared.names.Spelt.{Spelt}
-use Rattle.reader.specs.declared.tree.Sep.{Sep}
-use Rattle.reader.specs.declared.tree.Sep.the-variants as seps
+use Rattle.reader.specs.declared.bracket.Sep.{Sep}
+use Rattle.reader.specs.declared.bracket.Sep.the-variants as seps
 use borrow.Author.Tests.{eqb-true, ltb-true}
 
 -- ---- a name that was refused, and one that was read

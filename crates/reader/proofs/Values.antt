@@ -25,8 +25,8 @@ use Rattle.reader.specs.Table.{code, rows}
 use Rattle.reader.specs.declared.answer.Parsed.{Parsed}
 use Rattle.reader.specs.declared.answer.Parsed.the-variants as parseds
 use Rattle.reader.specs.declared.answer.Refusal.{Refusal as Why}
-use Rattle.reader.specs.declared.tree.Sep.{Sep}
-use Rattle.reader.specs.declared.tree.Sep.the-variants as seps
+use Rattle.reader.specs.declared.bracket.Sep.{Sep}
+use Rattle.reader.specs.declared.bracket.Sep.the-variants as seps
 use borrow.Author.Tests.{lt-ltb, ne-eqb}
 
 -- ---- the first byte

@@ -23,10 +23,10 @@ use Rattle.reader.specs.declared.answer.Parsed.{Parsed}
 use Rattle.reader.specs.declared.answer.Place.{Place}
 use Rattle.reader.specs.declared.names.Named.{Named}
 use Rattle.reader.specs.declared.names.Spelt.{Spelt}
-use Rattle.reader.specs.declared.tree.Sep.{Sep}
+use Rattle.reader.specs.declared.bracket.Sep.{Sep}
 use Rattle.reader.specs.declared.answer.Parsed.the-variants as parseds
 use Rattle.reader.specs.declared.names.Named.the-variants as nameds
-use Rattle.reader.specs.declared.tree.Sep.the-variants as seps
+use Rattle.reader.specs.declared.bracket.Sep.the-variants as seps
 
 -- ---- names
 -- the names of an object's members so far

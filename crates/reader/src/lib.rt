@@ -7,7 +7,9 @@ ghost use lib.ListN.{length};
 ghost use Rattle.reader.specs.Reads.{Cleared, ReadTold};
 
 pub mod answer;
+pub mod bracket;
 pub mod escape;
+pub mod leaf;
 pub mod names;
 pub mod numeral;
 pub mod rows;

@@ -5,7 +5,6 @@
 use crate::answer::Refusal;
 use crate::answer::Scan;
 use crate::rows::Found;
-use crate::text::Cursor;
 use crate::text::Step;
 ghost use mathlib.Core.Path.{_≡_};
 ghost use Prim.Native.Nat.{_+_, _<_};
@@ -38,16 +37,10 @@ fn slot(s: &[u8], object: usize, name: usize) -> usize
     ensures { λ r. ⌜ (r ≡ hashed object (textAt (now (s .entry)) name)) × (r < 32749) ⌝ }
 {
     let mut h = object;
-    let mut c = Cursor {
-        at: name,
-        unit: 0,
-        left: 0,
-    };
+    let mut c = crate::text::begin(name);
     loop {
         match crate::text::next(s, c) {
-            Step::End => {
-                return h;
-            }
+            Step::End => return h,
             Step::Byte(t) => {
                 h = (h * 31 + wide(t.byte)) % 32749;
                 c = t.rest;

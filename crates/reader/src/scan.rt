@@ -25,9 +25,7 @@ pub fn string(s: &[u8], at: usize) -> Scan
         }
         if c == b'\\' {
             match crate::escape::escape(s, here + 1) {
-                Escaped::Bad => {
-                    return Scan::Bad(Refusal::NotJson);
-                }
+                Escaped::Bad => return Scan::Bad(Refusal::NotJson),
                 Escaped::Is(x) => {
                     here = x.next;
                 }

@@ -31,6 +31,30 @@ pub enum Order {
     More,
 }
 
+// The cursor before a text's first byte.
+pub fn begin(at: usize) -> Cursor
+    ensures { λ r. ⌜ r ≡ record { at = at; unit = 0; left = 0 } ⌝ }
+{
+    Cursor {
+        at: at,
+        unit: 0,
+        left: 0,
+    }
+}
+
+fn take(byte: u8, at: usize, unit: u32, left: u32) -> Taken
+    ensures { λ r. ⌜ r ≡ record { byte = byte; rest = record { at = at; unit = unit; left = left } } ⌝ }
+{
+    Taken {
+        byte: byte,
+        rest: Cursor {
+            at: at,
+            unit: unit,
+            left: left,
+        },
+    }
+}
+
 // The first byte of a scalar value's UTF-8.
 pub fn first(x: Scalar) -> Taken
     requires { ⌜ x .unit < 1114112 ⌝ }
@@ -39,43 +63,15 @@ pub fn first(x: Scalar) -> Taken
     let u = x.unit;
     let next = x.next;
     if u < 128 {
-        return Taken {
-            byte: u as u8,
-            rest: Cursor {
-                at: next,
-                unit: u,
-                left: 0,
-            },
-        };
+        return take(u as u8, next, u, 0);
     }
     if u < 2048 {
-        return Taken {
-            byte: (192 + u / 64) as u8,
-            rest: Cursor {
-                at: next,
-                unit: u,
-                left: 1,
-            },
-        };
+        return take((192 + u / 64) as u8, next, u, 1);
     }
     if u < 65536 {
-        return Taken {
-            byte: (224 + u / 4096) as u8,
-            rest: Cursor {
-                at: next,
-                unit: u,
-                left: 2,
-            },
-        };
+        return take((224 + u / 4096) as u8, next, u, 2);
     }
-    Taken {
-        byte: (240 + u / 262144) as u8,
-        rest: Cursor {
-            at: next,
-            unit: u,
-            left: 3,
-        },
-    }
+    take((240 + u / 262144) as u8, next, u, 3)
 }
 
 // A byte of the text, decoded, and the cursor behind it.
@@ -87,55 +83,24 @@ pub fn next(s: &[u8], c: Cursor) -> Step
     let unit = c.unit;
     let left = c.left;
     if left == 1 {
-        return Step::Byte(Taken {
-            byte: (128 + unit % 64) as u8,
-            rest: Cursor {
-                at: at,
-                unit: unit,
-                left: 0,
-            },
-        });
+        return Step::Byte(take((128 + unit % 64) as u8, at, unit, 0));
     }
     if left == 2 {
-        return Step::Byte(Taken {
-            byte: (128 + unit / 64 % 64) as u8,
-            rest: Cursor {
-                at: at,
-                unit: unit,
-                left: 1,
-            },
-        });
+        return Step::Byte(take((128 + unit / 64 % 64) as u8, at, unit, 1));
     }
     if left == 3 {
-        return Step::Byte(Taken {
-            byte: (128 + unit / 4096 % 64) as u8,
-            rest: Cursor {
-                at: at,
-                unit: unit,
-                left: 2,
-            },
-        });
+        return Step::Byte(take((128 + unit / 4096 % 64) as u8, at, unit, 2));
     }
     let b = s[at];
     if b == b'"' {
         return Step::End;
     }
     if b != b'\\' {
-        return Step::Byte(Taken {
-            byte: b,
-            rest: Cursor {
-                at: at + 1,
-                unit: 0,
-                left: 0,
-            },
-        });
+        return Step::Byte(take(b, at + 1, 0, 0));
     }
     match crate::escape::escape(s, at + 1) {
         Escaped::Bad => Step::End,
-        Escaped::Is(x) => {
-            let t = first(x);
-            Step::Byte(t)
-        }
+        Escaped::Is(x) => Step::Byte(first(x)),
     }
 }
 
@@ -144,30 +109,16 @@ pub fn compare(s: &[u8], a: usize, b: usize) -> Order
     requires { ⌜ OnText (now s) a 0 × OnText (now s) b 0 ⌝ }
     ensures { λ r. ⌜ orderBytes (textAt (now (s .entry)) a) (textAt (now (s .entry)) b) ≡ orderOf r ⌝ }
 {
-    let mut x = Cursor {
-        at: a,
-        unit: 0,
-        left: 0,
-    };
-    let mut y = Cursor {
-        at: b,
-        unit: 0,
-        left: 0,
-    };
+    let mut x = begin(a);
+    let mut y = begin(b);
     loop {
         match next(s, x) {
             Step::End => match next(s, y) {
-                Step::End => {
-                    return Order::Same;
-                }
-                Step::Byte(_q) => {
-                    return Order::Less;
-                }
+                Step::End => return Order::Same,
+                Step::Byte(_q) => return Order::Less,
             },
             Step::Byte(p) => match next(s, y) {
-                Step::End => {
-                    return Order::More;
-                }
+                Step::End => return Order::More,
                 Step::Byte(q) => {
                     if p.byte < q.byte {
                         return Order::Less;

@@ -14,8 +14,11 @@ Inv-loop s object name h₀ c₀ h c = Hashing s object name h c
 abbrev μ-loop : tie.MeasureT-loop
 μ-loop s object name h₀ c₀ h c = weight s (c .at) (c .left)
 
+begin-requires : tie.Need-begin-requires Inv-loop μ-loop
+begin-requires c κs = search needs
+
 loop-holds : tie.Need-loop-holds Inv-loop μ-loop
-loop-holds c = hashing (c .before .args .s .now) (c .before .args .object) (c .before .args .name) (c .before .pre .0) (c .before .pre .1)
+loop-holds c = rw (c .begin .ensures) (hashing (c .before .before .args .s .now) (c .before .before .args .object) (c .before .before .args .name) (c .before .before .pre .0) (c .before .before .pre .1))
 
 next-requires : tie.Need-next-requires Inv-loop μ-loop
 next-requires c κs = c .loop .inv .onText
@@ -24,7 +27,7 @@ enum-told : tie.Need-enum-told Inv-loop μ-loop
 enum-told c = search needs
 
 returns : tie.Need-returns Inv-loop μ-loop
-returns c = (hashed-all (c .before .before .before .loop .inv) (was-end (c .before .before .before .before .before .args .s .now) (c .before .before .before .loop .c) (c .before .before .next .ensures) (c .enum-told .given .1)), c .before .before .before .loop .inv .small)
+returns c = (hashed-all (c .before .before .before .loop .inv) (was-end (c .before .before .before .before .before .before .args .s .now) (c .before .before .before .loop .c) (c .before .before .next .ensures) (c .enum-told .given .1)), c .before .before .before .loop .inv .small)
 
 enum-known-t : tie.Need-enum-known-t Inv-loop μ-loop
 enum-known-t c = search needs
@@ -50,6 +53,7 @@ slot-spec =
     (tie.spec
     Inv-loop
     μ-loop
+    begin-requires
     loop-holds
     next-requires
     enum-told

@@ -2,56 +2,72 @@
 -- Assumes nothing.
 use native.Mathlib.Omega.{arith}
 use mathlib.Core.Path.{refl}
+use Rattle.reader.proofs.Cursor.{encode-1, encode-2, encode-3, encode-4}
 use borrow.Author.Needs.{needs}
 use Rattle.reader.proofs.text.first.Statement.{statement}
 use Rattle.reader.proofs.text.first.Tie as tie
-use Rattle.reader.proofs.Cursor.{encode-1, encode-2, encode-3, encode-4}
 
-cast-t5 : tie.Need-cast-t5
-cast-t5 c = search needs
+cast-take : tie.Need-cast-take
+cast-take c = search needs
+
+take-requires : tie.Need-take-requires
+take-requires c κs = search needs
 
 returns : tie.Need-returns
-returns c = record { bytes = encode-1 (c .before .args .x .unit) (c .if1 .taken); few = omega arith; unit = refl; at = refl }
+returns c = rw (c .take .ensures) (record { bytes = encode-1 (c .before .before .args .x .unit) (c .before .if1 .taken); few = omega arith; unit = refl; at = refl })
 
-add-t8 : tie.Need-add-t8
-add-t8 c = search needs
+add-take : tie.Need-add-take
+add-take c = search needs
 
-cast-t9 : tie.Need-cast-t9
-cast-t9 c = search needs
+cast-take-2 : tie.Need-cast-take-2
+cast-take-2 c = search needs
+
+take-requires-2 : tie.Need-take-requires-2
+take-requires-2 c κs = search needs
 
 returns-2 : tie.Need-returns-2
-returns-2 c = record { bytes = encode-2 (c .before .before .args .x .unit) (c .before .if1 .left) (c .if2 .taken); few = omega arith; unit = refl; at = refl }
+returns-2 c = rw (c .take2 .ensures) (record { bytes = encode-2 (c .before .before .before .args .x .unit) (c .before .before .if1 .left) (c .before .if2 .taken); few = omega arith; unit = refl; at = refl })
 
-add-t12 : tie.Need-add-t12
-add-t12 c = search needs
+add-take-2 : tie.Need-add-take-2
+add-take-2 c = search needs
 
-cast-t13 : tie.Need-cast-t13
-cast-t13 c = search needs
+cast-take-3 : tie.Need-cast-take-3
+cast-take-3 c = search needs
+
+take-requires-3 : tie.Need-take-requires-3
+take-requires-3 c κs = search needs
 
 returns-3 : tie.Need-returns-3
-returns-3 c = record { bytes = encode-3 (c .before .before .before .args .x .unit) (c .before .if2 .left) (c .if3 .taken); few = omega arith; unit = refl; at = refl }
+returns-3 c = rw (c .take3 .ensures) (record { bytes = encode-3 (c .before .before .before .before .args .x .unit) (c .before .before .if2 .left) (c .before .if3 .taken); few = omega arith; unit = refl; at = refl })
 
-add-t16 : tie.Need-add-t16
-add-t16 c = search needs
+add-take-3 : tie.Need-add-take-3
+add-take-3 c = search needs
 
-cast-t17 : tie.Need-cast-t17
-cast-t17 c = search needs
+cast-take-4 : tie.Need-cast-take-4
+cast-take-4 c = search needs
+
+take-requires-4 : tie.Need-take-requires-4
+take-requires-4 c κs = search needs
 
 returns-4 : tie.Need-returns-4
-returns-4 c = record { bytes = encode-4 (c .before .before .before .args .x .unit) (c .if3 .left); few = omega arith; unit = refl; at = refl }
+returns-4 c = rw (c .take4 .ensures) (record { bytes = encode-4 (c .before .before .before .before .args .x .unit) (c .before .if3 .left); few = omega arith; unit = refl; at = refl })
 
 pub first-spec : {M : Type 1} → statement M
 first-spec =
     tie.close
     (tie.spec
-    cast-t5
+    cast-take
+    take-requires
     returns
-    add-t8
-    cast-t9
+    add-take
+    cast-take-2
+    take-requires-2
     returns-2
-    add-t12
-    cast-t13
+    add-take-2
+    cast-take-3
+    take-requires-3
     returns-3
-    add-t16
-    cast-t17
+    add-take-3
+    cast-take-4
+    take-requires-4
     returns-4)

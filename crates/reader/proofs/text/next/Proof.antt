@@ -3,42 +3,51 @@
 use native.Mathlib.Omega.{arith}
 use mathlib.Core.Path.{refl}
 use Rattle.reader.proofs.Leaves.{escape-was, escape-was-bad, first-taken}
-use borrow.Author.Needs.{needs}
-use Rattle.reader.proofs.text.next.Statement.{statement}
-use Rattle.reader.proofs.text.next.Tie as tie
 use Rattle.reader.proofs.Cursor.{turn-1, turn-2, turn-3, turn-bad, turn-end, turn-escape, turn-raw}
 use Rattle.reader.specs.Answers.{Stepped}
 use Rattle.reader.specs.Refusal.{notJson}
+use borrow.Author.Needs.{needs}
+use Rattle.reader.proofs.text.next.Statement.{statement}
+use Rattle.reader.proofs.text.next.Tie as tie
 
-add-t11 : tie.Need-add-t11
-add-t11 c = search needs
+add-take : tie.Need-add-take
+add-take c = search needs
 
-cast-t12 : tie.Need-cast-t12
-cast-t12 c = search needs
+cast-take : tie.Need-cast-take
+cast-take c = search needs
+
+take-requires : tie.Need-take-requires
+take-requires c κs = search needs
 
 returns : tie.Need-returns
 unfolding Stepped
-returns c = turn-1 (c .before .before .args .s .now) (c .before .before .args .c .at) (c .before .before .args .c .unit) (c .before .before .args .c .left) (c .before .before .pre) (c .if1 .taken)
+returns c = rw (c .take .ensures) (turn-1 (c .before .before .before .args .s .now) (c .before .before .before .args .c .at) (c .before .before .before .args .c .unit) (c .before .before .before .args .c .left) (c .before .before .before .pre) (c .before .if1 .taken))
 
-add-t17 : tie.Need-add-t17
-add-t17 c = search needs
+add-take-2 : tie.Need-add-take-2
+add-take-2 c = search needs
 
-cast-t18 : tie.Need-cast-t18
-cast-t18 c = search needs
+cast-take-2 : tie.Need-cast-take-2
+cast-take-2 c = search needs
+
+take-requires-2 : tie.Need-take-requires-2
+take-requires-2 c κs = search needs
 
 returns-2 : tie.Need-returns-2
 unfolding Stepped
-returns-2 c = turn-2 (c .before .before .before .args .s .now) (c .before .before .before .args .c .at) (c .before .before .before .args .c .unit) (c .before .before .before .args .c .left) (c .before .before .before .pre) (c .if2 .taken)
+returns-2 c = rw (c .take2 .ensures) (turn-2 (c .before .before .before .before .args .s .now) (c .before .before .before .before .args .c .at) (c .before .before .before .before .args .c .unit) (c .before .before .before .before .args .c .left) (c .before .before .before .before .pre) (c .before .if2 .taken))
 
-add-t23 : tie.Need-add-t23
-add-t23 c = search needs
+add-take-3 : tie.Need-add-take-3
+add-take-3 c = search needs
 
-cast-t24 : tie.Need-cast-t24
-cast-t24 c = search needs
+cast-take-3 : tie.Need-cast-take-3
+cast-take-3 c = search needs
+
+take-requires-3 : tie.Need-take-requires-3
+take-requires-3 c κs = search needs
 
 returns-3 : tie.Need-returns-3
 unfolding Stepped
-returns-3 c = turn-3 (c .before .before .before .before .args .s .now) (c .before .before .before .before .args .c .at) (c .before .before .before .before .args .c .unit) (c .before .before .before .before .args .c .left) (c .before .before .before .before .pre) (c .if3 .taken)
+returns-3 c = rw (c .take3 .ensures) (turn-3 (c .before .before .before .before .before .args .s .now) (c .before .before .before .before .before .args .c .at) (c .before .before .before .before .before .args .c .unit) (c .before .before .before .before .before .args .c .left) (c .before .before .before .before .before .pre) (c .before .if3 .taken))
 
 shared-slice-read-b : tie.Need-shared-slice-read-b
 shared-slice-read-b c = search needs
@@ -47,12 +56,15 @@ returns-4 : tie.Need-returns-4
 unfolding Stepped
 returns-4 c = turn-end (c .before .before .before .before .before .before .args .s .now) (c .before .before .before .before .before .before .args .c .at) (c .before .before .before .before .before .before .args .c .unit) (c .before .before .before .before .before .before .args .c .left) (c .before .before .before .before .before .before .pre) (omega arith) (c .if4 .taken)
 
-add-t29 : tie.Need-add-t29
-add-t29 c = search needs
+add-take-4 : tie.Need-add-take-4
+add-take-4 c = search needs
+
+take-requires-4 : tie.Need-take-requires-4
+take-requires-4 c κs = search needs
 
 returns-5 : tie.Need-returns-5
 unfolding Stepped
-returns-5 c = turn-raw (c .before .before .before .before .before .before .before .args .s .now) (c .before .before .before .before .before .before .before .args .c .at) (c .before .before .before .before .before .before .before .args .c .unit) (c .before .before .before .before .before .before .before .args .c .left) (c .before .before .before .before .before .before .before .pre) (omega arith) (c .before .if4 .left) (c .if5 .taken)
+returns-5 c = rw (c .take4 .ensures) (turn-raw (c .before .before .before .before .before .before .before .before .args .s .now) (c .before .before .before .before .before .before .before .before .args .c .at) (c .before .before .before .before .before .before .before .before .args .c .unit) (c .before .before .before .before .before .before .before .before .args .c .left) (c .before .before .before .before .before .before .before .before .pre) (omega arith) (c .before .before .if4 .left) (c .before .if5 .taken))
 
 add-escape : tie.Need-add-escape
 add-escape c = search needs
@@ -84,18 +96,22 @@ pub next-spec : {M : Type 1} → statement M
 next-spec =
     tie.close
     (tie.spec
-    add-t11
-    cast-t12
+    add-take
+    cast-take
+    take-requires
     returns
-    add-t17
-    cast-t18
+    add-take-2
+    cast-take-2
+    take-requires-2
     returns-2
-    add-t23
-    cast-t24
+    add-take-3
+    cast-take-3
+    take-requires-3
     returns-3
     shared-slice-read-b
     returns-4
-    add-t29
+    add-take-4
+    take-requires-4
     returns-5
     add-escape
     escape-requires

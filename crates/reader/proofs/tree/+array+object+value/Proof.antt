@@ -8,7 +8,7 @@ use mathlib.Core.List.{List}
 use lib.ListN.{getD}
 use Rattle.reader.specs.Placing.{readAt}
 use Rattle.reader.specs.declared.answer.Refusal.the-variants as whys
-use Rattle.reader.specs.declared.tree.Sep.the-variants as seps
+use Rattle.reader.specs.declared.bracket.Sep.the-variants as seps
 use Rattle.reader.proofs.ArrayLoop.{ArrayTurn, array-end, array-here, array-laid, array-long, array-neither, array-on, array-past, array-refused, array-starts, array-turn, reach, reach-falls, was-bad, was-done}
 use Rattle.reader.proofs.Loops.{array-full, object-full}
 use Rattle.reader.proofs.MemberName.{byte-inside}
@@ -28,10 +28,10 @@ use Rattle.reader.proofs.tree.value.Kinds as value-kinds
 use Rattle.reader.proofs.tree.+array+object+value.Lts-value as value-lts
 use Rattle.reader.proofs.names.name.Reads as name-reads
 use Rattle.reader.proofs.scan.byte_at.Reads as byte-at-reads
-use Rattle.reader.proofs.tree.following.Reads as following-reads
-use Rattle.reader.proofs.tree.lay.Reads as lay-reads
-use Rattle.reader.proofs.tree.leaf.Reads as leaf-reads
-use Rattle.reader.proofs.tree.opening.Reads as opening-reads
+use Rattle.reader.proofs.bracket.following.Reads as following-reads
+use Rattle.reader.proofs.leaf.lay.Reads as lay-reads
+use Rattle.reader.proofs.leaf.leaf.Reads as leaf-reads
+use Rattle.reader.proofs.bracket.opening.Reads as opening-reads
 use Rattle.reader.proofs.tree.+array+object+value.{statement}
 use Rattle.reader.proofs.tree.+array+object+value.Tie.{close}
 

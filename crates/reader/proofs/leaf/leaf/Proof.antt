@@ -1,4 +1,4 @@
--- `reader::tree::leaf` meets its contract: step by step as `readAt` with no bracket left.
+-- `reader::leaf::leaf` meets its contract: step by step as `readAt` with no bracket left.
 -- Assumes nothing.
 use Rattle.reader.proofs.Values.{leaf-bad, leaf-deep, leaf-full, leaf-is, leaf-none, leaf-text, read-places, told-bad, told-leaf}
 use Rattle.reader.proofs.Loops.{past-end}
@@ -12,8 +12,8 @@ use Prim.Native.Nat.{_+_, _-_}
 use mathlib.Core.Path.{ap, refl, _∙_, _≡_}
 use native.Mathlib.Omega.{arith}
 use borrow.Author.Needs.{needs}
-use Rattle.reader.proofs.tree.leaf.Statement.{statement}
-use Rattle.reader.proofs.tree.leaf.Tie as tie
+use Rattle.reader.proofs.leaf.leaf.Statement.{statement}
+use Rattle.reader.proofs.leaf.leaf.Tie as tie
 
 scanned : (c : tie.After-known-told2) → scanBy (plainBy (c .before .before .before .before .before .before .before .kind .result)) (c .before .before .before .before .before .before .before .before .before .before .before .before .args .s .now) (c .before .before .before .before .before .before .before .before .before .before .before .before .args .at) ≡ ok (c .before .e .given .0 .0)
 unfolding scanOf

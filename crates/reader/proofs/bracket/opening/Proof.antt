@@ -1,12 +1,12 @@
--- `reader::tree::opening` meets its contract: by the byte behind the bracket.
+-- `reader::bracket::opening` meets its contract: by the byte behind the bracket.
 -- Assumes nothing.
 use Rattle.reader.proofs.Values.{opens-on, opens-shut}
 use Rattle.reader.proofs.MemberName.{byte-inside}
 use mathlib.Core.Path.{sym, _∙_}
 use native.Mathlib.Omega.{arith}
 use borrow.Author.Needs.{needs}
-use Rattle.reader.proofs.tree.opening.Statement.{statement}
-use Rattle.reader.proofs.tree.opening.Tie as tie
+use Rattle.reader.proofs.bracket.opening.Statement.{statement}
+use Rattle.reader.proofs.bracket.opening.Tie as tie
 
 add-skip : tie.Need-add-skip
 add-skip c = search needs

@@ -1,11 +1,11 @@
--- `reader::tree::scan` meets its contract: by the kind.
+-- `reader::leaf::scan` meets its contract: by the kind.
 -- Assumes nothing.
 use Rattle.reader.proofs.Values.{last}
 use Rattle.reader.specs.Laid.{scanBy}
 use mathlib.Core.Path.{_≡_}
 use borrow.Author.Needs.{needs}
-use Rattle.reader.proofs.tree.scan.Statement.{statement}
-use Rattle.reader.proofs.tree.scan.Tie as tie
+use Rattle.reader.proofs.leaf.scan.Statement.{statement}
+use Rattle.reader.proofs.leaf.scan.Tie as tie
 
 slice-aggregate-word : tie.Need-slice-aggregate-word
 slice-aggregate-word c = search needs

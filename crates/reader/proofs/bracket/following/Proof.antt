@@ -1,12 +1,12 @@
--- `reader::tree::following` meets its contract: by the byte behind the value.
+-- `reader::bracket::following` meets its contract: by the byte behind the value.
 -- Assumes nothing.
 use Rattle.reader.proofs.Values.{continues-not, continues-on, continues-shut}
 use Rattle.reader.proofs.MemberName.{byte-inside}
 use mathlib.Core.Path.{sym, _∙_}
 use native.Mathlib.Omega.{arith}
 use borrow.Author.Needs.{needs}
-use Rattle.reader.proofs.tree.following.Statement.{statement}
-use Rattle.reader.proofs.tree.following.Tie as tie
+use Rattle.reader.proofs.bracket.following.Statement.{statement}
+use Rattle.reader.proofs.bracket.following.Tie as tie
 
 skip-requires : tie.Need-skip-requires
 skip-requires c κs = search needs

@@ -1,10 +1,10 @@
--- `reader::tree::kind` meets its contract: by the byte.
+-- `reader::leaf::kind` meets its contract: by the byte.
 -- Assumes nothing.
 use Rattle.reader.proofs.Values.{starts-digit, starts-none}
 use native.Mathlib.Omega.{arith}
 use borrow.Author.Needs.{needs}
-use Rattle.reader.proofs.tree.kind.Statement.{statement}
-use Rattle.reader.proofs.tree.kind.Tie as tie
+use Rattle.reader.proofs.leaf.kind.Statement.{statement}
+use Rattle.reader.proofs.leaf.kind.Tie as tie
 
 returns : tie.Need-returns
 returns c = search needs
