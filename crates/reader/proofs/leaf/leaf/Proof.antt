@@ -20,10 +20,10 @@ unfolding scanOf
 scanned c = c .before .before .before .scan .ensures ∙ ap scanOf (c .before .e .given .1)
 
 is-text : (c : tie.Then5) → readAt 0 (c .before .before .before .before .before .before .before .before .before .before .before .before .before .args .s .now) (c .before .before .before .before .before .before .before .before .before .before .before .before .before .args .node) (c .before .before .before .before .before .before .before .before .before .before .before .before .before .args .at) ≡ ok (record { tree = leaf (plainBy (c .before .before .before .before .before .before .before .before .kind .result)) (c .before .before .before .before .before .before .before .before .before .before .before .before .before .args .at + 1) (c .before .before .e .given .0 .0 - 1); place = c .before .before .e .given .0 .0; count = c .before .before .before .before .before .before .before .before .before .before .before .before .before .args .node + 1 })
-is-text c = leaf-text (c .before .before .before .before .before .before .before .before .before .before .before .before .before .args .s .now) (c .before .before .before .before .before .before .before .before .before .before .before .before .before .args .node) (c .before .before .before .before .before .before .before .before .before .before .before .before .before .args .at) (c .before .before .before .before .before .before .before .before .kind .result) (c .before .before .before .before .before .before .before .before .kind .ensures .0) (omega (arith, c .before .before .before .before .before .before .if3 .left)) (c .before .before .before .before .before .if4 .left) (c .before .before .e .given .0 .0) (c .if5 .taken) (scanned (c .before))
+is-text c = leaf-text (c .before .before .before .before .before .before .before .before .before .before .before .before .before .args .s .now) (c .before .before .before .before .before .before .before .before .before .before .before .before .before .args .node) (c .before .before .before .before .before .before .before .before .before .before .before .before .before .args .at) (c .before .before .before .before .before .before .before .before .kind .result) (c .before .before .before .before .before .before .before .before .kind .ensures .0) (omega arith) (omega arith) (c .before .before .e .given .0 .0) (c .if5 .taken) (scanned (c .before))
 
 is-other : (c : tie.Else5) → readAt 0 (c .before .before .before .before .before .before .before .before .before .before .before .before .before .args .s .now) (c .before .before .before .before .before .before .before .before .before .before .before .before .before .args .node) (c .before .before .before .before .before .before .before .before .before .before .before .before .before .args .at) ≡ ok (record { tree = leaf (plainBy (c .before .before .before .before .before .before .before .before .kind .result)) (c .before .before .before .before .before .before .before .before .before .before .before .before .before .args .at) (c .before .before .e .given .0 .0); place = c .before .before .e .given .0 .0; count = c .before .before .before .before .before .before .before .before .before .before .before .before .before .args .node + 1 })
-is-other c = leaf-is (c .before .before .before .before .before .before .before .before .before .before .before .before .before .args .s .now) (c .before .before .before .before .before .before .before .before .before .before .before .before .before .args .node) (c .before .before .before .before .before .before .before .before .before .before .before .before .before .args .at) (c .before .before .before .before .before .before .before .before .kind .result) (c .before .before .before .before .before .before .before .before .kind .ensures .0) (omega (arith, c .before .before .before .before .before .before .if3 .left)) (c .before .before .before .before .before .if4 .left) (c .before .before .e .given .0 .0) (c .if5 .left) (scanned (c .before))
+is-other c = leaf-is (c .before .before .before .before .before .before .before .before .before .before .before .before .before .args .s .now) (c .before .before .before .before .before .before .before .before .before .before .before .before .before .args .node) (c .before .before .before .before .before .before .before .before .before .before .before .before .before .args .at) (c .before .before .before .before .before .before .before .before .kind .result) (c .before .before .before .before .before .before .before .before .kind .ensures .0) (omega arith) (omega arith) (c .before .before .e .given .0 .0) (c .if5 .left) (scanned (c .before))
 
 returns : tie.Need-returns
 returns c = told-bad _ (c .before .before .before .args .work .now) _ (c .before .before .before .args .node) whys.NotJson (past-end 0 (c .before .before .before .args .s .now) (c .before .before .before .args .node) (c .before .before .before .args .at) (c .if1 .taken)) refl
