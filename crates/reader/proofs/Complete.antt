@@ -1,19 +1,20 @@
--- What RFC 8259 spells within the limits is read.
+-- What RFC 8259 spells is read, or refused with one of 5 to 8 for a limit that its tree passes; within the limits it is read.
 -- Assumes nothing.
 use mathlib.Core.Bool.{Bool, false, false≢true, not, true, true≢false, _&&_, _||_}
 use mathlib.Core.List.{List, [], _++_, _∷_}
 use mathlib.Core.Logic.{inl, inr, _↔_, _⊎_}
 use mathlib.Core.Option.{none, some}
 use mathlib.Core.Path.{ap, refl, subst, sym, _∙_, _≡_}
-use Prim.Native.Nat.{suc, zero, ℕ, _*_, _+_, _-_, _≤_}
+use Prim.Native.Nat.{suc, zero, ℕ, _*_, _+_, _-_, _<_, _≤_}
 use native.Mathlib.Omega.{arith}
 use lib.Dec.{eqb, leb, ltb}
 use lib.ListN.{length, length-append}
-use Rattle.reader.proofs.Laws.{bind-ok, eqb-false, eqb-no, eqb-same, eqb-true, leb-true, ok-injective, ltb-true, sameBytes-true}
-use Rattle.reader.proofs.Sound.{AfterInt, From, between-in, between-not, between-of, between-out, json-sound, leb-false, leb-le, one-here, skip-ws}
+use Rattle.reader.proofs.Laws.{bind-ok, bind-refused, bind-same, eqb-false, eqb-no, eqb-same, eqb-true, leb-true, ok-injective, sameBytes-true}
+use Rattle.reader.proofs.Sound.{AfterInt, From, between-in, between-not, between-of, between-out, json-sound, leb-false, leb-le, leb-lt, one-here, one-there}
 use Rattle.reader.specs.Bytes.{Bytes, ascii, between, choose, isOneOf, sameBytes}
+use Rattle.reader.specs.Fault.{Part, PartIn, PartOf, Passes, Twice, again, inArray, inObject, itself, laterElement, laterMember, passesDepth, passesName, passesNodes, passesNumber, thisElement, thisMember}
 use Rattle.reader.specs.Grammar
-use Rattle.reader.specs.Grammar.{Chars, Digits, Elements, Escape, Exp, Frac, Hex, Int, MembersOf, Minus, MoreElements, MoreMembers, Number, Sign, SomeDigits, Spells, Structural, Within, Ws, close, exp, frac, isUnescaped, minus, noDigit, noExp, noFrac, noHex, noMinus, noSign, noSpace, nonzero, oneDigit, oneHex, pair, sign, simple, someDigits, space, structural, unescaped, unit}
+use Rattle.reader.specs.Grammar.{Chars, Digits, Elements, Escape, Exp, Frac, Hex, Int, JsonText, MembersOf, Minus, MoreElements, MoreMembers, Number, Sign, SomeDigits, Spells, Structural, Within, Ws, close, exp, frac, isUnescaped, minus, noDigit, noExp, noFrac, noHex, noMinus, noSign, noSpace, nonzero, oneDigit, oneHex, pair, sign, simple, someDigits, space, structural, unescaped, unit}
 use Rattle.reader.specs.Json.{Members, Value, Values, array, bool, cons, empty, keys, member, nil, null, number, object, text}
 use Rattle.reader.specs.Limits
 use Rattle.reader.specs.Limits.{depth, depthIn, depthOf, nodes, nodesIn, nodesOf, tidy, tidyIn, tidyOf}
@@ -21,26 +22,23 @@ use Rattle.reader.specs.Numerals
 use Rattle.reader.specs.Numerals.{Place, complete, digit, digits, isStop, onward}
 use Rattle.reader.specs.Reader
 use Rattle.reader.specs.Reader.{Parsed}
-use Rattle.reader.specs.Refusal.{Result, notJson, ok, refused, _>>=_}
+use Rattle.reader.specs.Refusal.{Refusal, Result, notJson, numberTooLong, ok, refused, repeatedName, tooDeep, tooManyNodes, _>>=_}
 use Rattle.reader.specs.Scan.{Read, expect, isSpace, skip, word}
 use Rattle.reader.specs.Strings.{char, chars, escape, hex, highHalf, highUnit, lowHalf, ofUnit, other, plainUnit, simpleEscape, unicode, unit16}
 use Rattle.reader.specs.Utf8.{encode}
 
 -- spaces
-skip-of : {s r : Bytes} → Ws s r → skip s ≡ skip r
+pub skip-of : {s r : Bytes} → Ws s r → skip s ≡ skip r
 unfolding skip
 skip-of noSpace = refl
 skip-of (space e w) = rw (e, skip) (skip-of w)
 
-skip-idle : (c : ℕ) (s : Bytes) → isSpace c ≡ false → skip (c ∷ s) ≡ c ∷ s
+pub skip-idle : (c : ℕ) (s : Bytes) → isSpace c ≡ false → skip (c ∷ s) ≡ c ∷ s
 unfolding skip
 skip-idle c s e = rw (e, skip) refl
 
-skip-twice : (s : Bytes) → skip (skip s) ≡ skip s
-skip-twice s = sym (skip-of (skip-ws s))
-
 -- what a structural byte leaves to the reader: the byte itself, and then what it would skip
-ws-length : {s r : Bytes} → Ws s r → length r ≤ length s
+pub ws-length : {s r : Bytes} → Ws s r → length r ≤ length s
 ws-length noSpace = omega arith
 ws-length (space e w) = omega (arith, ws-length w)
 
@@ -48,7 +46,7 @@ structural-skip : (c : ℕ) {s r : Bytes} → isSpace c ≡ false → Structural
 structural-skip c e (structural {t} v w) = (t, skip-of v ∙ skip-idle c t e, skip-of w, ws-length w)
 
 -- a rule's rest is no longer than its text
-structural-length : {c : ℕ} {s r : Bytes} → Structural c s r → length r + 1 ≤ length s
+pub structural-length : {c : ℕ} {s r : Bytes} → Structural c s r → length r + 1 ≤ length s
 structural-length {c} (structural {t} v w) = omega (arith, ws-length v, ws-length w)
 
 digits-length : {s r : Bytes} → Digits s r → length r ≤ length s
@@ -95,7 +93,7 @@ chars-length (close e) = omega arith
 chars-length (unescaped e c) = omega (arith, chars-length c)
 chars-length (Chars.escape e y c x) = omega (arith, escape-length y, chars-length c)
 
-string-length : {x s r : Bytes} → Grammar.String x s r → length r + 1 ≤ length s
+pub string-length : {x s r : Bytes} → Grammar.String x s r → length r + 1 ≤ length s
 string-length (Grammar.string e c) = omega (arith, chars-length c)
 
 -- the leaves
@@ -113,16 +111,16 @@ unfolding hex
 hex-complete noHex = refl
 hex-complete (oneHex e h) = rw (e, hex) (hex-complete h)
 
-plain-unit : (u : ℕ) → between 55296 57343 u ≡ false → unit16 u ≡ plainUnit
+pub plain-unit : (u : ℕ) → between 55296 57343 u ≡ false → unit16 u ≡ plainUnit
 plain-unit u e =
     rw
     (between-out 55296 56319 u (λ a b. omega (arith, between-not 55296 57343 u e a)), between-out 56320 57343 u (λ a b. omega (arith, between-not 55296 57343 u e (omega arith))), choose)
     refl
 
-high-unit : (u : ℕ) → between 55296 56319 u ≡ true → unit16 u ≡ highUnit
+pub high-unit : (u : ℕ) → between 55296 56319 u ≡ true → unit16 u ≡ highUnit
 high-unit u e = rw (e, choose) refl
 
-lowHalf-complete : (high low : ℕ) (r : Bytes) → between 56320 57343 low ≡ true → lowHalf high (record { got = low; rest = r }) ≡ ok (record { got = encode (65536 + (high - 55296) * 1024 + (low - 56320)); rest = r })
+pub lowHalf-complete : (high low : ℕ) (r : Bytes) → between 56320 57343 low ≡ true → lowHalf high (record { got = low; rest = r }) ≡ ok (record { got = encode (65536 + (high - 55296) * 1024 + (low - 56320)); rest = r })
 unfolding lowHalf
 lowHalf-complete high low r e = rw (e, lowHalf) refl
 
@@ -254,7 +252,7 @@ from-done Place.expSign r h = absurd (omega (arith, someDigits-length h))
 from-done Place.expDigits r h = refl
 from-done Place.stop r h = absurd h
 
-stop-other : (p : Place) → isStop (onward p Numerals.isOther) ≡ true
+pub stop-other : (p : Place) → isStop (onward p Numerals.isOther) ≡ true
 stop-other Place.sign = refl
 stop-other Place.zeroed = refl
 stop-other Place.whole = refl
@@ -272,6 +270,19 @@ digits-complete [] p left (c ∷ r) h n l = rw (n, digits, stop-other p, from-do
 digits-complete (c ∷ x) p left r h n l =
     let o = from-next p c (x ++ r) r h (omega (arith, length-append x r)) in
     rw (o .0, digits, eqb-false left 0 (omega (arith, l))) (rw (digits-complete x (onward p (digit c)) (left - 1) r (o .1) n (omega (arith, l))) refl)
+
+-- a number of more characters than may come
+digits-long : (x : Bytes) (p : Place) (left : ℕ) (r : Bytes) → From p (x ++ r) r → left < length x → digits p left (x ++ r) ≡ refused numberTooLong
+unfolding digits
+digits-long [] p left r h l = absurd (omega arith)
+digits-long (c ∷ x) p left r h l = go (λ k j. digits-long x (onward p (digit c)) (left - 1) r k j) (eqb left 0) refl
+  where
+    o : Onward p c (x ++ r) r
+    o = from-next p c (x ++ r) r h (omega (arith, length-append x r))
+
+    go : (From (onward p (digit c)) (x ++ r) r → left - 1 < length x → digits (onward p (digit c)) (left - 1) (x ++ r) ≡ refused numberTooLong) → (b : Bool) → eqb left 0 ≡ b → digits p left (c ∷ (x ++ r)) ≡ refused numberTooLong
+    go below true q = rw (o .0, digits, q) refl
+    go below false q = rw (o .0, digits, q) (rw (below (o .1) (omega (arith, eqb-no left 0 q))) refl)
 
 -- a number from its first byte on
 abbrev pub First : ℕ → Bytes → Bytes → Type 0
@@ -306,7 +317,7 @@ first-number c s r n = first-minus c s (n .afterMinus) (n .afterInt) r (n .hasMi
 
 -- every value takes a byte
 mutual
-  spells-length : {v : Value} {s r : Bytes} → Spells v s r → length r + 1 ≤ length s
+  pub spells-length : {v : Value} {s r : Bytes} → Spells v s r → length r + 1 ≤ length s
   spells-length (Spells.isNull {s} {r} e) = omega (arith, ap length e, length-append (ascii "null") r)
   spells-length (Spells.isTrue {s} {r} e) = omega (arith, ap length e, length-append (ascii "true") r)
   spells-length (Spells.isFalse {s} {r} e) = omega (arith, ap length e, length-append (ascii "false") r)
@@ -399,62 +410,149 @@ begins (Spells.isObject o ms c) = begins-structural 123 refl refl o
 parsed : {A : Type 0} (a : A) {r r′ : Bytes} {n n′ : ℕ} → r ≡ r′ → n ≡ n′ → _≡_ {A = Result (Parsed A)} (ok (record { tree = a; rest = r; count = n })) (ok (record { tree = a; rest = r′; count = n′ }))
 parsed a p q = cc
 
-oneNode-complete : (n : ℕ) → n + 1 ≤ Limits.maxNodes → Reader.oneNode n ≡ ok (n + 1)
+-- what a reader answers on what the grammar spells: its tree, or the refusal of a limit for a cause C
+pub data Why {A : Type 0} (x : Result A) (a : A) (C : Refusal → Type 0) : Type 0 where
+  reads : x ≡ ok a → Why x a C
+  passed : (q : Refusal) → x ≡ refused q → C q → Why x a C
+
+why-at : {A : Type 0} {x y : Result A} {a : A} {C : Refusal → Type 0} → x ≡ y → Why y a C → Why x a C
+why-at e (reads h) = reads (e ∙ h)
+why-at e (passed q h c) = passed q (e ∙ h) c
+
+why-as : {A : Type 0} {x : Result A} {a b : A} {C : Refusal → Type 0} → ok a ≡ ok b → Why x a C → Why x b C
+why-as e (reads h) = reads (h ∙ e)
+why-as e (passed q h c) = passed q h c
+
+why-map : {A : Type 0} {x : Result A} {a : A} {C D : Refusal → Type 0} → ((q : Refusal) → C q → D q) → Why x a C → Why x a D
+why-map f (reads h) = reads h
+why-map f (passed q h c) = passed q h (f q c)
+
+why-bind : {A B : Type 0} {x : Result A} {a : A} {b : B} {C D : Refusal → Type 0} (f : A → Result B) → Why x a C → ((q : Refusal) → C q → D q) → Why (f a) b D → Why (x >>= f) b D
+why-bind f (reads h) k w = why-at (bind-ok f h) w
+why-bind f (passed q h c) k w = passed q (ap (λ y. y >>= f) h) (k q c)
+
+node-why : {B : Type 0} {b : B} {C : Refusal → Type 0} (n : ℕ) (f : ℕ → Result B) → Why (f (n + 1)) b C → (Limits.maxNodes < n + 1 → C tooManyNodes) → Why (Reader.oneNode n >>= f) b C
 unfolding Reader.oneNode
-oneNode-complete n h = rw (ltb-true n Limits.maxNodes (omega (arith, h)), Reader.oneNode) refl
+node-why {b} {C} n f w full = go (ltb n Limits.maxNodes) refl
+  where
+    go : (y : Bool) → ltb n Limits.maxNodes ≡ y → Why (Reader.oneNode n >>= f) b C
+    go true e = why-at (rw (e, Reader.oneNode) refl) w
+    go false e = passed tooManyNodes (rw (e, Reader.oneNode) refl) (full (omega (arith, leb-lt {m = suc n} {n = Limits.maxNodes} e)))
 
--- the limits of a value, of an array's elements and of an object's members
-pub record Keeps (left n : ℕ) (v : Value) : Type 0 where
-  pub deep : depth v ≤ left
-  pub most : n + nodes v ≤ Limits.maxNodes
-  pub isTidy : tidy Limits.maxNumber v ≡ true
+-- the causes of 5 to 8, where so many brackets may be open at once and so many nodes stand before
+pub data Causes (deep many long twice : Type 0) : Refusal → Type 0 where
+  isDeep : deep → Causes deep many long twice tooDeep
+  isMany : many → Causes deep many long twice tooManyNodes
+  isLong : long → Causes deep many long twice numberTooLong
+  isTwice : twice → Causes deep many long twice repeatedName
 
-pub record KeepsIn (left n : ℕ) (vs : Values) : Type 0 where
-  pub deep : depthIn vs ≤ left
-  pub most : n + nodesIn vs ≤ Limits.maxNodes
-  pub isTidy : tidyIn Limits.maxNumber vs ≡ true
+causes-map : {d m l t d′ m′ l′ t′ : Type 0} → (d → d′) → (m → m′) → (l → l′) → (t → t′) → (q : Refusal) → Causes d m l t q → Causes d′ m′ l′ t′ q
+causes-map f g h k q (isDeep x) = isDeep (f x)
+causes-map f g h k q (isMany x) = isMany (g x)
+causes-map f g h k q (isLong x) = isLong (h x)
+causes-map f g h k q (isTwice x) = isTwice (k x)
 
-pub record KeepsOf (left n : ℕ) (names : List Bytes) (ms : Members) : Type 0 where
-  pub deep : depthOf ms ≤ left
-  pub most : n + nodesOf ms ≤ Limits.maxNodes
-  pub isTidy : tidyOf Limits.maxNumber ms ≡ true
-  pub fresh : (k : Bytes) → isOneOf k names ≡ true → isOneOf k (keys ms) ≡ false
+abbrev Cause : ℕ → ℕ → Value → Refusal → Type 0
+Cause left n v = Causes (left < depth v) (Limits.maxNodes < n + nodes v) ((x : Bytes) × Part (number x) v × (Limits.maxNumber < length x)) ((ms : Members) × Part (object ms) v × Twice ms)
+
+abbrev CauseIn : ℕ → ℕ → Values → Refusal → Type 0
+CauseIn left n vs = Causes (left < depthIn vs) (Limits.maxNodes < n + nodesIn vs) ((x : Bytes) × PartIn (number x) vs × (Limits.maxNumber < length x)) ((ms : Members) × PartIn (object ms) vs × Twice ms)
+
+-- a name of an object's members that stands before them, or twice among them, or a repeated one further in
+pub data Repeats (names : List Bytes) (ms : Members) : Type 0 where
+  before : (k : Bytes) → isOneOf k names ≡ true → isOneOf k (keys ms) ≡ true → Repeats names ms
+  within : Twice ms → Repeats names ms
+  inside : {ns : Members} → PartOf (object ns) ms → Twice ns → Repeats names ms
+
+abbrev CauseOf : ℕ → ℕ → List Bytes → Members → Refusal → Type 0
+CauseOf left n names ms = Causes (left < depthOf ms) (Limits.maxNodes < n + nodesOf ms) ((x : Bytes) × PartOf (number x) ms × (Limits.maxNumber < length x)) (Repeats names ms)
+
+-- the causes of the parts
+module _ (left n : ℕ) (v : Value) (vs : Values) where
+  head-cause : (q : Refusal) → Cause left n v q → CauseIn left n (cons v vs) q
+  unfolding nodes depth
+  head-cause = causes-map (λ h. omega arith) (λ h. omega arith) (λ h. (h .0, thisElement (h .1), h .2)) (λ h. (h .0, thisElement (h .1), h .2))
+
+  tail-cause : (q : Refusal) → CauseIn left (n + nodes v) vs q → CauseIn left n (cons v vs) q
+  unfolding nodes depth
+  tail-cause = causes-map (λ h. omega arith) (λ h. omega arith) (λ h. (h .0, laterElement (h .1), h .2)) (λ h. (h .0, laterElement (h .1), h .2))
+
+of-tail : (o k : Bytes) (ks : List Bytes) → sameBytes o k ≡ false → isOneOf o (k ∷ ks) ≡ true → isOneOf o ks ≡ true
+unfolding isOneOf
+of-tail o k ks q e = rw (q, isOneOf) at e
+
+repeats-later : (names : List Bytes) (k : Bytes) (v : Value) (ms : Members) → Repeats (k ∷ names) ms → Repeats names (member k v ms)
+repeats-later names k v ms (before o e f) = go (sameBytes o k) refl
+  where
+    go : (b : Bool) → sameBytes o k ≡ b → Repeats names (member k v ms)
+    go true q = within (again (subst (λ (x : Bytes). isOneOf x (keys ms) ≡ true) (sameBytes-true o k q) f))
+    go false q = before o (of-tail o k names q e) (one-there o k (keys ms) f)
+repeats-later names k v ms (within t) = within (Twice.later t)
+repeats-later names k v ms (inside p t) = inside (laterMember p) t
+
+module _ (left n : ℕ) (names : List Bytes) (k : Bytes) (v : Value) (ms : Members) where
+  field-cause : (q : Refusal) → Cause left (n + 1) v q → CauseOf left n names (member k v ms) q
+  unfolding nodes depth
+  field-cause = causes-map (λ h. omega arith) (λ h. omega arith) (λ h. (h .0, thisMember (h .1), h .2)) (λ h. inside (thisMember (h .1)) (h .2))
+
+  rest-cause : (q : Refusal) → CauseOf left (n + 1 + nodes v) (k ∷ names) ms q → CauseOf left n names (member k v ms) q
+  unfolding nodes depth
+  rest-cause = causes-map (λ h. omega arith) (λ h. omega arith) (λ h. (h .0, laterMember (h .1), h .2)) (repeats-later names k v ms)
+
+array-cause : (left n : ℕ) (vs : Values) (q : Refusal) → CauseIn left (n + 1) vs q → Cause (suc left) n (array vs) q
+unfolding nodes depth
+array-cause left n vs = causes-map (λ h. omega arith) (λ h. omega arith) (λ h. (h .0, inArray (h .1), h .2)) (λ h. (h .0, inArray (h .1), h .2))
+
+object-cause : (left n : ℕ) (ms : Members) (q : Refusal) → CauseOf left (n + 1) [] ms q → Cause (suc left) n (object ms) q
+unfolding nodes depth isOneOf
+object-cause left n ms = causes-map (λ h. omega arith) (λ h. omega arith) (λ h. (h .0, inObject (h .1), h .2)) go
+  where
+    go : Repeats [] ms → (ns : Members) × Part (object ns) (object ms) × Twice ns
+    go (before k e f) = absurd (false≢true e)
+    go (within t) = (ms, itself, t)
+    go (inside {ns} p t) = (ns, inObject p, t)
 
 -- scalars
-module _ (arr obj : Reader.Parser Value) (n : ℕ) (h : n + 1 ≤ Limits.maxNodes) where
+module _ (arr obj : Reader.Parser Value) (n : ℕ) where
   abbrev ReadsScalar : Value → Bytes → Bytes → Type 0
-  ReadsScalar v s r = Reader.valueWith arr obj n (skip s) ≡ ok (record { tree = v; rest = skip r; count = n + nodes v })
+  ReadsScalar v s r = Reader.valueWith arr obj n (skip s) ≡ (Reader.oneNode n >>= λ m. ok (record { tree = v; rest = skip r; count = m }))
 
   null-complete : (s r : Bytes) → s ≡ ascii "null" ++ r → ReadsScalar null s r
-  unfolding Reader.valueWith skip nodes
-  null-complete s r e = ap (λ (x : Bytes). Reader.valueWith arr obj n (skip x)) e ∙ bind-ok _ (oneNode-complete n h)
+  unfolding Reader.valueWith skip
+  null-complete s r e = ap (λ (x : Bytes). Reader.valueWith arr obj n (skip x)) e
 
   true-complete : (s r : Bytes) → s ≡ ascii "true" ++ r → ReadsScalar (bool true) s r
-  unfolding Reader.valueWith skip nodes
-  true-complete s r e = ap (λ (x : Bytes). Reader.valueWith arr obj n (skip x)) e ∙ bind-ok _ (oneNode-complete n h)
+  unfolding Reader.valueWith skip
+  true-complete s r e = ap (λ (x : Bytes). Reader.valueWith arr obj n (skip x)) e
 
   false-complete : (s r : Bytes) → s ≡ ascii "false" ++ r → ReadsScalar (bool false) s r
-  unfolding Reader.valueWith skip nodes
-  false-complete s r e = ap (λ (x : Bytes). Reader.valueWith arr obj n (skip x)) e ∙ bind-ok _ (oneNode-complete n h)
+  unfolding Reader.valueWith skip
+  false-complete s r e = ap (λ (x : Bytes). Reader.valueWith arr obj n (skip x)) e
 
   text-complete : (x s r : Bytes) → Chars x s r → ReadsScalar (text x) (34 ∷ s) r
-  unfolding Reader.valueWith skip nodes
-  text-complete x s r c = bind-ok _ (oneNode-complete n h) ∙ bind-ok _ (chars-complete (length s) (omega arith) c)
+  unfolding Reader.valueWith skip
+  text-complete x s r c = bind-same (Reader.oneNode n) _ _ λ m i. bind-ok _ (chars-complete (length s) (omega arith) c)
 
   string-complete : (x s r : Bytes) → Grammar.String x s r → ReadsScalar (text x) s r
   string-complete x s r (Grammar.string {c} {s = t} e k) = subst (λ (y : ℕ). ReadsScalar (text x) (y ∷ t) r) (sym e) (text-complete x t r k)
 
-  number-at : (c : ℕ) (x r : Bytes) → First c (x ++ r) r → Ends r → length (c ∷ x) ≤ Limits.maxNumber → ReadsScalar (number (c ∷ x)) (c ∷ (x ++ r)) r
-  unfolding Reader.valueWith nodes
-  number-at c x r f e l =
-      rw
-      (skip-idle c (x ++ r) (f .0), f .1, Reader.valueWith)
-      (bind-ok _ (oneNode-complete n h) ∙ bind-ok _ (digits-complete x (Numerals.first c) (Limits.maxNumber - 1) r (f .2) e (omega (arith, l))))
+  number-reads : (c : ℕ) (x r : Bytes) → First c (x ++ r) r → Reader.valueWith arr obj n (skip (c ∷ (x ++ r))) ≡ (Reader.oneNode n >>= λ m. digits (Numerals.first c) (Limits.maxNumber - 1) (x ++ r) >>= λ t. ok (record { tree = number (c ∷ t .got); rest = skip (t .rest); count = m }))
+  unfolding Reader.valueWith
+  number-reads c x r f = rw (skip-idle c (x ++ r) (f .0), f .1, Reader.valueWith) refl
 
-  number-complete : (x s r : Bytes) → Number s r → s ≡ x ++ r → Ends r → length x ≤ Limits.maxNumber → ReadsScalar (number x) s r
-  number-complete [] s r k p e l = absurd (omega (arith, number-length k, ap length p))
-  number-complete (c ∷ x) s r k p e l =
-      subst (λ (y : Bytes). ReadsScalar (number (c ∷ x)) y r) (sym p) (number-at c x r (first-number c (x ++ r) r (subst (λ (y : Bytes). Number y r) p k)) e l)
+  number-why : (left : ℕ) (x s r : Bytes) → Number s r → s ≡ x ++ r → Ends r → Why (Reader.valueWith arr obj n (skip s)) (record { tree = number x; rest = skip r; count = n + 1 }) (Cause left n (number x))
+  unfolding nodes
+  number-why left [] s r k p e = absurd (omega (arith, number-length k, ap length p))
+  number-why left (c ∷ x) s r k p e = why-at (ap (λ (y : Bytes). Reader.valueWith arr obj n (skip y)) p ∙ number-reads c x r f) (node-why n _ (go (leb (length (c ∷ x)) Limits.maxNumber) refl) (λ h. isMany h))
+    where
+      f : First c (x ++ r) r
+      f = first-number c (x ++ r) r (subst (λ (y : Bytes). Number y r) p k)
+
+      go : (b : Bool) → leb (length (c ∷ x)) Limits.maxNumber ≡ b → Why {A = Parsed Value} (digits (Numerals.first c) (Limits.maxNumber - 1) (x ++ r) >>= λ t. ok (record { tree = number (c ∷ t .got); rest = skip (t .rest); count = n + 1 })) (record { tree = number (c ∷ x); rest = skip r; count = n + 1 }) (Cause left n (number (c ∷ x)))
+      go true q = reads (bind-ok _ (digits-complete x (Numerals.first c) (Limits.maxNumber - 1) r (f .2) e (omega (arith, leb-le {m = length (c ∷ x)} {n = Limits.maxNumber} q))))
+      go false q =
+          let l = leb-lt {m = length (c ∷ x)} {n = Limits.maxNumber} q in
+          passed numberTooLong (bind-refused _ (digits-long x (Numerals.first c) (Limits.maxNumber - 1) r (f .2) (omega arith))) (isLong (c ∷ x, itself, l))
 
 -- a value is read by the same cases whatever is left
 value-with : (left : ℕ) → (arr : Reader.Parser Value) × (obj : Reader.Parser Value) × ((n : ℕ) (s : Bytes) → Reader.value left n s ≡ Reader.valueWith arr obj n s)
@@ -462,8 +560,13 @@ unfolding Reader.value
 value-with zero = (Reader.noBracket, Reader.noBracket, λ n s. refl)
 value-with (suc left) = (Reader.arrayRest (Reader.value left), Reader.objectRest (Reader.value left), λ n s. refl)
 
-abbrev ReadsValue : ℕ → ℕ → Value → Bytes → Bytes → Type 0
-ReadsValue left n v s r = Reader.value left n (skip s) ≡ ok (record { tree = v; rest = skip r; count = n + nodes v })
+abbrev WhyValue : ℕ → ℕ → Value → Bytes → Bytes → Type 0
+WhyValue left n v s r = Why (Reader.value left n (skip s)) (record { tree = v; rest = skip r; count = n + nodes v }) (Cause left n v)
+
+scalar-why : (left n : ℕ) (v : Value) (s r : Bytes) → nodes v ≡ 1 → ((arr obj : Reader.Parser Value) → ReadsScalar arr obj n v s r) → WhyValue left n v s r
+scalar-why left n v s r e h =
+    let w = value-with left in
+    why-at (w .2 n (skip s) ∙ h (w .0) (w .1)) (node-why n _ (reads (parsed v refl (ap (λ (k : ℕ). n + k) (sym e)))) (λ l. isMany (omega (arith, e))))
 
 with-suc : (P : ℕ → Type 0) (k : ℕ) → 1 ≤ k → ((j : ℕ) → k ≡ suc j → P (suc j)) → P k
 with-suc P zero h f = absurd (omega arith)
@@ -481,9 +584,9 @@ AfterItem val f v k x =
           refused notJson
     ]
 
-items-from : (val : Reader.Parser Value) (f n : ℕ) (s rest : Bytes) (v : Value) (k : ℕ) (p : Parsed Values) → val n s ≡ ok (record { tree = v; rest = rest; count = k }) → AfterItem val f v k (Reader.next 93 rest) ≡ ok p → Reader.items val (suc f) n s ≡ ok p
+items-why : {C D : Refusal → Type 0} (val : Reader.Parser Value) (f n : ℕ) (s rest : Bytes) (v : Value) (k : ℕ) (p : Parsed Values) → Why (val n s) (record { tree = v; rest = rest; count = k }) C → ((q : Refusal) → C q → D q) → Why (AfterItem val f v k (Reader.next 93 rest)) p D → Why (Reader.items val (suc f) n s) p D
 unfolding Reader.items
-items-from val f n s rest v k p e g = bind-ok _ e ∙ g
+items-why val f n s rest v k p e h g = why-bind _ e h g
 
 abbrev AfterField : Reader.Parser Value → ℕ → List Bytes → Bytes → Value → ℕ → Reader.Next → Result (Parsed Members)
 AfterField val f names k v n x =
@@ -501,15 +604,14 @@ newName-complete : (k : Bytes) (names : List Bytes) (s : Bytes) → isOneOf k na
 unfolding Reader.newName
 newName-complete k names s e = rw (e, Reader.newName) refl
 
-fields-from : (val : Reader.Parser Value) (f n : ℕ) (names : List Bytes) (s t u rest : Bytes) (k : Bytes) (v : Value) (m : ℕ) (p : Parsed Members) → Chars k s t → n + 1 ≤ Limits.maxNodes → isOneOf k names ≡ false → skip t ≡ 58 ∷ u → val (n + 1) (skip u) ≡ ok (record { tree = v; rest = rest; count = m }) → AfterField val f names k v m (Reader.next 125 rest) ≡ ok p → Reader.fields val (suc f) names n (34 ∷ s) ≡ ok p
-unfolding Reader.fields
-fields-from val f n names s t u rest k v m p c h fresh colon e g =
-    bind-ok _ (oneNode-complete n h) ∙
-    bind-ok _ (chars-complete (length s) (omega arith) c) ∙
-    bind-ok _ (newName-complete k names t fresh) ∙
-    bind-ok _ (ap (expect 58) colon ∙ expect-complete 58 u) ∙
-    bind-ok _ e ∙
-    g
+module _ {C D : Refusal → Type 0} {p : Parsed Members} (val : Reader.Parser Value) (f n : ℕ) (names : List Bytes) (s t u rest : Bytes) (k : Bytes) (v : Value) (m : ℕ) where
+  fields-why : Chars k s t → skip t ≡ 58 ∷ u → (Limits.maxNodes < n + 1 → D tooManyNodes) → (isOneOf k names ≡ true → D repeatedName) → Why (val (n + 1) (skip u)) (record { tree = v; rest = rest; count = m }) C → ((q : Refusal) → C q → D q) → Why (AfterField val f names k v m (Reader.next 125 rest)) p D → Why (Reader.fields val (suc f) names n (34 ∷ s)) p D
+  unfolding Reader.fields Reader.newName
+  fields-why c colon full clash e h g = node-why n _ (why-at (bind-ok _ (chars-complete (length s) (omega arith) c)) (go (isOneOf k names) refl)) full
+    where
+      go : (b : Bool) → isOneOf k names ≡ b → Why (Reader.newName k names t >>= λ r. expect 58 (skip r) >>= λ w. val (n + 1) (skip w) >>= λ x. AfterField val f names k (x .tree) (x .count) (Reader.next 125 (x .rest))) p D
+      go true q = passed repeatedName (rw (q, Reader.newName) refl) (clash q)
+      go false q = why-at (bind-ok _ (newName-complete k names t q) ∙ bind-ok _ (ap (expect 58) colon ∙ expect-complete 58 u)) (why-bind _ e h g)
 
 abbrev ArrayBody : Reader.Parser Value → ℕ → ℕ → Bytes → Result (Parsed Value)
 ArrayBody val f m x = elim (Reader.isClosed 93 x) [ some w ↦ ok (record { tree = array nil; rest = skip w; count = m }) | none ↦ (Reader.items val f m x >>= λ vs. ok (record { tree = array (vs .tree); rest = vs .rest; count = vs .count })) ]
@@ -517,26 +619,120 @@ ArrayBody val f m x = elim (Reader.isClosed 93 x) [ some w ↦ ok (record { tree
 abbrev ObjectBody : Reader.Parser Value → ℕ → ℕ → Bytes → Result (Parsed Value)
 ObjectBody val f m x = elim (Reader.isClosed 125 x) [ some w ↦ ok (record { tree = object empty; rest = skip w; count = m }) | none ↦ (Reader.fields val f [] m x >>= λ ms. ok (record { tree = object (ms .tree); rest = ms .rest; count = ms .count })) ]
 
-array-open : (left n : ℕ) (t : Bytes) (p : Parsed Value) → n + 1 ≤ Limits.maxNodes → ArrayBody (Reader.value left) (length t) (n + 1) (skip t) ≡ ok p → Reader.value (suc left) n (91 ∷ t) ≡ ok p
+array-open : (left n : ℕ) (t : Bytes) {p : Parsed Value} {C : Refusal → Type 0} → Why (ArrayBody (Reader.value left) (length t) (n + 1) (skip t)) p C → (Limits.maxNodes < n + 1 → C tooManyNodes) → Why (Reader.value (suc left) n (91 ∷ t)) p C
 unfolding Reader.value
-array-open left n t p k e = bind-ok _ (oneNode-complete n k) ∙ e
+array-open left n t w full = node-why n _ w full
 
-object-open : (left n : ℕ) (t : Bytes) (p : Parsed Value) → n + 1 ≤ Limits.maxNodes → ObjectBody (Reader.value left) (length t) (n + 1) (skip t) ≡ ok p → Reader.value (suc left) n (123 ∷ t) ≡ ok p
+object-open : (left n : ℕ) (t : Bytes) {p : Parsed Value} {C : Refusal → Type 0} → Why (ObjectBody (Reader.value left) (length t) (n + 1) (skip t)) p C → (Limits.maxNodes < n + 1 → C tooManyNodes) → Why (Reader.value (suc left) n (123 ∷ t)) p C
 unfolding Reader.value
-object-open left n t p k e = bind-ok _ (oneNode-complete n k) ∙ e
+object-open left n t w full = node-why n _ w full
+
+too-deep : (n : ℕ) (t : Bytes) → (Reader.value 0 n (91 ∷ t) ≡ refused tooDeep) × (Reader.value 0 n (123 ∷ t) ≡ refused tooDeep)
+unfolding Reader.value
+too-deep n t = (refl, refl)
 
 not-closed : (end c : ℕ) (s : Bytes) → eqb c end ≡ false → Reader.isClosed end (c ∷ s) ≡ none
 not-closed end c s e = rw (e, Reader.isClosed) refl
 
-array-items : (val : Reader.Parser Value) (f m : ℕ) (x : Bytes) (q : Parsed Values) → Reader.isClosed 93 x ≡ none → Reader.items val f m x ≡ ok q → ArrayBody val f m x ≡ ok (record { tree = array (q .tree); rest = q .rest; count = q .count })
-array-items val f m x q e g = rw (e, ArrayBody) (bind-ok _ g)
+array-items : {C : Refusal → Type 0} (val : Reader.Parser Value) (f m : ℕ) (x : Bytes) (q : Parsed Values) → Reader.isClosed 93 x ≡ none → Why (Reader.items val f m x) q C → Why (ArrayBody val f m x) (record { tree = array (q .tree); rest = q .rest; count = q .count }) C
+array-items val f m x q e g = rw (e, ArrayBody) (why-bind _ g (λ r c. c) (reads refl))
 
-object-fields : (val : Reader.Parser Value) (f m : ℕ) (x : Bytes) (q : Parsed Members) → Reader.isClosed 125 x ≡ none → Reader.fields val f [] m x ≡ ok q → ObjectBody val f m x ≡ ok (record { tree = object (q .tree); rest = q .rest; count = q .count })
-object-fields val f m x q e g = rw (e, ObjectBody) (bind-ok _ g)
+object-fields : {C : Refusal → Type 0} (val : Reader.Parser Value) (f m : ℕ) (x : Bytes) (q : Parsed Members) → Reader.isClosed 125 x ≡ none → Why (Reader.fields val f [] m x) q C → Why (ObjectBody val f m x) (record { tree = object (q .tree); rest = q .rest; count = q .count }) C
+object-fields val f m x q e g = rw (e, ObjectBody) (why-bind _ g (λ r c. c) (reads refl))
 
 string-parts : {k s t : Bytes} → Grammar.String k s t → (y : Bytes) × (skip s ≡ 34 ∷ y) × Chars k y t × (s ≡ 34 ∷ y)
 string-parts (Grammar.string {s = y} e c) = let q = ap (λ (x : ℕ). x ∷ y) e in (y, ap skip q ∙ skip-idle 34 y refl, c, q)
 
+-- a member, from its value and from what follows
+abbrev WhyFields : ℕ → ℕ → List Bytes → ℕ → Members → Bytes → Bytes → Type 0
+WhyFields left f names n ms s r = Why (Reader.fields (Reader.value left) f names n (skip s)) (record { tree = ms; rest = skip r; count = n + nodesOf ms }) (CauseOf left n names ms)
+
+member-why : (left f : ℕ) (names : List Bytes) (n : ℕ) {k s t u : Bytes} {v : Value} (ms : Members) (w r : Bytes) → Grammar.String k s t → Structural 58 t u → WhyValue left (n + 1) v u w → Why (AfterField (Reader.value left) f names k v (n + 1 + nodes v) (Reader.next 125 (skip w))) (record { tree = member k v ms; rest = skip r; count = n + 1 + nodes v + nodesOf ms }) (CauseOf left (n + 1 + nodes v) (k ∷ names) ms) → WhyFields left (suc f) names n (member k v ms) s r
+unfolding nodes
+member-why left f names n {k} {t} {v} ms w r name colon h rest =
+    let y = string-parts name in
+    let z = structural-skip 58 refl colon in
+    why-at (ap (Reader.fields (Reader.value left) (suc f) names n) (y .1)) (fields-why (Reader.value left) f n names (y .0) t (z .0) (skip w) k v (n + 1 + nodes v) (y .2) (z .1) (λ l. isMany (omega arith)) (λ e. isTwice (before k e (one-here k (keys ms)))) (why-at (ap (Reader.value left (n + 1)) (z .2)) h) (field-cause left n names k v ms) (why-as (parsed (member k v ms) refl (omega arith)) (why-map (rest-cause left n names k v ms) rest)))
+
+-- reading each rule of the grammar
+mutual
+  unfolding nodes depth
+
+  value-why : {v : Value} {s r : Bytes} → Spells v s r → (left n : ℕ) → Ends r → WhyValue left n v s r
+  value-why (Spells.isNull {s} {r} e) left n en = scalar-why left n null s r refl λ arr obj. null-complete arr obj n s r e
+  value-why (Spells.isTrue {s} {r} e) left n en = scalar-why left n (bool true) s r refl λ arr obj. true-complete arr obj n s r e
+  value-why (Spells.isFalse {s} {r} e) left n en = scalar-why left n (bool false) s r refl λ arr obj. false-complete arr obj n s r e
+  value-why (Spells.isNumber {x} {s} {r} k e) left n en = let w = value-with left in why-at (w .2 n (skip s)) (number-why (w .0) (w .1) n left x s r k e en)
+  value-why (Spells.isText {x} {s} {r} t) left n en = scalar-why left n (text x) s r refl λ arr obj. string-complete arr obj n x s r t
+  value-why (Spells.isArray {vs} {s} {t} {u} {r} o es c) zero n en =
+      let k = structural-skip 91 refl o in
+      passed tooDeep (ap (λ (x : Bytes). Reader.value 0 n x) (k .1) ∙ too-deep n (k .0) .0) (isDeep (omega arith))
+  value-why (Spells.isArray {vs} {s} {t} {u} {r} o es c) (suc left) n en =
+      let k = structural-skip 91 refl o in
+      why-at (ap (λ (x : Bytes). Reader.value (suc left) n x) (k .1)) (array-open left n (k .0) (why-at (ap (ArrayBody (Reader.value left) (length (k .0)) (n + 1)) (k .2)) (why-as (parsed (array vs) refl (omega arith)) (why-map (array-cause left n vs) (elements-why es (length (k .0)) left (n + 1) r c (k .3))))) (λ h. isMany (omega arith)))
+  value-why (Spells.isObject {ms} {s} {t} {u} {r} o es c) zero n en =
+      let k = structural-skip 123 refl o in
+      passed tooDeep (ap (λ (x : Bytes). Reader.value 0 n x) (k .1) ∙ too-deep n (k .0) .1) (isDeep (omega arith))
+  value-why (Spells.isObject {ms} {s} {t} {u} {r} o es c) (suc left) n en =
+      let k = structural-skip 123 refl o in
+      why-at (ap (λ (x : Bytes). Reader.value (suc left) n x) (k .1)) (object-open left n (k .0) (why-at (ap (ObjectBody (Reader.value left) (length (k .0)) (n + 1)) (k .2)) (why-as (parsed (object ms) refl (omega arith)) (why-map (object-cause left n ms) (members-why es (length (k .0)) left (n + 1) r c (k .3))))) (λ h. isMany (omega arith)))
+
+  elements-why : {vs : Values} {t u : Bytes} → Elements vs t u → (f left m : ℕ) (r : Bytes) → Structural 93 u r → length t ≤ f → Why (ArrayBody (Reader.value left) f m (skip t)) (record { tree = array vs; rest = skip r; count = m + nodesIn vs }) (CauseIn left m vs)
+  elements-why (Grammar.noElement {s}) f left m r c l =
+      let k = structural-skip 93 refl c in
+      reads (ap (ArrayBody (Reader.value left) f m) (k .1) ∙ parsed (array nil) (k .2) (omega arith))
+  elements-why (Grammar.elements {v} {vs} {s} {t} {r = u} p more) f left m r c l =
+      let b = begins p in
+      array-items (Reader.value left) f m (skip s) (record { tree = cons v vs; rest = skip r; count = m + nodesIn (cons v vs) }) (ap (Reader.isClosed 93) (b .skipped) ∙ not-closed 93 (b .byte) (b .others) (b .isNo93)) (with-suc (λ g. Why (Reader.items (Reader.value left) g m (skip s)) (record { tree = cons v vs; rest = skip r; count = m + nodesIn (cons v vs) }) (CauseIn left m (cons v vs))) f (omega (arith, l, spells-length p)) λ g q.
+      items-why (Reader.value left) g m (skip s) (skip t) v (m + nodes v) _ (value-why p left m (more-ends more c)) (head-cause left m v vs) (why-as (parsed (cons v vs) refl (omega arith)) (why-map (tail-cause left m v vs) (more-why more g left v (m + nodes v) r c (omega (arith, l, q, spells-length p))))))
+
+  more-why : {vs : Values} {t u : Bytes} → MoreElements vs t u → (f left : ℕ) (v : Value) (k : ℕ) (r : Bytes) → Structural 93 u r → length t ≤ f → Why (AfterItem (Reader.value left) f v k (Reader.next 93 (skip t))) (record { tree = cons v vs; rest = skip r; count = k + nodesIn vs }) (CauseIn left k vs)
+  more-why (Grammar.lastElement {s}) f left v k r c l =
+      let y = structural-skip 93 refl c in
+      reads (ap (λ (x : Bytes). AfterItem (Reader.value left) f v k (Reader.next 93 x)) (y .1) ∙ parsed (cons v nil) (y .2) (omega arith))
+  more-why (Grammar.nextElement {v = w} {vs} {s} {t} {u} {r = x} d p more) f left v k r c l =
+      let y = structural-skip 44 refl d in
+      why-at (ap (λ (z : Bytes). AfterItem (Reader.value left) f v k (Reader.next 93 z)) (y .1) ∙ ap (λ (z : Bytes). Reader.items (Reader.value left) f k z >>= λ l. ok (record { tree = cons v (l .tree); rest = l .rest; count = l .count })) (y .2)) (why-bind _ (with-suc (λ g. Why (Reader.items (Reader.value left) g k (skip t)) (record { tree = cons w vs; rest = skip r; count = k + nodesIn (cons w vs) }) (CauseIn left k (cons w vs))) f (omega (arith, l, structural-length d, spells-length p)) λ g q.
+      items-why (Reader.value left) g k (skip t) (skip u) w (k + nodes w) _ (value-why p left k (more-ends more c)) (head-cause left k w vs) (why-as (parsed (cons w vs) refl (omega arith)) (why-map (tail-cause left k w vs) (more-why more g left w (k + nodes w) r c (omega (arith, l, q, structural-length d, spells-length p)))))) (λ q h. h) (reads refl))
+
+  members-why : {ms : Members} {t u : Bytes} → MembersOf ms t u → (f left m : ℕ) (r : Bytes) → Structural 125 u r → length t ≤ f → Why (ObjectBody (Reader.value left) f m (skip t)) (record { tree = object ms; rest = skip r; count = m + nodesOf ms }) (CauseOf left m [] ms)
+  members-why (Grammar.noMember {s}) f left m r c l =
+      let k = structural-skip 125 refl c in
+      reads (ap (ObjectBody (Reader.value left) f m) (k .1) ∙ parsed (object empty) (k .2) (omega arith))
+  members-why (Grammar.members {k} {v} {ms} {s} {t} {u} {w} {r = x} name colon p more) f left m r c l =
+      object-fields (Reader.value left) f m (skip s) (record { tree = member k v ms; rest = skip r; count = m + nodesOf (member k v ms) }) (ap (Reader.isClosed 125) (string-parts name .1)) (with-suc (λ g. WhyFields left g [] m (member k v ms) s r) f (omega (arith, l, string-length name)) λ g q.
+      member-why left g [] m ms w r name colon (value-why p left (m + 1) (moreMembers-ends more c)) (moreMembers-why more g left [] k v (m + 1 + nodes v) r c (omega (arith, l, q, string-length name, structural-length colon, spells-length p))))
+
+  moreMembers-why : {ms : Members} {t u : Bytes} → MoreMembers ms t u → (f left : ℕ) (names : List Bytes) (k : Bytes) (v : Value) (n : ℕ) (r : Bytes) → Structural 125 u r → length t ≤ f → Why (AfterField (Reader.value left) f names k v n (Reader.next 125 (skip t))) (record { tree = member k v ms; rest = skip r; count = n + nodesOf ms }) (CauseOf left n (k ∷ names) ms)
+  moreMembers-why (Grammar.lastMember {s}) f left names k v n r c l =
+      let y = structural-skip 125 refl c in
+      reads (ap (λ (x : Bytes). AfterField (Reader.value left) f names k v n (Reader.next 125 x)) (y .1) ∙ parsed (member k v empty) (y .2) (omega arith))
+  moreMembers-why (Grammar.nextMember {k = j} {v = w} {ms} {s} {s′} {t} {u} {w = x} {r = o} d name colon p more) f left names k v n r c l =
+      let a = structural-skip 44 refl d in
+      why-at (ap (λ (b : Bytes). AfterField (Reader.value left) f names k v n (Reader.next 125 b)) (a .1) ∙ ap (λ (b : Bytes). Reader.fields (Reader.value left) f (k ∷ names) n b >>= λ l. ok (record { tree = member k v (l .tree); rest = l .rest; count = l .count })) (a .2)) (why-bind _ (with-suc (λ g. WhyFields left g (k ∷ names) n (member j w ms) s′ r) f (omega (arith, l, structural-length d, string-length name)) λ g q.
+      member-why left g (k ∷ names) n ms x r name colon (value-why p left (n + 1) (moreMembers-ends more c)) (moreMembers-why more g left (k ∷ names) j w (n + 1 + nodes w) r c (omega (arith, l, q, structural-length d, string-length name, structural-length colon, spells-length p)))) (λ q h. h) (reads refl))
+
+-- A JSON text is read as its tree, or refused with one of 5 to 8, whose limit the tree passes.
+passes-of : (v : Value) (q : Refusal) → Cause Limits.maxDepth 0 v q → Passes q v
+passes-of v q (isDeep h) = passesDepth h
+passes-of v q (isMany h) = passesNodes {v = v} (omega arith)
+passes-of v q (isLong h) = passesNumber (h .1) (h .2)
+passes-of v q (isTwice h) = passesName (h .1) (h .2)
+
+pub why-refused : (s : Bytes) (v : Value) → JsonText v s → Why (Reader.parse s) v (λ q. Passes q v)
+unfolding Reader.parse Reader.whole-text
+why-refused s v t = why-at (ap (λ (x : Bytes). Reader.value Limits.maxDepth 0 x >>= Reader.whole-text) (skip-of (t .before))) (why-bind Reader.whole-text (value-why (t .spelled) Limits.maxDepth 0 (ws-ends (t .behind) tt)) (passes-of v) (reads whole))
+  where
+    ended : skip (t .to) ≡ []
+    ended = skip-of (t .behind) ∙ none-left
+      where
+        none-left : skip [] ≡ []
+        none-left = refl
+
+    whole : Reader.whole-text (record { tree = v; rest = skip (t .to); count = 0 + nodes v }) ≡ ok v
+    whole = rw (ended, Reader.whole-text) refl
+
+-- a tree within the limits passes none
 and-left : (a b : Bool) → (a && b) ≡ true → a ≡ true
 and-left true b e = refl
 and-left false b e = absurd (false≢true e)
@@ -545,144 +741,42 @@ and-right : (a b : Bool) → (a && b) ≡ true → b ≡ true
 and-right true b e = e
 and-right false b e = absurd (false≢true e)
 
-not-true : (a : Bool) → not a ≡ true → a ≡ false
-not-true true e = absurd (false≢true e)
-not-true false e = refl
-
-of-tail : (o k : Bytes) (ks : List Bytes) → sameBytes o k ≡ false → isOneOf o (k ∷ ks) ≡ true → isOneOf o ks ≡ true
-unfolding isOneOf
-of-tail o k ks q e = rw (q, isOneOf) at e
-
-none-of-tail : (o k : Bytes) (ks : List Bytes) → sameBytes o k ≡ false → isOneOf o (k ∷ ks) ≡ false → isOneOf o ks ≡ false
-unfolding isOneOf
-none-of-tail o k ks q e = rw (q, isOneOf) at e
-
--- the limits of the parts
-module _ (left n : ℕ) (v : Value) (vs : Values) (l : KeepsIn left n (cons v vs)) where
-  head-limits : Keeps left n v
-  unfolding nodes depth tidy
-  head-limits = record { deep = omega (arith, l .deep); most = omega (arith, l .most); isTidy = and-left (tidy Limits.maxNumber v) (tidyIn Limits.maxNumber vs) (l .isTidy) }
-
-  tail-limits : KeepsIn left (n + nodes v) vs
-  unfolding nodes depth tidy
-  tail-limits = record { deep = omega (arith, l .deep); most = omega (arith, l .most); isTidy = and-right (tidy Limits.maxNumber v) (tidyIn Limits.maxNumber vs) (l .isTidy) }
-
-module _ (left n : ℕ) (names : List Bytes) (k : Bytes) (v : Value) (ms : Members) (l : KeepsOf left n names (member k v ms)) where
-  field-limits : Keeps left (n + 1) v
-  unfolding nodes depth tidy
-  field-limits = record { deep = omega (arith, l .deep); most = omega (arith, l .most); isTidy = and-left (tidy Limits.maxNumber v) (tidyOf Limits.maxNumber ms) (and-right (not (isOneOf k (keys ms))) (tidy Limits.maxNumber v && tidyOf Limits.maxNumber ms) (l .isTidy)) }
-
-  new-name : isOneOf k names ≡ false
-  new-name = go (isOneOf k names) refl
-    where
-      go : (b : Bool) → isOneOf k names ≡ b → isOneOf k names ≡ false
-      go true e = absurd (true≢false (sym (one-here k (keys ms)) ∙ l .fresh k e))
-      go false e = e
-
-  rest-limits : KeepsOf left (n + 1 + nodes v) (k ∷ names) ms
-  unfolding nodes depth tidy
-  rest-limits =
-      record {
-        deep = omega (arith, l .deep);
-        most = omega (arith, l .most);
-        isTidy = and-right (tidy Limits.maxNumber v) (tidyOf Limits.maxNumber ms) (and-right (not (isOneOf k (keys ms))) (tidy Limits.maxNumber v && tidyOf Limits.maxNumber ms) (l .isTidy));
-        fresh = λ o e. one-of-tail o (sameBytes o k) refl e;
-      }
-    where
-      others : isOneOf k (keys ms) ≡ false
-      others = not-true (isOneOf k (keys ms)) (and-left (not (isOneOf k (keys ms))) (tidy Limits.maxNumber v && tidyOf Limits.maxNumber ms) (l .isTidy))
-
-      one-of-tail : (o : Bytes) (b : Bool) → sameBytes o k ≡ b → isOneOf o (k ∷ names) ≡ true → isOneOf o (keys ms) ≡ false
-      one-of-tail o true q e = subst (λ (x : Bytes). isOneOf x (keys ms) ≡ false) (sym (sameBytes-true o k q)) others
-      one-of-tail o false q e = none-of-tail o k (keys ms) q (l .fresh o (of-tail o k names q e))
-
--- reading each rule of the grammar
 mutual
-  unfolding nodes depth tidy
+  unfolding tidy
 
-  value-complete : {v : Value} {s r : Bytes} → Spells v s r → (left n : ℕ) → Ends r → Keeps left n v → ReadsValue left n v s r
-  value-complete (Spells.isNull {s} {r} e) left n en lim = let w = value-with left in w .2 n (skip s) ∙ null-complete (w .0) (w .1) n (lim .most) s r e
-  value-complete (Spells.isTrue {s} {r} e) left n en lim = let w = value-with left in w .2 n (skip s) ∙ true-complete (w .0) (w .1) n (lim .most) s r e
-  value-complete (Spells.isFalse {s} {r} e) left n en lim = let w = value-with left in w .2 n (skip s) ∙ false-complete (w .0) (w .1) n (lim .most) s r e
-  value-complete (Spells.isNumber {x} {s} {r} k e) left n en lim = let w = value-with left in w .2 n (skip s) ∙ number-complete (w .0) (w .1) n (lim .most) x s r k e en (leb-le (lim .isTidy))
-  value-complete (Spells.isText {x} {s} {r} t) left n en lim = let w = value-with left in w .2 n (skip s) ∙ string-complete (w .0) (w .1) n (lim .most) x s r t
-  value-complete (Spells.isArray {vs} {s} {t} {u} {r} o es c) left n en lim =
-      with-suc (λ k. ReadsValue k n (array vs) s r) left (omega (arith, lim .deep)) λ j q.
-      let k = structural-skip 91 refl o in
-      ap (λ (x : Bytes). Reader.value (suc j) n x) (k .1) ∙
-      array-open j n (k .0) _ (omega (arith, lim .most)) (ap (ArrayBody (Reader.value j) (length (k .0)) (n + 1)) (k .2) ∙ elements-complete es (length (k .0)) j (n + 1) r c (k .3) (record { deep = omega (arith, lim .deep, q); most = omega (arith, lim .most); isTidy = lim .isTidy })) ∙
-      parsed (array vs) refl (omega arith)
-  value-complete (Spells.isObject {ms} {s} {t} {u} {r} o es c) left n en lim =
-      with-suc (λ k. ReadsValue k n (object ms) s r) left (omega (arith, lim .deep)) λ j q.
-      let k = structural-skip 123 refl o in
-      ap (λ (x : Bytes). Reader.value (suc j) n x) (k .1) ∙
-      object-open j n (k .0) _ (omega (arith, lim .most)) (ap (ObjectBody (Reader.value j) (length (k .0)) (n + 1)) (k .2) ∙ members-complete es (length (k .0)) j (n + 1) r c (k .3) (record { deep = omega (arith, lim .deep, q); most = omega (arith, lim .most); isTidy = lim .isTidy; fresh = λ x e. absurd (false≢true e) })) ∙
-      parsed (object ms) refl (omega arith)
+  part-tidy : {w v : Value} → Part w v → (limit : ℕ) → tidy limit v ≡ true → tidy limit w ≡ true
+  part-tidy itself limit e = e
+  part-tidy (inArray p) limit e = partIn-tidy p limit e
+  part-tidy (inObject p) limit e = partOf-tidy p limit e
 
-  elements-complete : {vs : Values} {t u : Bytes} → Elements vs t u → (f left m : ℕ) (r : Bytes) → Structural 93 u r → length t ≤ f → KeepsIn left m vs → ArrayBody (Reader.value left) f m (skip t) ≡ ok (record { tree = array vs; rest = skip r; count = m + nodesIn vs })
-  elements-complete (Grammar.noElement {s}) f left m r c l lim =
-      let k = structural-skip 93 refl c in
-      ap (ArrayBody (Reader.value left) f m) (k .1) ∙ parsed (array nil) (k .2) (omega arith)
-  elements-complete (Grammar.elements {v} {vs} {s} {t} {r = u} p more) f left m r c l lim =
-      let b = begins p in
-      array-items (Reader.value left) f m (skip s) (record { tree = cons v vs; rest = skip r; count = m + nodesIn (cons v vs) }) (ap (Reader.isClosed 93) (b .skipped) ∙ not-closed 93 (b .byte) (b .others) (b .isNo93)) (with-suc (λ g. Reader.items (Reader.value left) g m (skip s) ≡ ok (record { tree = cons v vs; rest = skip r; count = m + nodesIn (cons v vs) })) f (omega (arith, l, spells-length p)) λ g q.
-      items-from (Reader.value left) g m (skip s) (skip t) v (m + nodes v) _ (value-complete p left m (more-ends more c) (head-limits left m v vs lim)) (more-complete more g left v (m + nodes v) r c (omega (arith, l, q, spells-length p)) (tail-limits left m v vs lim)) ∙
-      parsed (cons v vs) refl (omega arith))
+  partIn-tidy : {w : Value} {vs : Values} → PartIn w vs → (limit : ℕ) → tidyIn limit vs ≡ true → tidy limit w ≡ true
+  partIn-tidy (thisElement {v} {vs} p) limit e = part-tidy p limit (and-left (tidy limit v) (tidyIn limit vs) e)
+  partIn-tidy (laterElement {v} {vs} p) limit e = partIn-tidy p limit (and-right (tidy limit v) (tidyIn limit vs) e)
 
-  more-complete : {vs : Values} {t u : Bytes} → MoreElements vs t u → (f left : ℕ) (v : Value) (k : ℕ) (r : Bytes) → Structural 93 u r → length t ≤ f → KeepsIn left k vs → AfterItem (Reader.value left) f v k (Reader.next 93 (skip t)) ≡ ok (record { tree = cons v vs; rest = skip r; count = k + nodesIn vs })
-  more-complete (Grammar.lastElement {s}) f left v k r c l lim =
-      let y = structural-skip 93 refl c in
-      ap (λ (x : Bytes). AfterItem (Reader.value left) f v k (Reader.next 93 x)) (y .1) ∙ parsed (cons v nil) (y .2) (omega arith)
-  more-complete (Grammar.nextElement {v = w} {vs} {s} {t} {u} {r = x} d p more) f left v k r c l lim =
-      let y = structural-skip 44 refl d in
-      ap (λ (z : Bytes). AfterItem (Reader.value left) f v k (Reader.next 93 z)) (y .1) ∙
-      bind-ok _ (ap (Reader.items (Reader.value left) f k) (y .2) ∙ with-suc (λ g. Reader.items (Reader.value left) g k (skip t) ≡ ok (record { tree = cons w vs; rest = skip r; count = k + nodesIn (cons w vs) })) f (omega (arith, l, structural-length d, spells-length p)) λ g q.
-      items-from (Reader.value left) g k (skip t) (skip u) w (k + nodes w) _ (value-complete p left k (more-ends more c) (head-limits left k w vs lim)) (more-complete more g left w (k + nodes w) r c (omega (arith, l, q, structural-length d, spells-length p)) (tail-limits left k w vs lim)) ∙
-      parsed (cons w vs) refl (omega arith))
+  partOf-tidy : {w : Value} {ms : Members} → PartOf w ms → (limit : ℕ) → tidyOf limit ms ≡ true → tidy limit w ≡ true
+  partOf-tidy (thisMember {k} {v} {ms} p) limit e = part-tidy p limit (and-left (tidy limit v) (tidyOf limit ms) (and-right (not (isOneOf k (keys ms))) (tidy limit v && tidyOf limit ms) e))
+  partOf-tidy (laterMember {k} {v} {ms} p) limit e = partOf-tidy p limit (and-right (tidy limit v) (tidyOf limit ms) (and-right (not (isOneOf k (keys ms))) (tidy limit v && tidyOf limit ms) e))
 
-  members-complete : {ms : Members} {t u : Bytes} → MembersOf ms t u → (f left m : ℕ) (r : Bytes) → Structural 125 u r → length t ≤ f → KeepsOf left m [] ms → ObjectBody (Reader.value left) f m (skip t) ≡ ok (record { tree = object ms; rest = skip r; count = m + nodesOf ms })
-  members-complete (Grammar.noMember {s}) f left m r c l lim =
-      let k = structural-skip 125 refl c in
-      ap (ObjectBody (Reader.value left) f m) (k .1) ∙ parsed (object empty) (k .2) (omega arith)
-  members-complete (Grammar.members {k} {v} {ms} {s} {t} {u} {w} {r = x} name colon p more) f left m r c l lim =
-      let y = string-parts name in
-      let z = structural-skip 58 refl colon in
-      object-fields (Reader.value left) f m (skip s) (record { tree = member k v ms; rest = skip r; count = m + nodesOf (member k v ms) }) (ap (Reader.isClosed 125) (y .1)) (ap (Reader.fields (Reader.value left) f [] m) (y .1) ∙ with-suc (λ g. Reader.fields (Reader.value left) g [] m (34 ∷ y .0) ≡ ok (record { tree = member k v ms; rest = skip r; count = m + nodesOf (member k v ms) })) f (omega (arith, l, string-length name)) λ g q.
-      fields-from (Reader.value left) g m [] (y .0) t (z .0) (skip w) k v (m + 1 + nodes v) _ (y .2) (omega (arith, lim .most)) (new-name left m [] k v ms lim) (z .1) (ap (Reader.value left (m + 1)) (z .2) ∙ value-complete p left (m + 1) (moreMembers-ends more c) (field-limits left m [] k v ms lim)) (moreMembers-complete more g left [] k v (m + 1 + nodes v) r c (omega (arith, l, q, string-length name, structural-length colon, spells-length p)) (rest-limits left m [] k v ms lim)) ∙
-      parsed (member k v ms) refl (omega arith))
+twice-untidy : {ms : Members} → Twice ms → (limit : ℕ) → tidyOf limit ms ≡ true → ⊥
+unfolding tidy
+twice-untidy (again {k} {v} {ms} f) limit e = true≢false (sym (and-left (not (isOneOf k (keys ms))) (tidy limit v && tidyOf limit ms) e) ∙ ap not f)
+twice-untidy (Twice.later {k} {v} {ms} t) limit e = twice-untidy t limit (and-right (tidy limit v) (tidyOf limit ms) (and-right (not (isOneOf k (keys ms))) (tidy limit v && tidyOf limit ms) e))
 
-  moreMembers-complete : {ms : Members} {t u : Bytes} → MoreMembers ms t u → (f left : ℕ) (names : List Bytes) (k : Bytes) (v : Value) (n : ℕ) (r : Bytes) → Structural 125 u r → length t ≤ f → KeepsOf left n (k ∷ names) ms → AfterField (Reader.value left) f names k v n (Reader.next 125 (skip t)) ≡ ok (record { tree = member k v ms; rest = skip r; count = n + nodesOf ms })
-  moreMembers-complete (Grammar.lastMember {s}) f left names k v n r c l lim =
-      let y = structural-skip 125 refl c in
-      ap (λ (x : Bytes). AfterField (Reader.value left) f names k v n (Reader.next 125 x)) (y .1) ∙ parsed (member k v empty) (y .2) (omega arith)
-  moreMembers-complete (Grammar.nextMember {k = j} {v = w} {ms} {s} {s′} {t} {u} {w = x} {r = o} d name colon p more) f left names k v n r c l lim =
-      let a = structural-skip 44 refl d in
-      let y = string-parts name in
-      let z = structural-skip 58 refl colon in
-      ap (λ (b : Bytes). AfterField (Reader.value left) f names k v n (Reader.next 125 b)) (a .1) ∙
-      bind-ok _ (ap (Reader.fields (Reader.value left) f (k ∷ names) n) (a .2 ∙ y .1) ∙ with-suc (λ g. Reader.fields (Reader.value left) g (k ∷ names) n (34 ∷ y .0) ≡ ok (record { tree = member j w ms; rest = skip r; count = n + nodesOf (member j w ms) })) f (omega (arith, l, structural-length d, string-length name)) λ g q.
-      fields-from (Reader.value left) g n (k ∷ names) (y .0) t (z .0) (skip x) j w (n + 1 + nodes w) _ (y .2) (omega (arith, lim .most)) (new-name left n (k ∷ names) j w ms lim) (z .1) (ap (Reader.value left (n + 1)) (z .2) ∙ value-complete p left (n + 1) (moreMembers-ends more c) (field-limits left n (k ∷ names) j w ms lim)) (moreMembers-complete more g left (k ∷ names) j w (n + 1 + nodes w) r c (omega (arith, l, q, structural-length d, string-length name, structural-length colon, spells-length p)) (rest-limits left n (k ∷ names) j w ms lim)) ∙
-      parsed (member j w ms) refl (omega arith))
+within-passes : {q : Refusal} {v : Value} → Passes q v → depth v ≤ Limits.maxDepth → nodes v ≤ Limits.maxNodes → tidy Limits.maxNumber v ≡ true → ⊥
+unfolding tidy
+within-passes (passesDepth h) d n t = omega arith
+within-passes (passesNumber {x} p h) d n t = omega (arith, leb-le {m = length x} {n = Limits.maxNumber} (part-tidy p Limits.maxNumber t))
+within-passes (passesNodes h) d n t = omega arith
+within-passes (passesName {ms} p h) d n t = twice-untidy h Limits.maxNumber (part-tidy p Limits.maxNumber t)
 
 -- a text within the limits is read as its tree
 pub json-complete : (s : Bytes) (v : Value) → Within v s → Reader.json s ≡ ok v
-unfolding Reader.json Reader.whole-text
-json-complete s v w =
-    rw
-    (leb-true (length s) Limits.maxBytes (w .bytes), Reader.json, w .isUtf8)
-    (ap (λ (x : Bytes). Reader.value Limits.maxDepth 0 x >>= Reader.whole-text) (skip-of (w .isJson .before)) ∙ bind-ok Reader.whole-text read ∙ whole)
+unfolding Reader.json
+json-complete s v w = rw (leb-true (length s) Limits.maxBytes (w .bytes), Reader.json, w .isUtf8) (go (why-refused s v (w .isJson)))
   where
-    read : ReadsValue Limits.maxDepth 0 v (w .isJson .from) (w .isJson .to)
-    read = value-complete (w .isJson .spelled) Limits.maxDepth 0 (ws-ends (w .isJson .behind) tt) (record { deep = w .brackets; most = omega (arith, w .count); isTidy = w .isTidy })
-
-    ended : skip (w .isJson .to) ≡ []
-    ended = skip-of (w .isJson .behind) ∙ none-left
-      where
-        none-left : skip [] ≡ []
-        none-left = refl
-
-    whole : Reader.whole-text (record { tree = v; rest = skip (w .isJson .to); count = 0 + nodes v }) ≡ ok v
-    whole = rw (ended, Reader.whole-text) refl
+    go : Why (Reader.parse s) v (λ q. Passes q v) → Reader.parse s ≡ ok v
+    go (reads e) = e
+    go (passed q e c) = absurd (within-passes c (w .brackets) (w .count) (w .isTidy))
 
 -- Reading is RFC 8259 within the limits, exactly.
 pub read-exactly : (s : Bytes) (v : Value) → (Reader.json s ≡ ok v) ↔ Within v s

@@ -103,6 +103,14 @@ ltb-true m n h = is-true (ltb m n) (lt→ltb m n h)
 pub bind-ok : {A B : Type 0} {x : Result A} {a : A} (f : A → Result B) → x ≡ ok a → (x >>= f) ≡ f a
 bind-ok f e = ap (λ y. y >>= f) e
 
+pub bind-same : {A B : Type 0} (x : Result A) (f g : A → Result B) → ((a : A) → x ≡ ok a → f a ≡ g a) → (x >>= f) ≡ (x >>= g)
+bind-same (ok a) f g h = h a refl
+bind-same (refused q) f g h = refl
+
+-- and of one that was
+pub bind-refused : {A B : Type 0} {x : Result A} {q : Refusal} (f : A → Result B) → x ≡ refused q → (x >>= f) ≡ refused q
+bind-refused f e = ap (λ y. y >>= f) e
+
 pub ok-injective : {A : Type 0} {a b : A} → ok a ≡ ok b → a ≡ b
 ok-injective e = cc
 

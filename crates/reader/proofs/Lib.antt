@@ -1,6 +1,16 @@
 pub mod Laws
 pub mod Sound
 pub mod Complete
+pub mod Ascii
+pub mod Outcome
+pub mod Tokens
+pub mod Quoted
+pub mod Separated
+pub mod Sparing
+pub mod Named
+pub mod Local
+pub mod FirstFault
+pub mod Places
 pub mod Agree
 pub mod Decoded
 pub mod Walk

@@ -20,7 +20,7 @@ use Rattle.reader.specs.Numerals
 use Rattle.reader.specs.Numerals.{Place, complete, digit, digits, isStop, onward}
 use Rattle.reader.specs.Reader
 use Rattle.reader.specs.Reader.{Parsed}
-use Rattle.reader.specs.Refusal.{Refusal, Result, notJson, numberTooLong, ok, refused, repeatedName, tooDeep, tooManyNodes, _>>=_}
+use Rattle.reader.specs.Refusal.{Refusal, Result, notJson, numberTooLong, ok, refused, repeatedName, tooManyNodes, _>>=_}
 use Rattle.reader.specs.Scan.{Read, expect, isSpace, skip, word}
 use Rattle.reader.specs.Strings
 use Rattle.reader.specs.Strings.{backslash, char, chars, control, escape, hex, hexDigit, highHalf, highUnit, lowHalf, lowUnit, ofUnit, other, plainUnit, quote, simpleEscape, unicode, unit16}
@@ -36,7 +36,7 @@ bind-inv (refused r) f e = let z : _≡_ {A = Bool} true false = cc in absurd (t
 pub bind-with : {A B : Type 0} {X : Type 0} (x : Result A) (f : A → Result B) {b : B} → (x >>= f) ≡ ok b → ((a : A) → x ≡ ok a → f a ≡ ok b → X) → X
 bind-with x f e k = let i = bind-inv x f e in k (i .0) (i .1) (i .2)
 
-not-ok : {A : Type 0} {X : Type 0} {a : A} (r : Refusal) → refused r ≡ ok a → X
+pub not-ok : {A : Type 0} {X : Type 0} {a : A} (r : Refusal) → refused r ≡ ok a → X
 not-ok r e = let z : _≡_ {A = Bool} true false = cc in absurd (true≢false z)
 
 pub skip-ws : (s : Bytes) → Ws s (skip s)
@@ -253,13 +253,13 @@ digit-view c = go (eqb c 48) (between 49 57 c) (eqb c 45) (eqb c 43) (eqb c 46) 
     go false false false false false false true p1 p2 p3 p4 p5 p6 p7 = rw (p1, p2, p3, p4, p5, p6, p7, choose) (vE (inr (eqb-true c 101 p7)))
     go false false false false false false false p1 p2 p3 p4 p5 p6 p7 = rw (p1, p2, p3, p4, p5, p6, p7, choose) vOther
 
-digit-of-zero : {c : ℕ} → c ≡ 48 → between 48 57 c ≡ true
+pub digit-of-zero : {c : ℕ} → c ≡ 48 → between 48 57 c ≡ true
 digit-of-zero {c} e = rw e refl
 
 digit-of-nonzero : (c : ℕ) → between 49 57 c ≡ true → between 48 57 c ≡ true
 digit-of-nonzero c e = let p = between-in 49 57 c e in between-of 48 57 c (omega arith) (p .1)
 
-from-step : (c : ℕ) (s r : Bytes) (p : Place) (k : Numerals.Digit) → DigitView c k → From (onward p k) s r → From p (c ∷ s) r
+pub from-step : (c : ℕ) (s r : Bytes) (p : Place) (k : Numerals.Digit) → DigitView c k → From (onward p k) s r → From p (c ∷ s) r
 from-step c s r Place.sign k (vZero e) h = (_, Int.zero e, h)
 from-step c s r Place.sign k (vNonzero e) h = (h .0, nonzero e (h .1), h .2)
 from-step c s r Place.sign k (vMinus e) h = absurd h
@@ -325,7 +325,7 @@ from-step c s r Place.stop k (vE e) h = absurd h
 from-step c s r Place.stop k vOther h = absurd h
 
 -- a place at which a number may end
-from-end : (s : Bytes) (p : Place) → complete p ≡ true → From p s s
+pub from-end : (s : Bytes) (p : Place) → complete p ≡ true → From p s s
 from-end s Place.sign e = absurd (false≢true e)
 from-end s Place.zeroed e = (s, noFrac, noExp)
 from-end s Place.whole e = (s, noDigit, (s, noFrac, noExp))
@@ -382,7 +382,7 @@ first-view c = go (eqb c 45) (eqb c 48) (between 49 57 c) refl refl refl
     go false false true p q r = rw (p, q, r, choose) (firstNonzero r)
     go false false false p q r = rw (p, q, r, choose) firstNone
 
-number-of : (c : ℕ) (s r : Bytes) (p : Place) → FirstView c p → From p s r → Number (c ∷ s) r
+pub number-of : (c : ℕ) (s r : Bytes) (p : Place) → FirstView c p → From p s r → Number (c ∷ s) r
 number-of c s r p (firstMinus e) h = record { afterMinus = s; afterInt = h .0; afterFrac = h .2 .0; hasMinus = minus e; hasInt = h .1; hasFrac = h .2 .1; hasExp = h .2 .2 }
 number-of c s r p (firstZero e) h = record { afterMinus = c ∷ s; afterInt = s; afterFrac = h .0; hasMinus = noMinus; hasInt = Int.zero e; hasFrac = h .1; hasExp = h .2 }
 number-of c s r p (firstNonzero e) h = record { afterMinus = c ∷ s; afterInt = h .0; afterFrac = h .2 .0; hasMinus = noMinus; hasInt = nonzero e (h .1); hasFrac = h .2 .1; hasExp = h .2 .2 }
@@ -442,7 +442,7 @@ pub data NextView (end : ℕ) (s : Bytes) : Reader.Next → Type 0 where
   ends : {t : Bytes} → s ≡ end ∷ t → NextView end s (Reader.closed t)
   fails : NextView end s Reader.neither
 
-next-view : (end : ℕ) (s : Bytes) → NextView end s (Reader.next end s)
+pub next-view : (end : ℕ) (s : Bytes) → NextView end s (Reader.next end s)
 next-view end [] = fails
 next-view end (c ∷ s) = go (eqb c 44) (eqb c end) refl refl
   where
@@ -459,29 +459,29 @@ closed-sound end (c ∷ s) t e = go (eqb c end) refl
     go true q = cc (eqb-true c end q, rw (q, Reader.isClosed) at e)
     go false q = let f = rw (q, Reader.isClosed) at e in let z : _≡_ {A = Bool} true false = cc in absurd (true≢false z)
 
-ws-at : {s r r′ : Bytes} → r ≡ r′ → Ws s r → Ws s r′
+pub ws-at : {s r r′ : Bytes} → r ≡ r′ → Ws s r → Ws s r′
 ws-at {s} e w = subst (λ (y : Bytes). Ws s y) e w
 
 -- a structural byte that stands behind a value, and the spaces after it
-structural-at : {c : ℕ} {s u t : Bytes} → Ws s u → u ≡ c ∷ t → Structural c s (skip t)
+pub structural-at : {c : ℕ} {s u t : Bytes} → Ws s u → u ≡ c ∷ t → Structural c s (skip t)
 structural-at {t} w e = structural (ws-at e w) (skip-ws t)
 
 pub data SomeElements : Values → Bytes → Bytes → Type 0 where
   someElements : {v : Value} {vs : Values} {s t r : Bytes} → Spells v s t → MoreElements vs t r → SomeElements (cons v vs) s r
 
-comma-elements : {vs : Values} {s t r : Bytes} → Structural 44 s t → SomeElements vs t r → MoreElements vs s r
+pub comma-elements : {vs : Values} {s t r : Bytes} → Structural 44 s t → SomeElements vs t r → MoreElements vs s r
 comma-elements c (someElements p q) = Grammar.nextElement c p q
 
 pub data SomeMembers : Members → Bytes → Bytes → Type 0 where
   someMembers : {k : Bytes} {v : Value} {ms : Members} {s t u w r : Bytes} → Grammar.String k s t → Structural 58 t u → Spells v u w → MoreMembers ms w r → SomeMembers (member k v ms) s r
 
-comma-members : {ms : Members} {s t r : Bytes} → Structural 44 s t → SomeMembers ms t r → MoreMembers ms s r
+pub comma-members : {ms : Members} {s t r : Bytes} → Structural 44 s t → SomeMembers ms t r → MoreMembers ms s r
 comma-members c (someMembers k d v q) = Grammar.nextMember c k d v q
 
-some-elements : {vs : Values} {s r : Bytes} → SomeElements vs s r → Elements vs s r
+pub some-elements : {vs : Values} {s r : Bytes} → SomeElements vs s r → Elements vs s r
 some-elements (someElements p q) = Grammar.elements p q
 
-some-members : {ms : Members} {s r : Bytes} → SomeMembers ms s r → MembersOf ms s r
+pub some-members : {ms : Members} {s r : Bytes} → SomeMembers ms s r → MembersOf ms s r
 some-members (someMembers k d v q) = Grammar.members k d v q
 
 pub record ItemsRead (left n : ℕ) (s : Bytes) (p : Parsed Values) : Type 0 where
@@ -571,7 +571,7 @@ pub one-here : (k : Bytes) (ks : List Bytes) → isOneOf k (k ∷ ks) ≡ true
 unfolding isOneOf
 one-here k ks = rw (sameBytes-refl k, isOneOf) refl
 
-one-there : (k l : Bytes) (ks : List Bytes) → isOneOf k ks ≡ true → isOneOf k (l ∷ ks) ≡ true
+pub one-there : (k l : Bytes) (ks : List Bytes) → isOneOf k ks ≡ true → isOneOf k (l ∷ ks) ≡ true
 unfolding isOneOf
 one-there k l ks e = go (sameBytes k l) refl
   where
@@ -727,9 +727,9 @@ with-sound left arr obj asound osound n (c ∷ s) p e = go (Reader.start c) (sta
     go k (objectStart q) i = osound n c s p q (rw (i, Reader.valueWith) at e)
     go k noStart i = not-ok notJson (rw (i, Reader.valueWith) at e)
 
-value-sound : (left : ℕ) → ParserSound left (Reader.value left)
+pub value-sound : (left : ℕ) → ParserSound left (Reader.value left)
 unfolding Reader.value
-value-sound zero = with-sound 0 Reader.noBracket Reader.noBracket (λ n c s p q e. not-ok tooDeep e) (λ n c s p q e. not-ok tooDeep e)
+value-sound zero = with-sound 0 Reader.noBracket Reader.noBracket (λ n c s p q e. not-ok _ e) (λ n c s p q e. not-ok _ e)
 value-sound (suc left) = with-sound (suc left) (Reader.arrayRest (Reader.value left)) (Reader.objectRest (Reader.value left)) (array-sound left (Reader.value left) (value-sound left)) (object-sound left (Reader.value left) (value-sound left))
 
 -- what is read as a tree is a text of RFC 8259 within the limits

@@ -188,14 +188,19 @@ value (suc left) n s = valueWith (arrayRest (λ m t. value left m t)) (objectRes
 unfoldable pub whole-text : Parsed Value → Result Value
 whole-text p = elim (p .rest) [ [] ↦ ok (p .tree) | c ∷ s ↦ refused notJson ]
 
+-- the tree of a text, or the first refusal of 4 to 8
+unfoldable pub parse : Bytes → Result Value
+unfolding value whole-text skip
+parse s = value maxDepth 0 (skip s) >>= whole-text
+
 -- the tree of a text, or the first refusal of 2 to 8
 unfoldable pub json : Bytes → Result Value
-unfolding utf8 value whole-text skip
+unfolding utf8 parse
 json s =
     elim
     (leb (length s) maxBytes) [
       | false ↦
           refused tooLong
       | true ↦
-          elim (utf8 scalar s) [ false ↦ refused notUtf8 | true ↦ (value maxDepth 0 (skip s) >>= whole-text) ]
+          elim (utf8 scalar s) [ false ↦ refused notUtf8 | true ↦ parse s ]
     ]
