@@ -47,7 +47,7 @@ cmp-is x y o h = go (compare x y) (cmp x y) o h
     go p (more a) o (same b) = absurd (omega (arith, a, b))
     go p (more a) o (more b) = refl
 
-ten-pos : (k : ℕ) → 0 < 10 ^ k
+pub ten-pos : (k : ℕ) → 0 < 10 ^ k
 ten-pos k = one-le-pow k 10 (omega arith)
 
 -- a common factor changes nothing
@@ -56,14 +56,14 @@ cmp-times k h (less p) = less (mul-lt-mul-of-pos-right p h)
 cmp-times k h (same p) = same (ap (λ (z : ℕ). z * k) p)
 cmp-times k h (more p) = more (mul-lt-mul-of-pos-right p h)
 
-compare-times : (k x y : ℕ) → 0 < k → compare (x * k) (y * k) ≡ compare x y
+pub compare-times : (k x y : ℕ) → 0 < k → compare (x * k) (y * k) ≡ compare x y
 compare-times k x y h = cmp-is (x * k) (y * k) (compare x y) (cmp-times k h (cmp x y))
 
 -- powers
-exponents : (x i j : ℕ) → (x * 10 ^ i) * 10 ^ j ≡ x * 10 ^ (i + j)
+pub exponents : (x i j : ℕ) → (x * 10 ^ i) * 10 ^ j ≡ x * 10 ^ (i + j)
 exponents x i j = mul-assoc x (10 ^ i) (10 ^ j) ∙ ap (λ (z : ℕ). x * z) (sym (pow-add 10 i j))
 
-exponents-are : (x : ℕ) {i j : ℕ} → i ≡ j → x * 10 ^ i ≡ x * 10 ^ j
+pub exponents-are : (x : ℕ) {i j : ℕ} → i ≡ j → x * 10 ^ i ≡ x * 10 ^ j
 exponents-are x e = ap (λ (k : ℕ). x * 10 ^ k) e
 
 -- both sides times a power of ten, for exponents that add up alike
@@ -72,7 +72,7 @@ compare-shift x y i j i′ j′ k p q =
     ap₂ compare (exponents-are x p ∙ sym (exponents x i k)) (exponents-are y q ∙ sym (exponents y j k)) ∙ compare-times (10 ^ k) (x * 10 ^ i) (y * 10 ^ j) (ten-pos k)
 
 -- what both exponents share may be left out
-compare-left-out : (x y i j : ℕ) → compare (x * 10 ^ (i - j)) (y * 10 ^ (j - i)) ≡ compare (x * 10 ^ i) (y * 10 ^ j)
+pub compare-left-out : (x y i j : ℕ) → compare (x * 10 ^ (i - j)) (y * 10 ^ (j - i)) ≡ compare (x * 10 ^ i) (y * 10 ^ j)
 compare-left-out x y i j = by (leb i j) refl
   where
     by : (b : Bool) → leb i j ≡ b → compare (x * 10 ^ (i - j)) (y * 10 ^ (j - i)) ≡ compare (x * 10 ^ i) (y * 10 ^ j)
@@ -433,19 +433,19 @@ not-below x p = go (x .negative) refl
 
 -- exactOrder by the two signs
 module _ (x y : Decimal) where
-  both-below : below x ≡ true → below y ≡ true → exactOrder x y ≡ magnitudes y x
+  pub both-below : below x ≡ true → below y ≡ true → exactOrder x y ≡ magnitudes y x
   unfolding exactOrder
   both-below p q = rw (p, exactOrder, q) refl
 
-  left-below : below x ≡ true → below y ≡ false → exactOrder x y ≡ Ordering·lt
+  pub left-below : below x ≡ true → below y ≡ false → exactOrder x y ≡ Ordering·lt
   unfolding exactOrder
   left-below p q = rw (p, exactOrder, q) refl
 
-  right-below : below x ≡ false → below y ≡ true → exactOrder x y ≡ Ordering·gt
+  pub right-below : below x ≡ false → below y ≡ true → exactOrder x y ≡ Ordering·gt
   unfolding exactOrder
   right-below p q = rw (p, exactOrder, q) refl
 
-  none-below : below x ≡ false → below y ≡ false → exactOrder x y ≡ magnitudes x y
+  pub none-below : below x ≡ false → below y ≡ false → exactOrder x y ≡ magnitudes x y
   unfolding exactOrder
   none-below p q = rw (p, exactOrder, q) refl
 

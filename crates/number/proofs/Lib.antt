@@ -4,3 +4,4 @@ mod Columns
 mod Signs
 mod Parts
 mod Steps
+pub mod Total

@@ -2,7 +2,8 @@
 -- Assumes nothing.
 use mathlib.Core.Bool.{Bool, false, not, true, _&&_, _||_}
 use mathlib.Core.List.{[], _++_, _∷_}
-use Prim.Native.Nat.{Ordering, Ordering·gt, Ordering·lt, compare, ℕ, _*_, _+_, _-_, _^_}
+use mathlib.Core.Path.{_≡_}
+use Prim.Native.Nat.{Ordering, Ordering·eq, Ordering·gt, Ordering·lt, compare, ℕ, _*_, _+_, _-_, _^_}
 use lib.Dec.{eqb}
 use lib.ListN.{length}
 use Rattle.reader.specs.Bytes.{Bytes, natural}
@@ -90,3 +91,16 @@ below a = a .negative && not (eqb (a .digits) 0)
 unfoldable pub exactOrder : Decimal → Decimal → Ordering
 unfolding magnitudes
 exactOrder a b = elim (below a) [ true ↦ elim (below b) [ true ↦ magnitudes b a | false ↦ Ordering·lt ] | false ↦ elim (below b) [ true ↦ Ordering·gt | false ↦ magnitudes a b ] ]
+
+-- Two exact values over one power of ten: the first's signed digits, multiplied by ten to its own power and to the second's
+-- negative one. They are one number where these integers are the same.
+abbrev pub cross : Decimal → Decimal → Integer
+cross a b = signed (a .negative) (a .digits * 10 ^ (a .power .up + b .power .down))
+
+abbrev pub SameValue : Decimal → Decimal → Type 0
+SameValue a b = (cross a b) .up + (cross b a) .down ≡ (cross b a) .up + (cross a b) .down
+
+abbrev pub swapped : Ordering → Ordering
+swapped Ordering·lt = Ordering·gt
+swapped Ordering·eq = Ordering·eq
+swapped Ordering·gt = Ordering·lt
