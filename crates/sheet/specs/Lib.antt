@@ -1,5 +1,7 @@
+pub mod Answers
 pub mod Condition
 pub mod Kinds
-pub mod Rule
 pub mod Outcome
+pub mod Rule
 pub mod Sheet
+pub mod Words

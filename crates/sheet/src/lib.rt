@@ -1,1 +1,3 @@
-// The definitions of the crate stand in specs/, its laws in proofs/.
+// The sheet's shape: the refusals 9, 10 and 11, over the reader's table. The definitions stand in specs/, the laws in proofs/.
+pub mod node;
+pub mod word;
