@@ -4,4 +4,5 @@ pub mod Kinds
 pub mod Outcome
 pub mod Rule
 pub mod Sheet
+pub mod Verdicts
 pub mod Words
