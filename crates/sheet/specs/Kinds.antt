@@ -55,11 +55,15 @@ unfoldable pub allDigits : Bytes → Bool
 allDigits [] = true
 allDigits (c ∷ s) = between 48 57 c && allDigits s
 
-unfoldable pub aVersion : Value → Result Bytes
+unfoldable pub isVersion : Bytes → Bool
 unfolding allDigits natural
+isVersion s = allDigits s && leb (natural 0 s) 4294967295
+
+unfoldable pub aVersion : Value → Result Bytes
+unfolding isVersion
 aVersion v = do
   s ← orElse (asNumber v) wrongSheet
-  elim (allDigits s && leb (natural 0 s) 4294967295) [ true ↦ ok s | false ↦ refused wrongSheet ]
+  elim (isVersion s) [ true ↦ ok s | false ↦ refused wrongSheet ]
 
 -- any value but null is a condition's kind
 abbrev pub notNull : Value → Result Value

@@ -5,4 +5,5 @@ pub mod Outcome
 pub mod Rule
 pub mod Sheet
 pub mod Verdicts
+pub mod Wants
 pub mod Words
