@@ -1,6 +1,7 @@
 pub mod Digits
 pub mod Elements
 pub mod Names
+pub mod Rules
 pub mod Shapes
 pub mod Verdicts
 pub mod Walks

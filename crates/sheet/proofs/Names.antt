@@ -51,7 +51,7 @@ unfolding find
 find-later key k v ms e = rw (sameBytes-sym key k, sym e, find)
 
 -- a known name has a place among the names
-unlisted : (n : ℕ) (k : Bytes) (names : List Bytes) → position n k names ≡ none → isOneOf k names ≡ false
+pub unlisted : (n : ℕ) (k : Bytes) (names : List Bytes) → position n k names ≡ none → isOneOf k names ≡ false
 unfolding position isOneOf
 unlisted n k [] e = refl
 unlisted n k (x ∷ xs) e = go (sameBytes k x) refl (unlisted (n + 1) k xs)
@@ -60,7 +60,7 @@ unlisted n k (x ∷ xs) e = go (sameBytes k x) refl (unlisted (n + 1) k xs)
     go true q below = let z : _≡_ {A = ℕ} 0 1 = cc (rw (q, position) at e) in absurd (omega arith)
     go false q below = rw (q, isOneOf) (below (rw (q, position) at e))
 
-listed : (n m : ℕ) (k : Bytes) (names : List Bytes) → position n k names ≡ some m → isOneOf k names ≡ true
+pub listed : (n m : ℕ) (k : Bytes) (names : List Bytes) → position n k names ≡ some m → isOneOf k names ≡ true
 unfolding position isOneOf
 listed n m k [] e = let z : _≡_ {A = ℕ} 0 1 = cc in absurd (omega arith)
 listed n m k (x ∷ xs) e = go (sameBytes k x) refl (listed (n + 1) m k xs)

@@ -16,8 +16,9 @@ use Rattle.reader.specs.Json.{Value, Values, array, bool, null, number, object,
 use Rattle.reader.specs.Refusal.{ok, refused, wrongSheet}
 use Rattle.reader.specs.Spans.{Plain, plain, textAt}
 use Rattle.reader.specs.Table.{afterAt, code, endAt, kindAt, membersAt, startAt, valueAt, valuesAt}
+use Rattle.sheet.proofs.Verdicts.{array-ok}
 use Rattle.sheet.specs.Kinds.{aText, aVersion, isVersion}
-use Rattle.sheet.specs.Verdicts.{allOk, isOk}
+use Rattle.sheet.specs.Verdicts.{allOf, isOk}
 use Rattle.sheet.specs.Wants.{meets}
 use Rattle.sheet.specs.declared.kinds.Want.the-variants as wants
 
@@ -163,13 +164,13 @@ version-of t = pick (isVersion t)
     pick false = refl
 
 -- an array that holds texts, alone or where one text could stand
-pub texts-of : (vs : Values) → allOk aText vs ≡ meets wants.Texts (array vs)
+pub texts-of : (vs : Values) → allOf (meets wants.Text) vs ≡ meets wants.Texts (array vs)
 unfolding meets
-texts-of vs = refl
+texts-of vs = sym (array-ok aText vs)
 
-pub text-or-texts-of : (vs : Values) → allOk aText vs ≡ meets wants.TextOrTexts (array vs)
+pub text-or-texts-of : (vs : Values) → allOf (meets wants.Text) vs ≡ meets wants.TextOrTexts (array vs)
 unfolding meets
-text-or-texts-of vs = refl
+text-or-texts-of vs = sym (array-ok aText vs)
 
 pub text-alone : (t : Bytes) → true ≡ meets wants.TextOrTexts (text t)
 unfolding meets
@@ -200,10 +201,8 @@ module _ {s : Bytes} {w : List ℕ} {left n : ℕ} (h : IsNode s w left n) (k : 
   pub tagged : k ≡ tag (valueAt s w n)
   tagged = p ∙ tag-at h
 
-  pub is-text : k ≡ 4 → true ≡ isOk (aText (valueAt s w n))
-  unfolding meets
+  pub is-text : k ≡ 4 → true ≡ meets wants.Text (valueAt s w n)
   is-text e = sym (eq-eqb (tag (valueAt s w n)) 4 (sym tagged ∙ e)) ∙ text-tag (valueAt s w n)
 
-  pub no-text : (k ≡ 4 → ⊥) → false ≡ isOk (aText (valueAt s w n))
-  unfolding meets
+  pub no-text : (k ≡ 4 → ⊥) → false ≡ meets wants.Text (valueAt s w n)
   no-text f = sym (ne-eqb (tag (valueAt s w n)) 4 (λ e. f (tagged ∙ e))) ∙ text-tag (valueAt s w n)

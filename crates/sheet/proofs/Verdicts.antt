@@ -1,12 +1,15 @@
 -- Readings put together give a value where each part does.
 -- Assumes nothing.
 use mathlib.Core.Bool.{Bool, false, true, _&&_}
-use mathlib.Core.List.{List, [], _∷_}
-use mathlib.Core.Path.{ap, refl, sym, _∙_, _≡_}
-use Rattle.reader.specs.Json.{Value, Values, cons, elements}
-use Rattle.reader.specs.Refusal.{Result, ok, refused, _>>=_}
-use Rattle.sheet.specs.Kinds.{eachOf}
-use Rattle.sheet.specs.Verdicts.{allOk, isOk}
+use mathlib.Core.List.{_∷_}
+use mathlib.Core.Option.{Option, none, some}
+use mathlib.Core.Path.{refl, _∙_, _≡_}
+use Rattle.reader.specs.Bytes.{Bytes, find}
+use Rattle.reader.specs.Json.{Members, Value, Values, array, cons, elements, entries, nil}
+use Rattle.reader.specs.Refusal.{Result, ok, orElse, refused, wrongSheet, _>>=_}
+use Rattle.sheet.specs.Kinds.{anArrayOf, eachOf, optional, required}
+use Rattle.sheet.specs.Verdicts.{allOf, isOk}
+use Rattle.sheet.specs.Wants.{allowed, needed}
 
 pub and-true : (b : Bool) → (b && true) ≡ b
 and-true true = refl
@@ -21,13 +24,27 @@ pub ok-last : {A B : Type 0} (x : Result A) (f : A → B) → isOk (x >>= (λ a.
 ok-last (ok a) f = refl
 ok-last (refused r) f = refl
 
-module _ {A : Type 0} (kind : Value → Result A) (v : Value) (vs : Values) where
-  each-ok : allOk kind (cons v vs) ≡ (isOk (kind v) && allOk kind vs)
-  unfolding eachOf
-  each-ok = ok-bind (kind v) (λ a. eachOf kind (elements vs) >>= (λ as′. ok (a ∷ as′))) (allOk kind vs) (λ a. ok-last (eachOf kind (elements vs)) (λ as′. a ∷ as′))
+-- each element by itself
+pub each-ok : {A : Type 0} (kind : Value → Result A) (vs : Values) → isOk (eachOf kind (elements vs)) ≡ allOf (λ v. isOk (kind v)) vs
+unfolding eachOf
+each-ok kind nil = refl
+each-ok kind (cons v vs) = ok-bind (kind v) _ _ (λ a. ok-last (eachOf kind (elements vs)) (λ as′. a ∷ as′) ∙ each-ok kind vs)
 
-  pub element-wrong : false ≡ isOk (kind v) → false ≡ allOk kind (cons v vs)
-  element-wrong e = sym (each-ok ∙ ap {B = Bool} (λ b. b && allOk kind vs) (sym e))
+pub array-ok : {A : Type 0} (kind : Value → Result A) (vs : Values) → isOk (anArrayOf kind (array vs)) ≡ allOf (λ v. isOk (kind v)) vs
+array-ok kind vs = each-ok kind vs
 
-  pub element-right : true ≡ isOk (kind v) → allOk kind (cons v vs) ≡ allOk kind vs
-  element-right e = each-ok ∙ ap {B = Bool} (λ b. b && allOk kind vs) (sym e)
+-- a member that must be there, and one that may be missing
+module _ {A : Type 0} (kind : Value → Result A) (k : Bytes) (ms : Members) where
+  pub required-ok : isOk (required kind k ms) ≡ needed (λ v. isOk (kind v)) (find k (entries ms))
+  required-ok = go (find k (entries ms))
+    where
+      go : (o : Option Value) → isOk (orElse o wrongSheet >>= kind) ≡ needed (λ v. isOk (kind v)) o
+      go none = refl
+      go (some v) = refl
+
+  pub optional-ok : isOk (optional kind k ms) ≡ allowed (λ v. isOk (kind v)) (find k (entries ms))
+  optional-ok = go (find k (entries ms))
+    where
+      go : (o : Option Value) → isOk {A = Option A} (elim o [ none ↦ ok none | some v ↦ (kind v >>= (λ a. ok (some a))) ]) ≡ allowed (λ v. isOk (kind v)) o
+      go none = refl
+      go (some v) = ok-last (kind v) (λ a. some a)

@@ -18,8 +18,8 @@ use Rattle.reader.specs.declared.rows.Found.{Found}
 use Rattle.reader.specs.declared.rows.Found.the-variants as founds
 use Rattle.sheet.proofs.Shapes.{array-at, bool-tag, no-text-or-texts, no-texts, no-version, number-at, object-tag, present-tag, tag, tagged, text-alone, text-at, text-or-texts-of, text-tag, texts-of, version-of}
 use Rattle.sheet.proofs.Walks.{full, full-nodes}
-use Rattle.sheet.specs.Kinds.{aText, isVersion}
-use Rattle.sheet.specs.Verdicts.{allOk}
+use Rattle.sheet.specs.Kinds.{isVersion}
+use Rattle.sheet.specs.Verdicts.{allOf}
 use Rattle.sheet.specs.Wants.{allowed, meets, needed}
 use Rattle.sheet.specs.declared.kinds.Want.{Want}
 use Rattle.sheet.specs.declared.kinds.Want.the-variants as wants
@@ -61,7 +61,7 @@ module _ {s : Bytes} {w : List ℕ} {n : ℕ} (h : IsNode s w 64 n) (k : ℕ) (p
     pub fits-no-texts : want ≡ wants.Texts → (k ≡ 5 → ⊥) → false ≡ meets want (valueAt s w n)
     fits-no-texts e f = told wants.Texts e (no-texts (valueAt s w n) (λ q. f (tagged h k p ∙ q)))
 
-    pub fits-texts : want ≡ wants.Texts → k ≡ 5 → (b : Bool) (y : ℕ) → y ≡ afterAt w n → b ≡ allOk aText (valuesAt s w (n + 1) y) → b ≡ meets want (valueAt s w n)
+    pub fits-texts : want ≡ wants.Texts → k ≡ 5 → (b : Bool) (y : ℕ) → y ≡ afterAt w n → b ≡ allOf (meets wants.Text) (valuesAt s w (n + 1) y) → b ≡ meets want (valueAt s w n)
     fits-texts e q b y j g = is wants.Texts e (array-at h (sym p ∙ q) .0) (rw j at g ∙ texts-of (valuesAt s w (n + 1) (afterAt w n)))
 
     pub fits-alone : want ≡ wants.TextOrTexts → k ≡ 4 → true ≡ meets want (valueAt s w n)
@@ -70,7 +70,7 @@ module _ {s : Bytes} {w : List ℕ} {n : ℕ} (h : IsNode s w 64 n) (k : ℕ) (p
     pub fits-neither : want ≡ wants.TextOrTexts → (k ≡ 4 → ⊥) → (k ≡ 5 → ⊥) → false ≡ meets want (valueAt s w n)
     fits-neither e f g = told wants.TextOrTexts e (no-text-or-texts (valueAt s w n) (λ q. f (tagged h k p ∙ q)) (λ q. g (tagged h k p ∙ q)))
 
-    pub fits-several : want ≡ wants.TextOrTexts → k ≡ 5 → (b : Bool) (y : ℕ) → y ≡ afterAt w n → b ≡ allOk aText (valuesAt s w (n + 1) y) → b ≡ meets want (valueAt s w n)
+    pub fits-several : want ≡ wants.TextOrTexts → k ≡ 5 → (b : Bool) (y : ℕ) → y ≡ afterAt w n → b ≡ allOf (meets wants.Text) (valuesAt s w (n + 1) y) → b ≡ meets want (valueAt s w n)
     fits-several e q b y j g = is wants.TextOrTexts e (array-at h (sym p ∙ q) .0) (rw j at g ∙ text-or-texts-of (valuesAt s w (n + 1) (afterAt w n)))
 
 -- a member by what was found

@@ -1,6 +1,7 @@
 pub mod Answers
 pub mod Condition
 pub mod Kinds
+pub mod Named
 pub mod Outcome
 pub mod Rule
 pub mod Sheet

@@ -22,8 +22,18 @@ pub record Outcome (C : Type 0) : Type 0 where
 abbrev pub effectWords : List (Bytes × Effect)
 effectWords = (ascii "none", stays) ∷ (ascii "creates", stays) ∷ (ascii "updates", stays) ∷ []
 
-unfoldable pub anEffect : Value → Result Effect
+-- where a move goes and where it may come from
+unfoldable pub aMove : Value → Result Effect
 unfolding find only eachOf
+aMove v = do
+  ms ← anObject v
+  _ ← only (ascii "to" ∷ ascii "from" ∷ []) (keys ms)
+  to ← required aText (ascii "to") ms
+  from ← required someTexts (ascii "from") ms
+  ok (moves to from)
+
+unfoldable pub anEffect : Value → Result Effect
+unfolding find only aMove
 anEffect v =
     elim
     (asText v) [
@@ -33,11 +43,7 @@ anEffect v =
           (do
             ms ← anObject v
             _ ← only (ascii "moves" ∷ []) (keys ms)
-            move ← required anObject (ascii "moves") ms
-            _ ← only (ascii "to" ∷ ascii "from" ∷ []) (keys move)
-            to ← required aText (ascii "to") move
-            from ← required someTexts (ascii "from") move
-            ok (moves to from))
+            required aMove (ascii "moves") ms)
     ]
 
 abbrev pub orStays : Option Effect → Effect

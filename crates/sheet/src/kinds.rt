@@ -14,8 +14,8 @@ ghost use lib.Seq.{slice};
 ghost use Rattle.reader.specs.Answers.{FoundIn, foundOf};
 ghost use Rattle.reader.specs.Held.{AreNodes, IsNode};
 ghost use Rattle.reader.specs.Table.{valueAt, valuesAt};
-ghost use Rattle.sheet.specs.Kinds.{aText, isVersion};
-ghost use Rattle.sheet.specs.Verdicts.{allOk};
+ghost use Rattle.sheet.specs.Kinds.{isVersion};
+ghost use Rattle.sheet.specs.Verdicts.{allOf};
 ghost use Rattle.sheet.specs.Wants.{allowed, meets, needed};
 
 pub enum Want {
@@ -55,7 +55,7 @@ pub fn is_version(s: &[u8], from: usize, end: usize) -> bool
 // Whether the nodes from `from` up to `end` are texts.
 pub fn are_texts(s: &[u8], work: &[u32], from: usize, end: usize) -> bool
     requires { ⌜ AreNodes (now s) (now work) 64 from end ⌝ }
-    ensures { λ r. ⌜ r ≡ allOk aText (valuesAt (now (s .entry)) (now (work .entry)) from end) ⌝ }
+    ensures { λ r. ⌜ r ≡ allOf (meets Want.Text) (valuesAt (now (s .entry)) (now (work .entry)) from end) ⌝ }
 {
     let mut k = from;
     while k < end {

@@ -2,4 +2,6 @@
 pub mod kinds;
 pub mod member;
 pub mod node;
+pub mod outcome;
+pub mod rule;
 pub mod word;

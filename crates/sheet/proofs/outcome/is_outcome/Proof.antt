@@ -1,0 +1,66 @@
+-- `sheet::outcome::is_outcome` meets its contract: its names are known and each member is what it must be.
+-- Assumes nothing.
+use Rattle.sheet.proofs.Rules.{is-outcome, not-outcome, object-members}
+use Rattle.sheet.proofs.Walks.{room}
+use Rattle.sheet.specs.Words.{split}
+use borrow.Author.Needs.{needs}
+use Rattle.sheet.proofs.outcome.is_outcome.Statement.{statement}
+use Rattle.sheet.proofs.outcome.is_outcome.Tie as tie
+
+kind-at-requires : tie.Need-kind-at-requires
+kind-at-requires c κs = room (c .before .before .pre)
+
+returns : tie.Need-returns
+returns c = not-outcome (c .before .before .before .before .pre) _ (c .before .kind-at .ensures) (c .if1 .taken)
+
+add-from : tie.Need-add-from
+add-from c = search needs
+
+after-at-requires : tie.Need-after-at-requires
+after-at-requires c κs = room (c .before .before .before .before .pre)
+
+members-requires : tie.Need-members-requires
+members-requires c κs = object-members (c .before .before .before .before .before .pre) _ (c .before .before .kind-at .ensures) (c .before .if1 .left) _ (c .after-at .ensures)
+
+slice-aggregate-only : tie.Need-slice-aggregate-only
+slice-aggregate-only c = search needs
+
+only-requires : tie.Need-only-requires
+only-requires c κs = object-members (c .before .before .before .before .before .before .before .pre) _ (c .before .before .before .before .kind-at .ensures) (c .before .before .before .if1 .left) _ (c .before .before .after-at .ensures)
+
+needs-requires : tie.Need-needs-requires
+needs-requires c κs = search needs
+
+allows-requires : tie.Need-allows-requires
+allows-requires c κs = search needs
+
+allows-requires-2 : tie.Need-allows-requires-2
+allows-requires-2 c κs = search needs
+
+allows-requires-3 : tie.Need-allows-requires-3
+allows-requires-3 c κs = search needs
+
+allows-effect-requires : tie.Need-allows-effect-requires
+allows-effect-requires c κs = search needs
+
+returns-2 : tie.Need-returns-2
+unfolding split
+returns-2 c = is-outcome (c .before .before .before .before .before .before .before .before .before .before .before .before .before .pre) _ (c .before .before .before .before .before .before .before .before .before .before .kind-at .ensures) (c .before .before .before .before .before .before .before .before .before .if1 .left) _ (c .before .before .before .before .before .before .before .before .after-at .ensures) _ (c .before .before .before .before .before .before .before .members .ensures) _ _ _ _ _ _ (c .before .before .before .before .before .only .ensures) (c .before .before .before .before .needs .ensures) (c .before .before .before .allows .ensures) (c .before .before .allows2 .ensures) (c .before .allows3 .ensures) (c .allows-effect .ensures)
+
+pub is-outcome-spec : {M : Type 1} → statement M
+is-outcome-spec =
+    tie.close
+    (tie.spec
+    kind-at-requires
+    returns
+    add-from
+    after-at-requires
+    members-requires
+    slice-aggregate-only
+    only-requires
+    needs-requires
+    allows-requires
+    allows-requires-2
+    allows-requires-3
+    allows-effect-requires
+    returns-2)

@@ -1,0 +1,26 @@
+-- The members of a rule, an outcome, an effect and a sheet by name: what the nodes that code has found hold.
+-- Assumes nothing.
+use mathlib.Core.List.{List}
+use Prim.Native.Nat.{ℕ}
+use Rattle.reader.specs.Answers.{FoundTold}
+use Rattle.reader.specs.Bytes.{Bytes, ascii, find}
+use Rattle.reader.specs.Json.{Members, entries}
+use Rattle.sheet.specs.declared.outcome.MoveMembers.{MoveMembers}
+use Rattle.sheet.specs.declared.outcome.OutcomeMembers.{OutcomeMembers}
+use Rattle.sheet.specs.declared.rule.RuleMembers.{RuleMembers}
+
+pub record RuleNamed (s : Bytes) (w : List ℕ) (ms : Members) (r : RuleMembers) : Type 0 where
+  pub assert : FoundTold s w (find (ascii "assert") (entries ms)) (r .assert)
+  pub name : FoundTold s w (find (ascii "name") (entries ms)) (r .name)
+  pub message : FoundTold s w (find (ascii "message") (entries ms)) (r .message)
+
+pub record OutcomeNamed (s : Bytes) (w : List ℕ) (ms : Members) (r : OutcomeMembers) : Type 0 where
+  pub name : FoundTold s w (find (ascii "name") (entries ms)) (r .name)
+  pub when : FoundTold s w (find (ascii "when") (entries ms)) (r .when)
+  pub inState : FoundTold s w (find (ascii "in_state") (entries ms)) (r .«in_state»)
+  pub wrongState : FoundTold s w (find (ascii "wrong_state") (entries ms)) (r .«wrong_state»)
+  pub effect : FoundTold s w (find (ascii "effect") (entries ms)) (r .effect)
+
+pub record MoveNamed (s : Bytes) (w : List ℕ) (ms : Members) (r : MoveMembers) : Type 0 where
+  pub to : FoundTold s w (find (ascii "to") (entries ms)) (r .to)
+  pub from : FoundTold s w (find (ascii "from") (entries ms)) (r .from)
