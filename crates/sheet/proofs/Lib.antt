@@ -3,6 +3,7 @@ pub mod Elements
 pub mod Names
 pub mod Rules
 pub mod Shapes
+pub mod Sheets
 pub mod Verdicts
 pub mod Walks
 pub mod Wanted

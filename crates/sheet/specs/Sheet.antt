@@ -30,6 +30,25 @@ pub record Sheet (C : Type 0) : Type 0 where
   pub invariants : List (Rule C)
   pub outcomes : List (Outcome C)
 
+-- the fourteen members
+abbrev pub sheetNames : List Bytes
+sheetNames =
+    ascii "entity" ∷
+    ascii "to_state" ∷
+    ascii "version" ∷
+    ascii "args" ∷
+    ascii "fields" ∷
+    ascii "old_fields" ∷
+    ascii "states" ∷
+    ascii "preconditions" ∷
+    ascii "invariants" ∷
+    ascii "outcomes" ∷
+    ascii "id" ∷
+    ascii "from_state" ∷
+    ascii "state" ∷
+    ascii "condition" ∷
+    []
+
 module _ {C : Type 0} (kind : Value → Result C) where
   unfoldable pub aSheet : Value → Result (Sheet C)
   unfolding find only eachOf aVersion aRule anOutcome
@@ -67,24 +86,6 @@ module _ {C : Type 0} (kind : Value → Result C) where
           invariants = is;
           outcomes = os;
         })
-    where
-      sheetNames : List Bytes
-      sheetNames =
-          ascii "entity" ∷
-          ascii "to_state" ∷
-          ascii "version" ∷
-          ascii "args" ∷
-          ascii "fields" ∷
-          ascii "old_fields" ∷
-          ascii "states" ∷
-          ascii "preconditions" ∷
-          ascii "invariants" ∷
-          ascii "outcomes" ∷
-          ascii "id" ∷
-          ascii "from_state" ∷
-          ascii "state" ∷
-          ascii "condition" ∷
-          []
 
 -- The conditions of an accepted sheet's text, in the order in which they begin.
 abbrev pub memberOf : Bytes → Value → List Value

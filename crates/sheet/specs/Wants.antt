@@ -4,9 +4,13 @@ use mathlib.Core.Bool.{Bool, false, true}
 use mathlib.Core.Option.{Option, none, some}
 use Rattle.reader.specs.Json.{Value}
 use Rattle.sheet.specs.Kinds.{aBool, aText, aVersion, anArrayOf, anObject, eachOf, notNull, someTexts}
+use Rattle.sheet.specs.Outcome.{anOutcome}
+use Rattle.sheet.specs.Rule.{aRule}
 use Rattle.sheet.specs.Verdicts.{isOk}
 use Rattle.sheet.specs.declared.kinds.Want.{Want}
 use Rattle.sheet.specs.declared.kinds.Want.the-variants as wants
+use Rattle.sheet.specs.declared.sheet.Element.{Element}
+use Rattle.sheet.specs.declared.sheet.Element.the-variants as elements
 
 -- whether a value is what is wanted
 unfoldable pub meets : Want → Value → Bool
@@ -27,3 +31,14 @@ needed p (some v) = p v
 abbrev pub allowed : (Value → Bool) → Option Value → Bool
 allowed p none = true
 allowed p (some v) = p v
+
+-- the lists of the sheet: an element of each, and the whole array
+unfoldable pub elementOk : Element → Value → Bool
+unfolding aRule anOutcome
+elementOk elements.Rule v = isOk (aRule notNull v)
+elementOk elements.Outcome v = isOk (anOutcome notNull v)
+
+unfoldable pub arrayOk : Element → Value → Bool
+unfolding eachOf aRule anOutcome
+arrayOk elements.Rule v = isOk (anArrayOf (aRule notNull) v)
+arrayOk elements.Outcome v = isOk (anArrayOf (anOutcome notNull) v)

@@ -4,4 +4,5 @@ pub mod member;
 pub mod node;
 pub mod outcome;
 pub mod rule;
+pub mod sheet;
 pub mod word;
