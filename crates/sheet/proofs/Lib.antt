@@ -1,6 +1,10 @@
+pub mod Conditions
+pub mod Counts
 pub mod Digits
 pub mod Elements
+pub mod Faults
 pub mod Names
+pub mod Operators
 pub mod Rules
 pub mod Shapes
 pub mod Sheets

@@ -3,21 +3,22 @@
 use mathlib.Core.Bool.{Bool, false, true}
 use mathlib.Core.List.{List, [], _∷_}
 use mathlib.Core.Option.{Option, none, some}
-use mathlib.Core.Path.{ap, refl, sym, _∙_, _≡_}
-use Prim.Native.Nat.{ℕ, _+_, _<_}
+use mathlib.Core.Path.{ap, refl, subst, sym, _∙_, _≡_}
+use Prim.Native.Nat.{ℕ, _+_, _<_, _≤_}
 use native.Mathlib.Omega.{arith}
 use lib.Dec.{eqb}
 use Rattle.reader.proofs.Laws.{eqb-false, eqb-no, eqb-same, eqb-true}
+use Rattle.reader.proofs.Walk.{members-more}
 use Rattle.reader.specs.Answers.{FoundIn, FoundTold, foundOf}
 use Rattle.reader.specs.Bytes.{Bytes, find, isOneOf, sameBytes}
-use Rattle.reader.specs.Held.{IsNode}
+use Rattle.reader.specs.Held.{AreMembers, IsNode}
 use Rattle.reader.specs.Json.{Members, Value, entries, keys, member}
 use Rattle.reader.specs.Spans.{textAt}
 use Rattle.reader.specs.Table.{afterAt, membersAt, startAt, valueAt}
 use Rattle.reader.specs.declared.rows.Found.{Found}
 use Rattle.reader.specs.declared.rows.Found.the-variants as founds
-use Rattle.sheet.proofs.Walks.{OverMembers, a-member, on, value-node}
-use Rattle.sheet.specs.Answers.{placeOf}
+use Rattle.sheet.proofs.Walks.{OverMembers, a-member, no-member, on, value-node}
+use Rattle.sheet.specs.Answers.{FoundLeft, Located, placeOf}
 use Rattle.sheet.specs.Kinds.{only}
 use Rattle.sheet.specs.Verdicts.{isOk}
 use Rattle.sheet.specs.Words.{position}
@@ -82,19 +83,28 @@ unfolding only
 name-known names k v ms n e = rw (listed 0 n k names e, only)
 
 -- ---- the loops
-abbrev pub Sought : Bytes → List ℕ → ℕ → Bytes → Option Value → ℕ → Type 0
-Sought s w e key whole k = OverMembers s w e whole (λ ms. find key (entries ms)) k
+pub record Sought (s : Bytes) (w : List ℕ) (from e : ℕ) (key : Bytes) (whole : Option Value) (k : ℕ) : Type 0 where
+  pub over : OverMembers s w e whole (λ ms. find key (entries ms)) k
+  pub within : (left : ℕ) → AreMembers s w left from e → AreMembers s w left k e
+
+pub seek : (s : Bytes) (w : List ℕ) (from e : ℕ) (key : Bytes) → AreMembers s w 64 from e → Sought s w from e key (find key (entries (membersAt s w from e))) from
+seek s w from e key h = record { over = record { members = h; rest = refl }; within = λ left m. m }
+
+pub sought-nowhere : {s : Bytes} {w : List ℕ} {from e k : ℕ} {key : Bytes} {whole : Option Value} → Sought s w from e key whole k → e ≤ k → Located s w from e whole founds.Nothing
+unfolding find FoundLeft
+sought-nowhere l h = record { told = found-nothing (no-member (l .over) h); within = λ left m. tt }
 
 abbrev pub Knowing : Bytes → List ℕ → ℕ → List Bytes → Bool → ℕ → Type 0
 Knowing s w e names whole k = OverMembers s w e whole (allKnown names) k
 
 module _ {s : Bytes} {w : List ℕ} {e k : ℕ} (h : k < e) (a : ℕ) (q : a ≡ startAt w k) where
-  module _ (key : Bytes) {whole : Option Value} (l : Sought s w e key whole k) where
-    pub sought-here : true ≡ sameBytes (textAt s a) key → FoundTold s w whole (founds.At (k + 1))
-    sought-here g = found-at (a-member l h a q ∙ find-this key (textAt s a) (valueAt s w (k + 1)) (membersAt s w (afterAt w (k + 1)) e) g) (value-node l h)
+  module _ {from : ℕ} {key : Bytes} {whole : Option Value} (l : Sought s w from e key whole k) where
+    pub sought-here : true ≡ sameBytes (textAt s a) key → Located s w from e whole (founds.At (k + 1))
+    unfolding FoundLeft
+    sought-here g = record { told = found-at (a-member (l .over) h a q ∙ find-this key (textAt s a) (valueAt s w (k + 1)) (membersAt s w (afterAt w (k + 1)) e) g) (value-node (l .over) h); within = λ left m. members-more s w (l .within left m) h .here }
 
-    pub sought-on : false ≡ sameBytes (textAt s a) key → (k′ : ℕ) → k′ ≡ afterAt w (k + 1) → Sought s w e key whole k′
-    sought-on g k′ p = on l h k′ p (a-member l h a q ∙ find-later key (textAt s a) (valueAt s w (k + 1)) (membersAt s w (afterAt w (k + 1)) e) g)
+    pub sought-on : false ≡ sameBytes (textAt s a) key → (k′ : ℕ) → k′ ≡ afterAt w (k + 1) → Sought s w from e key whole k′
+    sought-on g k′ p = record { over = on (l .over) h k′ p (a-member (l .over) h a q ∙ find-later key (textAt s a) (valueAt s w (k + 1)) (membersAt s w (afterAt w (k + 1)) e) g); within = λ left m. subst (λ (x : ℕ). AreMembers s w left x e) (sym p) (members-more s w (l .within left m) h .others) }
 
   module _ (names : List Bytes) {whole : Bool} (l : Knowing s w e names whole k) (r : Found) (p : position 0 (textAt s a) names ≡ placeOf r) where
     pub unknown-name : r ≡ founds.Nothing → false ≡ whole

@@ -58,8 +58,8 @@ module _ {A : Type 0} {s : Bytes} {w : List ℕ} {e : ℕ} {whole : A} {f : Memb
     pub falls : (k′ : ℕ) → k′ ≡ afterAt w (k + 1) → (k < k′) × (k′ ≤ e)
     falls k′ q = (omega (arith, more .past), omega (arith, more .upto))
 
-    pub on : {whole′ : A} → (k′ : ℕ) → k′ ≡ afterAt w (k + 1) → whole′ ≡ f (membersAt s w (afterAt w (k + 1)) e) → OverMembers s w e whole′ f k′
-    on {whole′} k′ p q = subst (OverMembers s w e whole′ f) (sym p) (record { members = more .others; rest = q })
+    pub on : {B : Type 0} {whole′ : B} {f′ : Members → B} (k′ : ℕ) → k′ ≡ afterAt w (k + 1) → whole′ ≡ f′ (membersAt s w (afterAt w (k + 1)) e) → OverMembers s w e whole′ f′ k′
+    on {whole′ = whole′} {f′ = f′} k′ p q = subst (OverMembers s w e whole′ f′) (sym p) (record { members = more .others; rest = q })
 
 -- ---- elements
 pub record OverNodes {A : Type 0} (s : Bytes) (w : List ℕ) (left e : ℕ) (whole : A) (f : Values → A) (k : ℕ) : Type 0 where
@@ -83,5 +83,5 @@ module _ {A : Type 0} {s : Bytes} {w : List ℕ} {left e : ℕ} {whole : A} {f :
     pub element-falls : (k′ : ℕ) → k′ ≡ afterAt w k → (k < k′) × (k′ ≤ e)
     element-falls k′ q = (omega (arith, further .past), omega (arith, further .upto))
 
-    pub element-on : {whole′ : A} → (k′ : ℕ) → k′ ≡ afterAt w k → whole′ ≡ f (valuesAt s w (afterAt w k) e) → OverNodes s w left e whole′ f k′
-    element-on {whole′} k′ p q = subst (OverNodes s w left e whole′ f) (sym p) (record { nodes = further .others; rest = q })
+    pub element-on : {B : Type 0} {whole′ : B} {f′ : Values → B} (k′ : ℕ) → k′ ≡ afterAt w k → whole′ ≡ f′ (valuesAt s w (afterAt w k) e) → OverNodes s w left e whole′ f′ k′
+    element-on {whole′ = whole′} {f′ = f′} k′ p q = subst (OverNodes s w left e whole′ f′) (sym p) (record { nodes = further .others; rest = q })

@@ -1,7 +1,7 @@
 -- Kleene's strong truth tables. Assumes nothing.
 use mathlib.Core.Bool.{Bool, false, true}
 use mathlib.Core.List.{List, [], _∷_}
-use mathlib.Core.Option.{none, some}
+use mathlib.Core.Option.{Option, none, some}
 use lib.Dec.{eqb}
 use lib.ListN.{length}
 use Rattle.reader.specs.Bytes.{Bytes, ascii, find}
@@ -91,6 +91,22 @@ quantifier m ps =
             ok (quantified m (over .0) name c))
     ]
 
+-- The condition that an operator makes of what its member holds, which stands here with what it is as a condition, as an array of them and as a quantifier's members.
+abbrev pub formed : Value → Result Condition → Result Conditions → Result (List (Bytes × (Value × Result Condition))) → Option Operator → Result Condition
+formed v one several parts none = refused wrongShape
+formed v one several parts (some (opJunction m)) = do
+  cs ← several
+  ok (junction m cs)
+formed v one several parts (some opNegation) = do
+  c ← one
+  ok (negation c)
+formed v one several parts (some opExists) = ok (exists v)
+formed v one several parts (some (opPair f)) = twoOf f v
+formed v one several parts (some (opQuantified m)) = do
+  ps ← parts
+  quantifier m ps
+formed v one several parts (some opNotCarried) = refused notCarried
+
 -- A value as a condition, or the fault of the condition at fault that begins first: a condition's own fault comes before those inside.
 unfoldable mutual
   unfolding find quantifier
@@ -105,40 +121,7 @@ unfoldable mutual
 
   pub oneMember : Members → Result Condition
   oneMember empty = refused wrongShape
-  oneMember (member k v ms) =
-      elim
-      ms [
-        | member l w more ↦
-            refused wrongShape
-        | empty ↦
-            elim
-            (find k operators) [
-              | none ↦
-                  refused wrongShape
-              | some op ↦
-                  elim
-                  op [
-                    | opJunction m ↦
-                        (do
-                          cs ← conditionArray v
-                          ok (junction m cs))
-                    | opNegation ↦
-                        (do
-                          c ← condition v
-                          ok (negation c))
-                    | opExists ↦
-                        ok (exists v)
-                    | opPair f ↦
-                        twoOf f v
-                    | opQuantified m ↦
-                        (do
-                          ps ← conditionObject v
-                          quantifier m ps)
-                    | opNotCarried ↦
-                        refused notCarried
-                  ]
-            ]
-      ]
+  oneMember (member k v ms) = elim ms [ member l w more ↦ refused wrongShape | empty ↦ formed v (condition v) (conditionArray v) (conditionObject v) (find k operators) ]
 
   pub conditionArray : Value → Result Conditions
   conditionArray null = refused wrongShape

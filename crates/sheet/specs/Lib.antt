@@ -1,5 +1,6 @@
 pub mod Answers
 pub mod Condition
+pub mod Faults
 pub mod Kinds
 pub mod Named
 pub mod Outcome

@@ -1,4 +1,5 @@
 // The sheet's shape: the refusals 9, 10 and 11, over the reader's table. The definitions stand in specs/, the laws in proofs/.
+pub mod condition;
 pub mod kinds;
 pub mod member;
 pub mod node;

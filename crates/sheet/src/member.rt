@@ -1,11 +1,11 @@
 // Members of an object, by name.
 use reader::rows::Found;
 ghost use mathlib.Core.Path.{_≡_};
-ghost use Rattle.reader.specs.Answers.{FoundTold};
 ghost use Rattle.reader.specs.Bytes.{find};
 ghost use Rattle.reader.specs.Held.{AreMembers};
 ghost use Rattle.reader.specs.Json.{entries, keys};
 ghost use Rattle.reader.specs.Table.{membersAt};
+ghost use Rattle.sheet.specs.Answers.{Located};
 ghost use Rattle.sheet.specs.Kinds.{only};
 ghost use Rattle.sheet.specs.Verdicts.{isOk};
 ghost use Rattle.sheet.specs.Words.{words};
@@ -13,7 +13,7 @@ ghost use Rattle.sheet.specs.Words.{words};
 // The value's node of the member, from `from` up to `end`, whose name is the word.
 pub fn named(s: &[u8], work: &[u32], from: usize, end: usize, word: &[u8]) -> Found
     requires { ⌜ AreMembers (now s) (now work) 64 from end ⌝ }
-    ensures { λ r. ⌜ FoundTold (now (s .entry)) (now (work .entry)) (find (now (word .entry)) (entries (membersAt (now (s .entry)) (now (work .entry)) from end))) r ⌝ }
+    ensures { λ r. ⌜ Located (now (s .entry)) (now (work .entry)) from end (find (now (word .entry)) (entries (membersAt (now (s .entry)) (now (work .entry)) from end))) r ⌝ }
 {
     let mut k = from;
     while k < end {

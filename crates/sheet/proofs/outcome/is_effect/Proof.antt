@@ -68,15 +68,15 @@ enum-known-n : tie.Need-enum-known-n
 enum-known-n c = search needs
 
 is-move-requires : tie.Need-is-move-requires
-is-move-requires c κs = found-node (c .before .n .given .0 .0) (c .before .n .given .1) (c .before .before .before .named .ensures .bounds)
+is-move-requires c κs = found-node (c .before .n .given .0 .0) (c .before .n .given .1) (c .before .before .before .named .ensures .told .bounds)
 
 returns-5 : tie.Need-returns-5
 unfolding split
-returns-5 c = effect-nowhere (c .before .before .before .before .before .before .before .before .before .before .before .before .before .pre) _ (c .before .before .before .before .before .before .before .before .before .before .kind-at .ensures) (c .before .before .before .before .before .before .before .before .if2 .left) _ (c .before .before .before .before .before .before .before .after-at .ensures) (sym (not-false _ (c .before .before .before .before .if3 .left)) ∙ c .before .before .before .before .before .only .ensures) _ (c .before .before .named .ensures .answers) (c .enum-told2 .given .1)
+returns-5 c = effect-nowhere (c .before .before .before .before .before .before .before .before .before .before .before .before .before .pre) _ (c .before .before .before .before .before .before .before .before .before .before .kind-at .ensures) (c .before .before .before .before .before .before .before .before .if2 .left) _ (c .before .before .before .before .before .before .before .after-at .ensures) (sym (not-false _ (c .before .before .before .before .if3 .left)) ∙ c .before .before .before .before .before .only .ensures) _ (c .before .before .named .ensures .told .answers) (c .enum-told2 .given .1)
 
 returns-6 : tie.Need-returns-6
 unfolding split
-returns-6 c = effect-moves (c .before .before .before .before .before .before .before .before .before .before .before .before .before .before .before .pre) _ (c .before .before .before .before .before .before .before .before .before .before .before .before .kind-at .ensures) (c .before .before .before .before .before .before .before .before .before .before .if2 .left) _ (c .before .before .before .before .before .before .before .before .before .after-at .ensures) (sym (not-false _ (c .before .before .before .before .before .before .if3 .left)) ∙ c .before .before .before .before .before .before .before .only .ensures) _ (c .before .before .before .before .named .ensures .answers) (c .before .before .n .given .0 .0) _ (c .before .before .n .given .1) (c .is-move .ensures)
+returns-6 c = effect-moves (c .before .before .before .before .before .before .before .before .before .before .before .before .before .before .before .pre) _ (c .before .before .before .before .before .before .before .before .before .before .before .before .kind-at .ensures) (c .before .before .before .before .before .before .before .before .before .before .if2 .left) _ (c .before .before .before .before .before .before .before .before .before .after-at .ensures) (sym (not-false _ (c .before .before .before .before .before .before .if3 .left)) ∙ c .before .before .before .before .before .before .before .only .ensures) _ (c .before .before .before .before .named .ensures .told .answers) (c .before .before .n .given .0 .0) _ (c .before .before .n .given .1) (c .is-move .ensures)
 
 pub is-effect-spec : {M : Type 1} → statement M
 is-effect-spec =

@@ -89,7 +89,7 @@ named-requires-14 : tie.Need-named-requires-14
 named-requires-14 c κs = c .before .before .before .before .before .before .before .before .before .before .before .before .before .before .before .before .before .before .before .before .before .before .before .before .before .before .before .before .before .pre
 
 returns : tie.Need-returns
-returns c = record { id = c .before .before .before .before .before .before .before .before .before .before .before .before .before .before .before .before .before .before .before .before .before .before .before .before .before .before .named .ensures; entity = c .before .before .before .before .before .before .before .before .before .before .before .before .before .before .before .before .before .before .before .before .before .before .before .before .named2 .ensures; version = c .before .before .before .before .before .before .before .before .before .before .before .before .before .before .before .before .before .before .before .before .before .before .named3 .ensures; args = c .before .before .before .before .before .before .before .before .before .before .before .before .before .before .before .before .before .before .before .before .named4 .ensures; fields = c .before .before .before .before .before .before .before .before .before .before .before .before .before .before .before .before .before .before .named5 .ensures; oldFields = c .before .before .before .before .before .before .before .before .before .before .before .before .before .before .before .before .named6 .ensures; fromState = c .before .before .before .before .before .before .before .before .before .before .before .before .before .before .named7 .ensures; toState = c .before .before .before .before .before .before .before .before .before .before .before .before .named8 .ensures; state = c .before .before .before .before .before .before .before .before .before .before .named9 .ensures; states = c .before .before .before .before .before .before .before .before .named10 .ensures; condition = c .before .before .before .before .before .before .named11 .ensures; preconditions = c .before .before .before .before .named12 .ensures; invariants = c .before .before .named13 .ensures; outcomes = c .named14 .ensures }
+returns c = record { id = c .before .before .before .before .before .before .before .before .before .before .before .before .before .before .before .before .before .before .before .before .before .before .before .before .before .before .named .ensures .told; entity = c .before .before .before .before .before .before .before .before .before .before .before .before .before .before .before .before .before .before .before .before .before .before .before .before .named2 .ensures .told; version = c .before .before .before .before .before .before .before .before .before .before .before .before .before .before .before .before .before .before .before .before .before .before .named3 .ensures .told; args = c .before .before .before .before .before .before .before .before .before .before .before .before .before .before .before .before .before .before .before .before .named4 .ensures .told; fields = c .before .before .before .before .before .before .before .before .before .before .before .before .before .before .before .before .before .before .named5 .ensures .told; oldFields = c .before .before .before .before .before .before .before .before .before .before .before .before .before .before .before .before .named6 .ensures .told; fromState = c .before .before .before .before .before .before .before .before .before .before .before .before .before .before .named7 .ensures .told; toState = c .before .before .before .before .before .before .before .before .before .before .before .before .named8 .ensures .told; state = c .before .before .before .before .before .before .before .before .before .before .named9 .ensures .told; states = c .before .before .before .before .before .before .before .before .named10 .ensures .told; condition = c .before .before .before .before .before .before .named11 .ensures .told; preconditions = c .before .before .before .before .named12 .ensures .told; invariants = c .before .before .named13 .ensures .told; outcomes = c .named14 .ensures .told }
 
 pub members-spec : {M : Type 1} → statement M
 members-spec =
