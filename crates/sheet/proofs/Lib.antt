@@ -12,3 +12,4 @@ pub mod Verdicts
 pub mod Walks
 pub mod Wanted
 pub mod Words
+pub mod Soundness

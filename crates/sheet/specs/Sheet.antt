@@ -111,17 +111,16 @@ holders =
     (ascii "outcomes", eachUnder (ascii "when")) ∷
     []
 
+-- the conditions that a member of the sheet holds
+abbrev pub heldBy : Option Holds → Value → List Value
+heldBy none v = []
+heldBy (some itself) v = v ∷ []
+heldBy (some (eachUnder k)) v = inArray k v
+
 unfoldable pub written : List (Bytes × Value) → List Value
 unfolding find memberOfEach
 written [] = []
-written (e ∷ es) =
-    elim
-    (find (e .0) holders) [
-      | none ↦
-          written es
-      | some h ↦
-          elim h [ itself ↦ e .1 ∷ written es | eachUnder k ↦ inArray k (e .1) ++ written es ]
-    ]
+written (e ∷ es) = heldBy (find (e .0) holders) (e .1) ++ written es
 
 unfoldable pub sound : List Value → Result Bool
 unfolding condition
@@ -130,12 +129,18 @@ sound (v ∷ vs) = do
   _ ← condition v
   sound vs
 
--- A sheet's text: 2 to 8, then 9, then 10 and 11. What is kept is the sheet of the sorted tree.
-unfoldable pub readSheet : Bytes → Result (Sheet Condition)
-unfolding json aSheet written sound condition sorted
-readSheet s = do
-  v ← json s
+-- A tree as a sheet: 9, then 10 and 11. What is kept is the sheet of the sorted tree.
+unfoldable pub checked : Value → Result (Sheet Condition)
+unfolding aSheet written sound condition sorted
+checked v = do
   _ ← aSheet notNull v
   ms ← anObject v
   _ ← sound (written (entries ms))
   aSheet condition (sorted v)
+
+-- A sheet's text: 2 to 8, then as a sheet.
+unfoldable pub readSheet : Bytes → Result (Sheet Condition)
+unfolding json checked
+readSheet s = do
+  v ← json s
+  checked v

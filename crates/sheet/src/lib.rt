@@ -7,3 +7,4 @@ pub mod outcome;
 pub mod rule;
 pub mod sheet;
 pub mod word;
+pub mod written;
