@@ -4,6 +4,7 @@ pub mod Digits
 pub mod Elements
 pub mod Faults
 pub mod Names
+pub mod Nine
 pub mod Operators
 pub mod Rules
 pub mod Shapes
@@ -12,4 +13,6 @@ pub mod Verdicts
 pub mod Walks
 pub mod Wanted
 pub mod Words
+pub mod SortedConditions
+pub mod SortedMembers
 pub mod Soundness
