@@ -14,5 +14,7 @@ pub mod Walks
 pub mod Wanted
 pub mod Words
 pub mod SortedConditions
+pub mod SortedKinds
 pub mod SortedMembers
+pub mod SortedSheet
 pub mod Soundness

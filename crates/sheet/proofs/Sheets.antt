@@ -62,7 +62,7 @@ module _ {s : Bytes} {w : List ℕ} {n : ℕ} (h : IsNode s w 64 n) (k : ℕ) (p
 
 -- ---- the sheet
 module _ (ms : Members) where
-  sheet-parts : isOk (aSheet notNull (object ms)) ≡ (isOk (only sheetNames (keys ms)) && (isOk (optional aText (ascii "id") ms) && (isOk (required aText (ascii "entity") ms) && (isOk (required aVersion (ascii "version") ms) && (isOk (required anObject (ascii "args") ms) && (isOk (required anObject (ascii "fields") ms) && (isOk (required anObject (ascii "old_fields") ms) && (isOk (optional aText (ascii "from_state") ms) && (isOk (required aText (ascii "to_state") ms) && (isOk (optional aText (ascii "state") ms) && (isOk (required (anArrayOf aText) (ascii "states") ms) && (isOk (optional notNull (ascii "condition") ms) && (isOk (required (anArrayOf (aRule notNull)) (ascii "preconditions") ms) && (isOk (required (anArrayOf (aRule notNull)) (ascii "invariants") ms) && isOk (required (anArrayOf (anOutcome notNull)) (ascii "outcomes") ms)))))))))))))))
+  pub sheet-parts : isOk (aSheet notNull (object ms)) ≡ (isOk (only sheetNames (keys ms)) && (isOk (optional aText (ascii "id") ms) && (isOk (required aText (ascii "entity") ms) && (isOk (required aVersion (ascii "version") ms) && (isOk (required anObject (ascii "args") ms) && (isOk (required anObject (ascii "fields") ms) && (isOk (required anObject (ascii "old_fields") ms) && (isOk (optional aText (ascii "from_state") ms) && (isOk (required aText (ascii "to_state") ms) && (isOk (optional aText (ascii "state") ms) && (isOk (required (anArrayOf aText) (ascii "states") ms) && (isOk (optional notNull (ascii "condition") ms) && (isOk (required (anArrayOf (aRule notNull)) (ascii "preconditions") ms) && (isOk (required (anArrayOf (aRule notNull)) (ascii "invariants") ms) && isOk (required (anArrayOf (anOutcome notNull)) (ascii "outcomes") ms)))))))))))))))
   unfolding aSheet
   sheet-parts = ok-bind (only sheetNames (keys ms)) _ _ (λ _. ok-bind (optional aText (ascii "id") ms) _ _ (λ x0. ok-bind (required aText (ascii "entity") ms) _ _ (λ x1. ok-bind (required aVersion (ascii "version") ms) _ _ (λ x2. ok-bind (required anObject (ascii "args") ms) _ _ (λ x3. ok-bind (required anObject (ascii "fields") ms) _ _ (λ x4. ok-bind (required anObject (ascii "old_fields") ms) _ _ (λ x5. ok-bind (optional aText (ascii "from_state") ms) _ _ (λ x6. ok-bind (required aText (ascii "to_state") ms) _ _ (λ x7. ok-bind (optional aText (ascii "state") ms) _ _ (λ x8. ok-bind (required (anArrayOf aText) (ascii "states") ms) _ _ (λ x9. ok-bind (optional notNull (ascii "condition") ms) _ _ (λ x10. ok-bind (required (anArrayOf (aRule notNull)) (ascii "preconditions") ms) _ _ (λ x11. ok-bind (required (anArrayOf (aRule notNull)) (ascii "invariants") ms) _ _ (λ x12. ok-last (required (anArrayOf (anOutcome notNull)) (ascii "outcomes") ms) _))))))))))))))
 

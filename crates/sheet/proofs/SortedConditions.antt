@@ -28,7 +28,7 @@ first-none none p e = (refl, e)
 first-none (some r) p e = never r e
 
 -- what is no text, array or object is as it was
-text-sorted : (v : Value) → asText (sorted v) ≡ asText v
+pub text-sorted : (v : Value) → asText (sorted v) ≡ asText v
 unfolding sorted
 text-sorted null = refl
 text-sorted (bool b) = refl

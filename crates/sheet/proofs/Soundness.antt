@@ -35,7 +35,7 @@ pub sound-none : soundness [] ≡ none
 unfolding sound
 sound-none = refl
 
-sound-append : (xs ys : List Value) → soundness (xs ++ ys) ≡ firstOf (soundness xs) (soundness ys)
+pub sound-append : (xs ys : List Value) → soundness (xs ++ ys) ≡ firstOf (soundness xs) (soundness ys)
 unfolding sound
 sound-append [] ys = refl
 sound-append (v ∷ xs) ys = go (condition v) (sound-append xs ys)
@@ -62,11 +62,11 @@ no-member-of key (text s) h = refl
 no-member-of key (array vs) h = refl
 no-member-of key (object ms) h = absurd (h refl)
 
-abbrev oneOf : Option Value → List Value
+abbrev pub oneOf : Option Value → List Value
 oneOf none = []
 oneOf (some v) = v ∷ []
 
-member-of : (key : Bytes) (ms : Members) → memberOf key (object ms) ≡ oneOf (find key (entries ms))
+pub member-of : (key : Bytes) (ms : Members) → memberOf key (object ms) ≡ oneOf (find key (entries ms))
 member-of key ms = go (find key (entries ms))
   where
     go : (o : Option Value) → elim o [ none ↦ [] | some w ↦ w ∷ [] ] ≡ oneOf o
