@@ -1,0 +1,33 @@
+// Texts of the sheet in quotes, decoded and escaped again as they are laid.
+use crate::lay::byte;
+use crate::lay::quoted_byte;
+use reader::text::Cursor;
+use reader::text::Step;
+ghost use Rattle.reader.specs.Cursor.{OnText};
+ghost use Rattle.reader.specs.Spans.{textAt};
+ghost use Rattle.line.specs.Laid.{Laid, Room};
+ghost use Rattle.line.specs.Line.{quoted};
+
+// The text that starts at `text`.
+pub fn quoted(out: &mut [u8], limit: usize, at: usize, s: &[u8], text: usize) -> usize
+    requires { ⌜ Room limit (now out) at × OnText (now s) text 0 ⌝ }
+    ensures { λ r. ⌜ Laid limit (now (out .entry)) at (quoted (textAt (now (s .entry)) text)) (now (out .exit)) r ⌝ }
+{
+    let mut here = byte(out, limit, at, b'"');
+    let mut c = Cursor {
+        at: text,
+        unit: 0,
+        left: 0,
+    };
+    loop {
+        match reader::text::next(s, c) {
+            Step::End => {
+                return byte(out, limit, here, b'"');
+            }
+            Step::Byte(t) => {
+                here = quoted_byte(out, limit, here, t.byte);
+                c = t.rest;
+            }
+        }
+    }
+}
