@@ -1,2 +1,3 @@
 pub mod Laying
 pub mod Digits
+pub mod Quotes
