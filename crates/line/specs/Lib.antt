@@ -1,3 +1,5 @@
 pub mod Verdict
 pub mod Line
 pub mod Laid
+pub mod Least
+pub mod Texts

@@ -1,3 +1,4 @@
 // The line of an answer or a refusal. The definitions stand in specs/, the laws in proofs/.
 pub mod lay;
+pub mod names;
 pub mod quote;

@@ -3,10 +3,17 @@ use crate::lay::byte;
 use crate::lay::quoted_byte;
 use reader::text::Cursor;
 use reader::text::Step;
+ghost use mathlib.Core.List.{_∷_};
 ghost use Rattle.reader.specs.Cursor.{OnText};
 ghost use Rattle.reader.specs.Spans.{textAt};
 ghost use Rattle.line.specs.Laid.{Laid, Room};
 ghost use Rattle.line.specs.Line.{quoted};
+
+// A text by its place, or none.
+pub enum Text {
+    Missing,
+    At(usize),
+}
 
 // The text that starts at `text`.
 pub fn quoted(out: &mut [u8], limit: usize, at: usize, s: &[u8], text: usize) -> usize
@@ -30,4 +37,13 @@ pub fn quoted(out: &mut [u8], limit: usize, at: usize, s: &[u8], text: usize) ->
             }
         }
     }
+}
+
+// An element of a list: a space, and a text in quotes.
+pub fn element(out: &mut [u8], limit: usize, at: usize, s: &[u8], text: usize) -> usize
+    requires { ⌜ Room limit (now out) at × OnText (now s) text 0 ⌝ }
+    ensures { λ r. ⌜ Laid limit (now (out .entry)) at (32 ∷ quoted (textAt (now (s .entry)) text)) (now (out .exit)) r ⌝ }
+{
+    let here = byte(out, limit, at, b' ');
+    quoted(out, limit, here, s, text)
 }

@@ -1,0 +1,41 @@
+-- Texts of the sheet by their places, and what the marks must be for the names to be read from them.
+-- Assumes nothing.
+use mathlib.Core.Bool.{Bool, cond, true}
+use mathlib.Core.List.{List}
+use mathlib.Core.Option.{Option, none, some}
+use mathlib.Core.Path.{_≡_}
+use Prim.Native.Nat.{ℕ, _<_, _≤_}
+use lib.ListN.{length}
+use Rattle.line.specs.Least.{nearer}
+use Rattle.reader.specs.Bytes.{Bytes}
+use Rattle.reader.specs.Cursor.{OnText}
+use Rattle.reader.specs.Limits.{maxNodes}
+use Rattle.reader.specs.Marks.{isMarked}
+use Rattle.reader.specs.Spans.{textAt}
+use Rattle.reader.specs.Table.{startAt}
+use Rattle.line.specs.declared.quote.Text.{Text}
+use Rattle.line.specs.declared.quote.Text.the-variants as texts
+
+-- a text that may be missing
+unfoldable pub textOf : Bytes → Text → Option Bytes
+unfolding textAt
+textOf s texts.Missing = none
+textOf s (texts.At p) = some (textAt s p)
+
+unfoldable pub IsText : Bytes → Text → Type 0
+IsText s texts.Missing = Unit {0}
+IsText s (texts.At p) = OnText s p 0
+
+-- an answer that is a text
+pub record TextTold (s : Bytes) (whole : Option Bytes) (r : Text) : Type 0 where
+  pub is : textOf s r ≡ whole
+  pub isText : IsText s r
+
+-- every marked node is a text
+pub record NamesHeld (s : Bytes) (w : List ℕ) : Type 0 where
+  pub size : 16384 ≤ length w
+  pub texts : (k : ℕ) → k < maxNodes → isMarked w k ≡ true → OnText s (startAt w k) 0
+
+-- the best so far, once a node has been seen
+abbrev pub seen : Bytes → List ℕ → Option Bytes → ℕ → Option Bytes → Option Bytes
+seen s w last k best = cond (isMarked w k) (nearer last (textAt s (startAt w k)) best) best
