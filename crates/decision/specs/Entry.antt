@@ -2,34 +2,20 @@
 -- Assumes nothing.
 use mathlib.Core.Bool.{Bool, false, true}
 use mathlib.Core.List.{List, _++_}
-use mathlib.Core.Option.{Option, none, some}
 use Prim.Native.Nat.{ℕ}
 use lib.Dec.{leb}
 use lib.ListN.{drop, length, replicate}
 use Rattle.decision.specs.Decide.{admitCall, decideCall, evaluateCall, invariantsCall, preconditionsCall, selectCall}
-use Rattle.line.specs.Line.{refusalLine, refusalNumber, verdictLine}
+pub use Rattle.line.specs.Reply.{Reply, fitted, outputAfter}
+unfoldable pub use Rattle.line.specs.Reply.{reply}
 use Rattle.line.specs.Verdict.{Verdict}
 use Rattle.reader.specs.Bytes.{Bytes}
-use Rattle.reader.specs.Refusal.{Result, lineTooLong, ok, refused, workTooSmall, _>>=_}
+use Rattle.reader.specs.Refusal.{Result, ok, refused, workTooSmall, _>>=_}
 use Rattle.sheet.specs.Condition.{Condition}
 use Rattle.sheet.specs.Sheet.{Sheet, readSheet}
 
 abbrev pub workWords : ℕ
 workWords = 16384
-
-pub record Reply : Type 0 where
-  pub number : ℕ
-  pub line : Option Bytes
-
--- a number with its line, or 23 where the line is longer than the output
-abbrev pub fitted : ℕ → ℕ → Option Bytes → Reply
-fitted output n none = record { number = n; line = none }
-fitted output n (some line) = elim (leb (length line) output) [ true ↦ record { number = n; line = some line } | false ↦ record { number = refusalNumber lineTooLong; line = none } ]
-
-unfoldable pub reply : ℕ → Result Verdict → Reply
-unfolding refusalNumber verdictLine refusalLine
-reply output (ok v) = fitted output 0 (some (verdictLine v))
-reply output (refused r) = fitted output (refusalNumber r) (refusalLine r)
 
 unfoldable pub enough : ℕ → Result Bool
 enough work = elim (leb workWords work) [ true ↦ ok true | false ↦ refused workTooSmall ]
@@ -68,9 +54,6 @@ unfoldable pub decide : Bytes → ℕ → ℕ → Reply
 unfolding call decideCall
 decide s work output = call decideCall s work output
 
--- what a call leaves in the output, and in the work table
-abbrev pub outputAfter : Reply → Bytes → Bytes
-outputAfter r out = elim (r .line) [ none ↦ out | some line ↦ line ++ drop (length line) out ]
-
+-- what a call leaves in the work table
 abbrev pub workAfter : List ℕ → List ℕ
 workAfter work = elim (leb workWords (length work)) [ false ↦ work | true ↦ replicate workWords 0 ++ drop workWords work ]

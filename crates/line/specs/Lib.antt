@@ -1,5 +1,6 @@
 pub mod Verdict
 pub mod Line
+pub mod Reply
 pub mod Laid
 pub mod Least
 pub mod Texts

@@ -1,4 +1,4 @@
--- The line of an answer or a refusal, and the refusal's number.
+-- The line of an answer or a refusal, and the refusal's number: one bracketed form and LF.
 -- Assumes nothing.
 use mathlib.Core.Bool.{false, true}
 use mathlib.Core.List.{List, [], _++_, _∷_}
@@ -11,13 +11,14 @@ use Rattle.evaluation.specs.Truth.{False, True, Truth, Unknown}
 use Rattle.reader.specs.Bytes.{Bytes, ascii, choose}
 use Rattle.reader.specs.Refusal.{Refusal, Rules, guardUnknown, invariants, lineTooLong, noId, noInput, noOutcome, notASource, notCarried, notJson, notUtf8, numberTooLong, preconditions, repeatedName, ruleFalse, ruleUnknown, tooDeep, tooLong, tooManyNodes, unknownExpression, workTooSmall, wrongShape, wrongSheet, wrongState}
 
-abbrev pub falseNumber : Rules → ℕ
-falseNumber preconditions = 15
-falseNumber invariants = 17
+-- the numbers of a rule that is False, and of one that is Unknown
+abbrev pub falseOr : Rules → ℕ
+falseOr preconditions = 15
+falseOr invariants = 17
 
-abbrev pub unknownNumber : Rules → ℕ
-unknownNumber preconditions = 16
-unknownNumber invariants = 18
+abbrev pub unknownOr : Rules → ℕ
+unknownOr preconditions = 16
+unknownOr invariants = 18
 
 unfoldable pub refusalNumber : Refusal → ℕ
 refusalNumber workTooSmall = 1
@@ -34,8 +35,8 @@ refusalNumber notCarried = 11
 refusalNumber noInput = 12
 refusalNumber (unknownExpression e) = 13
 refusalNumber noId = 14
-refusalNumber (ruleFalse k i n m) = falseNumber k
-refusalNumber (ruleUnknown k i n m ns) = unknownNumber k
+refusalNumber (ruleFalse k i n m) = falseOr k
+refusalNumber (ruleUnknown k i n m ns) = unknownOr k
 refusalNumber noOutcome = 19
 refusalNumber (guardUnknown i n ns) = 20
 refusalNumber (wrongState s) = 21
@@ -50,6 +51,7 @@ digitsOf (suc f) n s = elim (ltb n 10) [ true ↦ (48 + n) ∷ s | false ↦ dig
 abbrev pub decimalDigits : ℕ → Bytes
 decimalDigits n = digitsOf 20 n []
 
+-- a text in quotes: `"` and `\` get a backslash, bytes below 32 are written in lower-case hexadecimal
 abbrev pub hexOf : ℕ → ℕ
 hexOf n = choose ((ltb n 10, 48 + n) ∷ []) (87 + n)
 
@@ -83,6 +85,7 @@ unfolding quotedBytes
 eachQuoted [] = []
 eachQuoted (t ∷ ts) = quoted t ∷ eachQuoted ts
 
+-- a word and texts in quotes, in the order given; the word alone where there is none
 abbrev pub listed : Bytes → List Bytes → Bytes
 listed w ts = form (w ∷ eachQuoted ts)
 
@@ -91,6 +94,7 @@ truthWord True = ascii "true"
 truthWord False = ascii "false"
 truthWord Unknown = ascii "unknown"
 
+-- a rule's name and message, which may be missing
 abbrev pub nameOr : Option Bytes → Bytes
 nameOr none = ascii "()"
 nameOr (some n) = quoted n
@@ -102,39 +106,53 @@ messageOr d (some m) = quoted m
 abbrev pub names : Names → Bytes
 names ns = listed (ascii "names") ns
 
+-- an answer's form, and its line
+unfoldable pub verdictForm : Verdict → Bytes
+unfolding digitsOf spaced eachQuoted quotedBytes
+verdictForm (answered t ns) = form (ascii "truth" ∷ truthWord t ∷ names ns ∷ [])
+verdictForm passed = form (ascii "passed" ∷ [])
+verdictForm (selected i n) = form (ascii "selected" ∷ decimalDigits i ∷ quoted n ∷ [])
+verdictForm (admitted i n) = form (ascii "admitted" ∷ decimalDigits i ∷ quoted n ∷ [])
+
 abbrev pub endLine : Bytes → Bytes
 endLine s = s ++ (10 ∷ [])
 
 unfoldable pub verdictLine : Verdict → Bytes
-unfolding digitsOf spaced eachQuoted quotedBytes
-verdictLine (answered t ns) = endLine (form (ascii "truth" ∷ truthWord t ∷ names ns ∷ []))
-verdictLine passed = endLine (ascii "(passed)")
-verdictLine (selected i n) = endLine (form (ascii "selected" ∷ decimalDigits i ∷ quoted n ∷ []))
-verdictLine (admitted i n) = endLine (form (ascii "admitted" ∷ decimalDigits i ∷ quoted n ∷ []))
+unfolding verdictForm
+verdictLine v = endLine (verdictForm v)
 
+-- a refusal's form, and its line: 13 to 22 have one
 abbrev pub refusedForm : ℕ → List Bytes → Bytes
-refusedForm n ws = endLine (form (ascii "refused" ∷ decimalDigits n ∷ ws))
+refusedForm n ws = form (ascii "refused" ∷ decimalDigits n ∷ ws)
+
+unfoldable pub refusalForm : Refusal → Option Bytes
+unfolding digitsOf spaced eachQuoted quotedBytes
+refusalForm workTooSmall = none
+refusalForm tooLong = none
+refusalForm notUtf8 = none
+refusalForm notJson = none
+refusalForm tooDeep = none
+refusalForm numberTooLong = none
+refusalForm tooManyNodes = none
+refusalForm repeatedName = none
+refusalForm wrongSheet = none
+refusalForm wrongShape = none
+refusalForm notCarried = none
+refusalForm noInput = none
+refusalForm (unknownExpression e) = some (refusedForm 13 (quoted e ∷ []))
+refusalForm noId = some (refusedForm 14 (quoted (ascii "$id") ∷ []))
+refusalForm (ruleFalse k i n m) = some (refusedForm (falseOr k) (decimalDigits i ∷ nameOr n ∷ messageOr (ascii "condition evaluated to false") m ∷ []))
+refusalForm (ruleUnknown k i n m ns) = some (refusedForm (unknownOr k) (decimalDigits i ∷ nameOr n ∷ messageOr (ascii "condition could not be evaluated") m ∷ names ns ∷ []))
+refusalForm noOutcome = some (refusedForm 19 [])
+refusalForm (guardUnknown i n ns) = some (refusedForm 20 (decimalDigits i ∷ quoted n ∷ names ns ∷ []))
+refusalForm (wrongState s) = some (refusedForm 21 (quoted s ∷ []))
+refusalForm (notASource i n s from) = some (refusedForm 22 (decimalDigits i ∷ quoted n ∷ quoted s ∷ listed (ascii "from") from ∷ []))
+refusalForm lineTooLong = none
+
+abbrev pub eachLine : Option Bytes → Option Bytes
+eachLine none = none
+eachLine (some f) = some (endLine f)
 
 unfoldable pub refusalLine : Refusal → Option Bytes
-unfolding digitsOf spaced eachQuoted quotedBytes
-refusalLine workTooSmall = none
-refusalLine tooLong = none
-refusalLine notUtf8 = none
-refusalLine notJson = none
-refusalLine tooDeep = none
-refusalLine numberTooLong = none
-refusalLine tooManyNodes = none
-refusalLine repeatedName = none
-refusalLine wrongSheet = none
-refusalLine wrongShape = none
-refusalLine notCarried = none
-refusalLine noInput = none
-refusalLine (unknownExpression e) = some (refusedForm 13 (quoted e ∷ []))
-refusalLine noId = some (refusedForm 14 (quoted (ascii "$id") ∷ []))
-refusalLine (ruleFalse k i n m) = some (refusedForm (falseNumber k) (decimalDigits i ∷ nameOr n ∷ messageOr (ascii "condition evaluated to false") m ∷ []))
-refusalLine (ruleUnknown k i n m ns) = some (refusedForm (unknownNumber k) (decimalDigits i ∷ nameOr n ∷ messageOr (ascii "condition could not be evaluated") m ∷ names ns ∷ []))
-refusalLine noOutcome = some (refusedForm 19 [])
-refusalLine (guardUnknown i n ns) = some (refusedForm 20 (decimalDigits i ∷ quoted n ∷ names ns ∷ []))
-refusalLine (wrongState s) = some (refusedForm 21 (quoted s ∷ []))
-refusalLine (notASource i n s from) = some (refusedForm 22 (decimalDigits i ∷ quoted n ∷ quoted s ∷ listed (ascii "from") from ∷ []))
-refusalLine lineTooLong = none
+unfolding refusalForm
+refusalLine r = eachLine (refusalForm r)
