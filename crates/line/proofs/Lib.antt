@@ -5,3 +5,4 @@ pub mod Lists
 pub mod Least
 pub mod InTurn
 pub mod Naming
+pub mod Sourcing

@@ -21,3 +21,7 @@ listed-is w ts = sym (rw (spaced-is w ts, append-assoc))
 pub elements-more : (t : Bytes) (ts : List Bytes) → elements (t ∷ ts) ++ (41 ∷ []) ≡ (32 ∷ quoted t) ++ (elements ts ++ (41 ∷ []))
 unfolding elements
 elements-more t ts = rw append-assoc
+
+pub one-listed : (w t : Bytes) → (40 ∷ w) ++ ((32 ∷ quoted t) ++ (41 ∷ [])) ≡ listed w (t ∷ [])
+unfolding elements
+one-listed w t = ap (λ (l : Bytes). (40 ∷ w) ++ l) (sym (elements-more t [])) ∙ listed-is w (t ∷ [])

@@ -1,7 +1,7 @@
 -- Texts of the sheet by their places, and what the marks must be for the names to be read from them.
 -- Assumes nothing.
 use mathlib.Core.Bool.{Bool, cond, true}
-use mathlib.Core.List.{List}
+use mathlib.Core.List.{List, []}
 use mathlib.Core.Option.{Option, none, some}
 use mathlib.Core.Path.{_≡_}
 use Prim.Native.Nat.{ℕ, _<_, _≤_}
@@ -9,10 +9,14 @@ use lib.ListN.{length}
 use Rattle.line.specs.Least.{nearer}
 use Rattle.reader.specs.Bytes.{Bytes}
 use Rattle.reader.specs.Cursor.{OnText}
+use Rattle.reader.specs.Held.{HasNode}
+use Rattle.reader.specs.Json.{Value}
 use Rattle.reader.specs.Limits.{maxNodes}
 use Rattle.reader.specs.Marks.{isMarked}
+use Rattle.reader.specs.Refusal.{Result, ok, refused}
 use Rattle.reader.specs.Spans.{textAt}
-use Rattle.reader.specs.Table.{startAt}
+use Rattle.reader.specs.Table.{startAt, valueAt}
+use Rattle.sheet.specs.Kinds.{eachOf, someTexts}
 use Rattle.line.specs.declared.quote.Text.{Text}
 use Rattle.line.specs.declared.quote.Text.the-variants as texts
 
@@ -39,3 +43,18 @@ pub record NamesHeld (s : Bytes) (w : List ℕ) : Type 0 where
 -- the best so far, once a node has been seen
 abbrev pub seen : Bytes → List ℕ → Option Bytes → ℕ → Option Bytes → Option Bytes
 seen s w last k best = cond (isMarked w k) (nearer last (textAt s (startAt w k)) best) best
+
+-- the texts of a value that is a text or an array of texts, in written order
+abbrev pub orNone : Result (List Bytes) → List Bytes
+orNone (ok ts) = ts
+orNone (refused r) = []
+
+unfoldable pub textsIn : Value → List Bytes
+unfolding eachOf
+textsIn v = orNone (someTexts v)
+
+-- a node whose value is one
+pub record TextsHeld (s : Bytes) (w : List ℕ) (n : ℕ) : Type 0 where
+  pub hasNode : HasNode s w n
+  pub texts : List Bytes
+  pub are : someTexts (valueAt s w n) ≡ ok texts

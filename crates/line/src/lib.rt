@@ -2,3 +2,4 @@
 pub mod lay;
 pub mod names;
 pub mod quote;
+pub mod sources;
