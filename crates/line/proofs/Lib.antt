@@ -6,3 +6,4 @@ pub mod Least
 pub mod InTurn
 pub mod Naming
 pub mod Sourcing
+pub mod Forms

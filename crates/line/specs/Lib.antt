@@ -4,3 +4,4 @@ pub mod Reply
 pub mod Laid
 pub mod Least
 pub mod Texts
+pub mod Meaning

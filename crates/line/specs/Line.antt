@@ -71,14 +71,17 @@ quotedBytes (c ∷ s) = quotedByte c ++ quotedBytes s
 abbrev pub quoted : Bytes → Bytes
 quoted s = 34 ∷ quotedBytes s
 
--- bracketed forms: words and forms with one space between them
+-- bracketed forms: words and forms with one space between them; a form that is still open, and a whole one
 unfoldable pub spaced : List Bytes → Bytes
 spaced [] = []
 spaced (w ∷ []) = w
 spaced (w ∷ v ∷ ws) = w ++ (32 ∷ spaced (v ∷ ws))
 
+abbrev pub opened : List Bytes → Bytes
+opened ws = 40 ∷ spaced ws
+
 abbrev pub form : List Bytes → Bytes
-form ws = (40 ∷ spaced ws) ++ (41 ∷ [])
+form ws = opened ws ++ (41 ∷ [])
 
 unfoldable pub eachQuoted : List Bytes → List Bytes
 unfolding quotedBytes
@@ -94,14 +97,16 @@ truthWord True = ascii "true"
 truthWord False = ascii "false"
 truthWord Unknown = ascii "unknown"
 
--- a rule's name and message, which may be missing
+-- a text in quotes, or other bytes where it is missing: a rule's name and message
+abbrev pub quotedOr : Bytes → Option Bytes → Bytes
+quotedOr d none = d
+quotedOr d (some t) = quoted t
+
 abbrev pub nameOr : Option Bytes → Bytes
-nameOr none = ascii "()"
-nameOr (some n) = quoted n
+nameOr n = quotedOr (ascii "()") n
 
 abbrev pub messageOr : Bytes → Option Bytes → Bytes
-messageOr d none = quoted d
-messageOr d (some m) = quoted m
+messageOr d m = quotedOr (quoted d) m
 
 abbrev pub names : Names → Bytes
 names ns = listed (ascii "names") ns

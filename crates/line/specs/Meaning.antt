@@ -1,0 +1,74 @@
+-- What an answer of the code says of the sheet and the table: the verdict or refusal with its texts and names.
+-- Assumes nothing.
+use mathlib.Core.List.{List}
+use mathlib.Core.Option.{Option}
+use mathlib.Core.Path.{_≡_}
+use Prim.Native.Nat.{ℕ}
+use lib.ListN.{length}
+use Rattle.evaluation.specs.Names.{Names, ascending}
+use Rattle.evaluation.specs.Truth as truths
+use Rattle.line.specs.Line.{refusalForm, refusalNumber, verdictForm}
+use Rattle.line.specs.Reply.{Reply, outputAfter, reply}
+use Rattle.line.specs.Texts.{IsText, NamesHeld, TextsHeld, textOf, textsIn}
+use Rattle.line.specs.Verdict.{Verdict, admitted, answered, passed, selected}
+use Rattle.reader.specs.Bytes.{Bytes}
+use Rattle.reader.specs.Cursor.{OnText}
+use Rattle.reader.specs.Marks.{marked}
+use Rattle.reader.specs.Refusal as refusals
+use Rattle.reader.specs.Refusal.{Result, guardUnknown, noId, noInput, noOutcome, notASource, ok, refused, ruleFalse, ruleUnknown, unknownExpression, wrongState}
+use Rattle.reader.specs.Spans.{textAt}
+use Rattle.reader.specs.Table.{valueAt}
+use Rattle.line.specs.declared.answer.Answer.{Answer}
+use Rattle.line.specs.declared.answer.Answer.the-variants as answers
+use Rattle.line.specs.declared.answer.Outcome.{Outcome}
+use Rattle.line.specs.declared.answer.Rule.{Rule}
+use Rattle.line.specs.declared.answer.Rules.{Rules}
+use Rattle.line.specs.declared.answer.Rules.the-variants as rules
+
+-- the names, each once and ascending
+abbrev pub namesIn : Bytes → List ℕ → Names
+namesIn s w = ascending (marked s w)
+
+unfoldable pub rulesOf : Rules → refusals.Rules
+rulesOf rules.Preconditions = refusals.preconditions
+rulesOf rules.Invariants = refusals.invariants
+
+unfoldable pub meaning : Bytes → List ℕ → Answer → Result Verdict
+unfolding ascending marked textAt textOf textsIn rulesOf valueAt
+meaning s w answers.True = ok (answered truths.True (namesIn s w))
+meaning s w answers.False = ok (answered truths.False (namesIn s w))
+meaning s w answers.Unknown = ok (answered truths.Unknown (namesIn s w))
+meaning s w answers.Passed = ok passed
+meaning s w (answers.Selected o) = ok (selected (o .place) (textAt s (o .name)))
+meaning s w (answers.Admitted o) = ok (admitted (o .place) (textAt s (o .name)))
+meaning s w answers.NoInput = refused noInput
+meaning s w (answers.UnknownExpression e) = refused (unknownExpression (textAt s e))
+meaning s w answers.NoId = refused noId
+meaning s w (answers.RuleFalse r) = refused (ruleFalse (rulesOf (r .rules)) (r .place) (textOf s (r .name)) (textOf s (r .message)))
+meaning s w (answers.RuleUnknown r) = refused (ruleUnknown (rulesOf (r .rules)) (r .place) (textOf s (r .name)) (textOf s (r .message)) (namesIn s w))
+meaning s w answers.NoOutcome = refused noOutcome
+meaning s w (answers.GuardUnknown o) = refused (guardUnknown (o .place) (textAt s (o .name)) (namesIn s w))
+meaning s w (answers.WrongState e) = refused (wrongState (textAt s e))
+meaning s w (answers.NotASource m) = refused (notASource (m .outcome .place) (textAt s (m .outcome .name)) (textAt s (m .state)) (textsIn (valueAt s w (m .from))))
+
+-- where the texts of an answer stand
+pub record RuleHeld (s : Bytes) (r : Rule) : Type 0 where
+  pub name : IsText s (r .name)
+  pub message : IsText s (r .message)
+
+unfoldable pub Held : Bytes → List ℕ → Answer → Type 0
+Held s w answers.True = NamesHeld s w
+Held s w answers.False = NamesHeld s w
+Held s w answers.Unknown = NamesHeld s w
+Held s w answers.Passed = Unit {0}
+Held s w (answers.Selected o) = OnText s (o .name) 0
+Held s w (answers.Admitted o) = OnText s (o .name) 0
+Held s w answers.NoInput = Unit {0}
+Held s w (answers.UnknownExpression e) = OnText s e 0
+Held s w answers.NoId = Unit {0}
+Held s w (answers.RuleFalse r) = RuleHeld s r
+Held s w (answers.RuleUnknown r) = RuleHeld s r × NamesHeld s w
+Held s w answers.NoOutcome = Unit {0}
+Held s w (answers.GuardUnknown o) = OnText s (o .name) 0 × NamesHeld s w
+Held s w (answers.WrongState e) = OnText s e 0
+Held s w (answers.NotASource m) = OnText s (m .outcome .name) 0 × OnText s (m .state) 0 × TextsHeld s w (m .from)
