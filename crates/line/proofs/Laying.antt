@@ -20,7 +20,7 @@ sets-out [] o at h = refl
 sets-out (b ∷ bs) o at h = ap (λ (l : Bytes). sets l (suc at) bs) (set-out o at b h) ∙ sets-out bs o (suc at) (omega arith)
 
 -- one run after another
-sets-append : (x y o : Bytes) (at : ℕ) → sets o at (x ++ y) ≡ sets (sets o at x) (at + length x) y
+pub sets-append : (x y o : Bytes) (at : ℕ) → sets o at (x ++ y) ≡ sets (sets o at x) (at + length x) y
 sets-append [] y o at = rw add-zero
 sets-append (b ∷ x) y o at =
     let e : suc at + length x ≡ at + suc (length x) = omega arith in
@@ -73,3 +73,19 @@ told e l = rw e at l
 -- the first of what is left of a string
 pub next-byte : (bs : Bytes) (i : ℕ) → i < length bs → drop i bs ≡ (getD bs i 0 ∷ []) ++ drop (i + 1) bs
 next-byte bs i h = rw (add-one, drop-cons bs i 0)
+
+-- nothing to lay
+pub nothing : {limit at : ℕ} {o : Bytes} → Room limit o at → Laid limit o at [] o at
+nothing {at} r = record { bytes = refl; place = omega (arith, r .upto); room = r }
+
+-- over an empty part of an output nothing changes, and the place tells whether there is room
+module _ {limit : ℕ} {bs o₁ : Bytes} {p : ℕ} (l : Laid limit [] 0 bs o₁ p) where
+  pub measured : (o : Bytes) → o₁ ++ o ≡ o
+  measured o = ap (λ (x : Bytes). x ++ o) (l .bytes ∙ sets-out bs [] 0 (omega arith))
+
+  pub too-long : limit ≤ p → limit ≤ length bs
+  too-long h = omega (arith, l .place)
+
+  -- and what is laid next is the whole
+  pub written : (o : Bytes) {o₂ : Bytes} {q : ℕ} → p < limit → Laid limit (o₁ ++ o) 0 bs o₂ q → (length bs < limit) × (o₂ ≡ sets o 0 bs) × (q ≡ length bs)
+  written o h m = (omega (arith, l .place), rw (measured o) at (m .bytes), omega (arith, l .place, m .place))

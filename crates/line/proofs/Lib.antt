@@ -7,3 +7,4 @@ pub mod InTurn
 pub mod Naming
 pub mod Sourcing
 pub mod Forms
+pub mod Answers

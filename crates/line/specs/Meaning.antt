@@ -1,13 +1,11 @@
 -- What an answer of the code says of the sheet and the table: the verdict or refusal with its texts and names.
 -- Assumes nothing.
 use mathlib.Core.List.{List}
-use mathlib.Core.Option.{Option}
 use mathlib.Core.Path.{_≡_}
 use Prim.Native.Nat.{ℕ}
 use lib.ListN.{length}
 use Rattle.evaluation.specs.Names.{Names, ascending}
 use Rattle.evaluation.specs.Truth as truths
-use Rattle.line.specs.Line.{refusalForm, refusalNumber, verdictForm}
 use Rattle.line.specs.Reply.{Reply, outputAfter, reply}
 use Rattle.line.specs.Texts.{IsText, NamesHeld, TextsHeld, textOf, textsIn}
 use Rattle.line.specs.Verdict.{Verdict, admitted, answered, passed, selected}
@@ -34,7 +32,6 @@ rulesOf rules.Preconditions = refusals.preconditions
 rulesOf rules.Invariants = refusals.invariants
 
 unfoldable pub meaning : Bytes → List ℕ → Answer → Result Verdict
-unfolding ascending marked textAt textOf textsIn rulesOf valueAt
 meaning s w answers.True = ok (answered truths.True (namesIn s w))
 meaning s w answers.False = ok (answered truths.False (namesIn s w))
 meaning s w answers.Unknown = ok (answered truths.Unknown (namesIn s w))
@@ -72,3 +69,8 @@ Held s w answers.NoOutcome = Unit {0}
 Held s w (answers.GuardUnknown o) = OnText s (o .name) 0 × NamesHeld s w
 Held s w (answers.WrongState e) = OnText s e 0
 Held s w (answers.NotASource m) = OnText s (m .outcome .name) 0 × OnText s (m .state) 0 × TextsHeld s w (m .from)
+
+-- an answer given back: its number, and its line at the start of the output, or 23 and nothing changed
+pub record Emitted (s : Bytes) (w : List ℕ) (a : Answer) (o o′ : Bytes) (r : ℕ) : Type 0 where
+  pub number : r ≡ reply (length o) (meaning s w a) .number
+  pub output : o′ ≡ outputAfter (reply (length o) (meaning s w a)) o

@@ -1,15 +1,30 @@
 -- What a call gives back of its answer or refusal: a number, 0 where nothing is refused, and a line or none; and what stands in the output then.
 -- Assumes nothing.
 use mathlib.Core.Bool.{false, true}
-use mathlib.Core.List.{_++_}
+use mathlib.Core.List.{[], _++_}
 use mathlib.Core.Option.{Option, none, some}
 use Prim.Native.Nat.{ℕ}
 use lib.Dec.{leb}
 use lib.ListN.{drop, length}
-use Rattle.line.specs.Line.{refusalLine, refusalNumber, verdictLine}
+use Rattle.line.specs.Line.{refusalForm, refusalLine, refusalNumber, verdictForm, verdictLine}
 use Rattle.line.specs.Verdict.{Verdict}
 use Rattle.reader.specs.Bytes.{Bytes}
 use Rattle.reader.specs.Refusal.{Result, lineTooLong, ok, refused}
+
+-- the number and the form of an answer or a refusal
+unfoldable pub numberOf : Result Verdict → ℕ
+unfolding refusalNumber
+numberOf (ok v) = 0
+numberOf (refused r) = refusalNumber r
+
+unfoldable pub formOf : Result Verdict → Option Bytes
+unfolding verdictForm refusalForm
+formOf (ok v) = some (verdictForm v)
+formOf (refused r) = refusalForm r
+
+abbrev pub orEmpty : Option Bytes → Bytes
+orEmpty none = []
+orEmpty (some f) = f
 
 pub record Reply : Type 0 where
   pub number : ℕ

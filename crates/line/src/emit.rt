@@ -1,0 +1,91 @@
+// An answer's line, measured and then written by the same code: where it does not fit, the output is as it was.
+use crate::answer::Answer;
+use crate::form::false_number;
+use crate::form::guard_unknown;
+use crate::form::kept;
+use crate::form::not_a_source;
+use crate::form::refused_text;
+use crate::form::rule_false;
+use crate::form::rule_unknown;
+use crate::form::truth;
+use crate::form::unknown_number;
+use crate::lay::bytes;
+ghost use mathlib.Core.List.{List};
+ghost use mathlib.Core.Path.{_≡_};
+ghost use Prim.Native.Nat.{ℕ};
+ghost use Rattle.reader.specs.Bytes.{Bytes};
+ghost use Rattle.line.specs.Laid.{Laid, Room};
+ghost use Rattle.line.specs.Meaning.{Emitted, Held, meaning};
+ghost use Rattle.line.specs.Reply.{formOf, numberOf, orEmpty};
+
+// The form of an answer; nothing where it has none.
+fn form(out: &mut [u8], limit: usize, at: usize, s: &[u8], work: &[u32], a: Answer) -> usize
+    requires { ⌜ Room limit (now out) at × Held (now s) (now work) a ⌝ }
+    ensures { λ r. ⌜ Laid limit (now (out .entry)) at (orEmpty (formOf (meaning (now (s .entry)) (now (work .entry)) a))) (now (out .exit)) r ⌝ }
+{
+    match a {
+        Answer::True => truth(out, limit, at, s, work, b"true"),
+        Answer::False => truth(out, limit, at, s, work, b"false"),
+        Answer::Unknown => truth(out, limit, at, s, work, b"unknown"),
+        Answer::Passed => bytes(out, limit, at, b"(passed)"),
+        Answer::Selected(o) => kept(out, limit, at, s, b"selected", o),
+        Answer::Admitted(o) => kept(out, limit, at, s, b"admitted", o),
+        Answer::NoInput => at,
+        Answer::UnknownExpression(text) => refused_text(out, limit, at, s, 13, text),
+        Answer::NoId => bytes(out, limit, at, b"(refused 14 \"$id\")"),
+        Answer::RuleFalse(r) => rule_false(out, limit, at, s, r),
+        Answer::RuleUnknown(r) => rule_unknown(out, limit, at, s, work, r),
+        Answer::NoOutcome => bytes(out, limit, at, b"(refused 19)"),
+        Answer::GuardUnknown(o) => guard_unknown(out, limit, at, s, work, o),
+        Answer::WrongState(text) => refused_text(out, limit, at, s, 21, text),
+        Answer::NotASource(m) => not_a_source(out, limit, at, s, work, m),
+    }
+}
+
+// The number of an answer, 0 where nothing is refused.
+fn number(a: Answer) -> usize
+    ensures { λ r. ⌜ ((s : Bytes) (w : List ℕ) → r ≡ numberOf (meaning s w a)) ⌝ }
+{
+    match a {
+        Answer::True => 0,
+        Answer::False => 0,
+        Answer::Unknown => 0,
+        Answer::Passed => 0,
+        Answer::Selected(_) => 0,
+        Answer::Admitted(_) => 0,
+        Answer::NoInput => 12,
+        Answer::UnknownExpression(_) => 13,
+        Answer::NoId => 14,
+        Answer::RuleFalse(r) => {
+            let rules = r.rules;
+            false_number(rules)
+        }
+        Answer::RuleUnknown(r) => {
+            let rules = r.rules;
+            unknown_number(rules)
+        }
+        Answer::NoOutcome => 19,
+        Answer::GuardUnknown(_) => 20,
+        Answer::WrongState(_) => 21,
+        Answer::NotASource(_) => 22,
+    }
+}
+
+// The number of an answer, and its line at the start of the output, or 23.
+pub fn emit(s: &[u8], work: &[u32], out: &mut [u8], a: Answer) -> usize
+    requires { ⌜ Held (now s) (now work) a ⌝ }
+    ensures { λ r. ⌜ Emitted (now (s .entry)) (now (work .entry)) a (now (out .entry)) (now (out .exit)) r ⌝ }
+{
+    let n = number(a);
+    if n == 12 {
+        return n;
+    }
+    let limit = out.len();
+    let size = form(&mut out[0..0], limit, 0, s, work, a);
+    if limit <= size {
+        return 23;
+    }
+    let end = form(out, limit, 0, s, work, a);
+    out[end] = b'\n';
+    n
+}
