@@ -1,20 +1,19 @@
 -- Answers of the code and what they mean: their numbers, their forms, and which of them have a line.
 -- Assumes nothing.
-use mathlib.Core.Bool.{false, true}
 use mathlib.Core.List.{List, [], _++_, _∷_}
-use mathlib.Core.Option.{Option, none, some}
+use mathlib.Core.Option.{none, some}
 use mathlib.Core.Path.{ap, refl, subst, sym, _∙_, _≡_}
-use Prim.Native.Nat.{min, ℕ, _+_, _<_, _≤_}
+use Prim.Native.Nat.{ℕ, _+_, _<_, _≤_}
 use native.Mathlib.Nat.{zero-add}
 use native.Mathlib.Omega.{arith}
 use borrow.Author.Tests.{le-leb, lt-leb}
 use lib.ListN.{drop, length, length-append, set}
-use lib.Seq.{length-sets, sets, sets-eq}
+use lib.Seq.{sets, sets-eq}
 use Rattle.line.proofs.Laying.{sets-append}
-use Rattle.line.specs.Laid.{Laid, Room}
-use Rattle.line.specs.Line.{endLine, falseOr, refusalForm, refusalLine, refusalNumber, unknownOr, verdictForm, verdictLine}
+use Rattle.line.specs.Laid.{Laid}
+use Rattle.line.specs.Line.{endLine, falseOr, refusalLine, refusalNumber, unknownOr, verdictForm, verdictLine}
 use Rattle.line.specs.Meaning.{Emitted, Held, meaning, rulesOf}
-use Rattle.line.specs.Reply.{Reply, fitted, formOf, numberOf, orEmpty, outputAfter, reply}
+use Rattle.line.specs.Reply.{fitted, formOf, numberOf, orEmpty, reply}
 use Rattle.line.specs.Verdict.{Verdict}
 use Rattle.line.specs.declared.answer.Answer.{Answer}
 use Rattle.line.specs.declared.answer.Answer.the-variants as answers

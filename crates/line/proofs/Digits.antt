@@ -5,7 +5,7 @@ use mathlib.Core.List.{[], _++_, _∷_}
 use mathlib.Core.Path.{ap, refl, sym, _∙_, _≡_}
 use Prim.Native.Nat.{suc, zero, ℕ, _%_, _*_, _+_, _/_, _<_, _≤_}
 use native.Mathlib.Omega.{arith}
-use borrow.Author.Tests.{eq-eqb, le-ltb, lt-ltb, ltb-false, ltb-true, ne-eqb}
+use borrow.Author.Tests.{eq-eqb, le-ltb, lt-ltb, ne-eqb}
 use lib.Dec.{ltb}
 use Rattle.line.specs.Line.{decimalDigits, digitsOf, hexOf, quotedByte}
 use Rattle.reader.specs.Bytes.{Bytes, ascii}

@@ -1,28 +1,14 @@
 -- The least text after the last one, in turn, gives the names in ascending order: as the members of an object without values.
 -- Assumes nothing.
-use mathlib.Core.Bool.{Bool, cond, false, true}
-use mathlib.Core.List.{List, [], _++_, _∷_}
+use mathlib.Core.List.{List, [], _∷_}
 use mathlib.Core.Option.{Option, none, some}
-use mathlib.Core.Path.{ap, refl, subst, sym, _∙_, _≡_}
-use Prim.Native.Nat.{Ordering, Ordering·eq, Ordering·gt, Ordering·lt, suc, zero, ℕ, _+_, _-_, _<_, _≤_}
-use native.Mathlib.Omega.{arith}
+use mathlib.Core.Path.{ap, refl, sym, _∙_, _≡_}
+use Prim.Native.Nat.{Ordering, Ordering·eq, Ordering·gt, Ordering·lt, suc, zero, ℕ, _-_, _≤_}
 use lib.ListN.{length}
-use Rattle.line.proofs.Laying.{Going, ends, ends-with, goes, starts, told}
-use Rattle.line.proofs.Lists.{elements, elements-more}
-use Rattle.line.specs.Laid.{Laid, Room}
-use Rattle.line.specs.Least.{inTurn, isAfter, isLess, leastAfter, lesser, nearer}
-use Rattle.line.specs.Line.{quoted}
-use Rattle.line.specs.Texts.{IsText, TextTold, seen, textOf}
-use Rattle.line.specs.declared.quote.Text.{Text}
-use Rattle.line.specs.declared.quote.Text.the-variants as texts
-use Rattle.evaluation.specs.Names.{Names, ascending, insertName}
+use Rattle.line.specs.Least.{inTurn, isAfter, leastAfter, lesser, nearer}
+use Rattle.evaluation.specs.Names.{ascending, insertName}
 use Rattle.reader.proofs.Sorted as sorted
 use Rattle.reader.specs.Bytes.{Bytes, orderBytes}
-use Rattle.reader.specs.Cursor.{OnText}
-use Rattle.reader.specs.Limits.{maxNodes}
-use Rattle.reader.specs.Marks.{isMarked, marked, markedFrom}
-use Rattle.reader.specs.Spans.{textAt}
-use Rattle.reader.specs.Table.{startAt}
 
 keyed : List Bytes → List (Bytes × Unit {0})
 keyed [] = []

@@ -1,23 +1,17 @@
 -- The search for the least marked text after the last one: what each function of it tells.
 -- Assumes nothing.
-use mathlib.Core.Bool.{Bool, cond, false, true}
-use mathlib.Core.List.{List, [], _++_, _∷_}
+use mathlib.Core.Bool.{Bool, false, true}
+use mathlib.Core.List.{List}
 use mathlib.Core.Option.{Option, none, some}
-use mathlib.Core.Path.{ap, refl, subst, sym, _∙_, _≡_}
-use Prim.Native.Nat.{Ordering, Ordering·eq, Ordering·gt, Ordering·lt, suc, zero, ℕ, _+_, _-_, _<_, _≤_}
+use mathlib.Core.Path.{ap, refl, subst, _∙_, _≡_}
+use Prim.Native.Nat.{Ordering, Ordering·lt, suc, zero, ℕ, _+_, _-_, _<_, _≤_}
 use native.Mathlib.Omega.{arith}
 use borrow.Author.Tests.{eq-eqb, ne-eqb}
 use lib.ListN.{getD, length}
-use Rattle.line.proofs.Laying.{Going, ends, ends-with, goes, starts, told}
-use Rattle.line.proofs.Lists.{elements, elements-more}
-use Rattle.line.specs.Laid.{Laid, Room}
-use Rattle.line.specs.Least.{inTurn, isAfter, isLess, leastAfter, lesser, nearer}
-use Rattle.line.specs.Line.{quoted}
+use Rattle.line.specs.Least.{isAfter, isLess, leastAfter, lesser, nearer}
 use Rattle.line.specs.Texts.{IsText, NamesHeld, TextTold, seen, textOf}
 use Rattle.line.specs.declared.quote.Text.{Text}
 use Rattle.line.specs.declared.quote.Text.the-variants as texts
-use Rattle.evaluation.specs.Names.{Names, ascending, insertName}
-use Rattle.reader.proofs.Sorted as sorted
 use Rattle.reader.specs.Bytes.{Bytes, orderBytes}
 use Rattle.reader.specs.Cursor.{OnText}
 use Rattle.reader.specs.Limits.{maxNodes}

@@ -1,7 +1,7 @@
 -- A bracketed list as code lays it: its word, a space and a quoted text for each element, the closing bracket.
 -- Assumes nothing.
 use mathlib.Core.List.{List, append-assoc, append-nil, [], _++_, _∷_}
-use mathlib.Core.Path.{ap, refl, sym, _∙_, _≡_}
+use mathlib.Core.Path.{ap, sym, _∙_, _≡_}
 use Rattle.line.specs.Line.{eachQuoted, listed, quoted, quotedBytes, spaced}
 use Rattle.reader.specs.Bytes.{Bytes}
 

@@ -1,31 +1,25 @@
 -- The list of names, name by name: the loop says that the names after the last one are left to lay.
 -- Assumes nothing.
-use mathlib.Core.Bool.{Bool, cond, false, true}
 use mathlib.Core.List.{List, [], _++_, _∷_}
 use mathlib.Core.Option.{Option, none, some}
-use mathlib.Core.Path.{ap, refl, subst, sym, _∙_, _≡_}
-use Prim.Native.Nat.{Ordering, Ordering·eq, Ordering·gt, Ordering·lt, suc, zero, ℕ, _+_, _-_, _<_, _≤_}
+use mathlib.Core.Path.{refl, sym, _∙_, _≡_}
+use Prim.Native.Nat.{suc, zero, ℕ, _+_}
 use native.Mathlib.Numerals.{add-one}
-use native.Mathlib.Omega.{arith}
 use Rattle.line.proofs.InTurn.{in-turn}
 use Rattle.line.proofs.Least.{all-marked, few-marked, is-none, is-some, is-text}
-use lib.ListN.{length}
-use Rattle.line.proofs.Laying.{Going, ends, ends-with, goes, starts, told}
+use Rattle.line.proofs.Laying.{Going, ends-with, goes, starts}
 use Rattle.line.proofs.Lists.{elements, elements-more}
 use Rattle.line.specs.Laid.{Laid, Room}
-use Rattle.line.specs.Least.{inTurn, isAfter, isLess, leastAfter, lesser, nearer}
+use Rattle.line.specs.Least.{inTurn, leastAfter}
 use Rattle.line.specs.Line.{quoted}
-use Rattle.line.specs.Texts.{IsText, TextTold, seen, textOf}
+use Rattle.line.specs.Texts.{IsText, TextTold, textOf}
 use Rattle.line.specs.declared.quote.Text.{Text}
 use Rattle.line.specs.declared.quote.Text.the-variants as texts
-use Rattle.evaluation.specs.Names.{Names, ascending, insertName}
-use Rattle.reader.proofs.Sorted as sorted
-use Rattle.reader.specs.Bytes.{Bytes, orderBytes}
-use Rattle.reader.specs.Cursor.{OnText}
+use Rattle.evaluation.specs.Names.{Names, ascending}
+use Rattle.reader.specs.Bytes.{Bytes}
 use Rattle.reader.specs.Limits.{maxNodes}
-use Rattle.reader.specs.Marks.{isMarked, marked, markedFrom}
+use Rattle.reader.specs.Marks.{marked}
 use Rattle.reader.specs.Spans.{textAt}
-use Rattle.reader.specs.Table.{startAt}
 
 pub marked-in-turn : (s : Bytes) (w : List ℕ) → inTurn maxNodes none (marked s w) ≡ ascending (marked s w)
 marked-in-turn s w = in-turn maxNodes (marked s w) (rw (← all-marked s w) (few-marked s w maxNodes 0))

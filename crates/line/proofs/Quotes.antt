@@ -1,7 +1,7 @@
 -- A text in quotes, byte by byte: the loop says that what the cursor has before it is left to lay.
 -- Assumes nothing.
 use mathlib.Core.List.{[], _∷_}
-use mathlib.Core.Path.{ap, refl, sym, _∙_, _≡_}
+use mathlib.Core.Path.{_≡_}
 use Prim.Native.Nat.{ℕ}
 use Rattle.line.proofs.Laying.{Going, ends-with, goes, starts}
 use Rattle.line.specs.Laid.{Laid, Room}
@@ -9,7 +9,7 @@ use Rattle.line.specs.Line.{quotedByte, quotedBytes}
 use Rattle.reader.proofs.Leaves.{was-byte, was-end}
 use Rattle.reader.specs.Answers.{Stepped}
 use Rattle.reader.specs.Bytes.{Bytes}
-use Rattle.reader.specs.Cursor.{OnText, Took, before}
+use Rattle.reader.specs.Cursor.{OnText, before}
 use Rattle.reader.specs.Spans.{textAt}
 use Rattle.reader.specs.declared.text.Cursor.{Cursor}
 use Rattle.reader.specs.declared.text.Step.{Step}

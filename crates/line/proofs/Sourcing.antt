@@ -1,7 +1,6 @@
 -- The texts of a node that is a text or an array of texts, text by text: the loop says that the texts from its node on are left to lay.
 -- Assumes nothing.
 use mathlib.Core.List.{List, [], _++_, _∷_}
-use mathlib.Core.Option.{Option, none, some}
 use mathlib.Core.Path.{ap, refl, sym, _∙_, _≡_}
 use Prim.Native.Nat.{ℕ, _*_, _+_, _<_, _≤_}
 use native.Mathlib.Omega.{arith}
@@ -14,14 +13,13 @@ use Rattle.line.specs.Texts.{TextsHeld, textsIn}
 use Rattle.reader.proofs.Walk.{after-node, inside, isArray, isObject, isPlain, values-done, values-more, view, View}
 use Rattle.reader.specs.Bytes.{Bytes}
 use Rattle.reader.specs.Cursor.{OnText}
-use Rattle.reader.specs.Fits.{FitsLeaf}
 use Rattle.reader.specs.Held.{AreNodes, IsNode}
-use Rattle.reader.specs.Json.{Value, array}
+use Rattle.reader.specs.Json.{array}
 use Rattle.reader.specs.Json as json
 use Rattle.reader.specs.Limits.{maxNodes}
 use Rattle.reader.specs.Refusal.{Result, ok, refused}
-use Rattle.reader.specs.Spans.{Plain, isFalse, isNull, isNumber, isText, isTrue, plain, textAt}
-use Rattle.reader.specs.Table.{afterAt, code, kindAt, startAt, valueAt, valuesAt}
+use Rattle.reader.specs.Spans.{isFalse, isNull, isNumber, isText, isTrue, plain, textAt}
+use Rattle.reader.specs.Table.{afterAt, kindAt, startAt, valueAt, valuesAt}
 use Rattle.sheet.specs.Kinds.{aText, eachOf, someTexts}
 
 never : {A : Type 0} → _≡_ {A = ℕ} 0 1 → A

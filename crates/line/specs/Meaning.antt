@@ -6,7 +6,7 @@ use Prim.Native.Nat.{ℕ}
 use lib.ListN.{length}
 use Rattle.evaluation.specs.Names.{Names, ascending}
 use Rattle.evaluation.specs.Truth as truths
-use Rattle.line.specs.Reply.{Reply, outputAfter, reply}
+use Rattle.line.specs.Reply.{outputAfter, reply}
 use Rattle.line.specs.Texts.{IsText, NamesHeld, TextsHeld, textOf, textsIn}
 use Rattle.line.specs.Verdict.{Verdict, admitted, answered, passed, selected}
 use Rattle.reader.specs.Bytes.{Bytes}
@@ -18,7 +18,6 @@ use Rattle.reader.specs.Spans.{textAt}
 use Rattle.reader.specs.Table.{valueAt}
 use Rattle.line.specs.declared.answer.Answer.{Answer}
 use Rattle.line.specs.declared.answer.Answer.the-variants as answers
-use Rattle.line.specs.declared.answer.Outcome.{Outcome}
 use Rattle.line.specs.declared.answer.Rule.{Rule}
 use Rattle.line.specs.declared.answer.Rules.{Rules}
 use Rattle.line.specs.declared.answer.Rules.the-variants as rules

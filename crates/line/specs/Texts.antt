@@ -1,6 +1,6 @@
 -- Texts of the sheet by their places, and what the marks must be for the names to be read from them.
 -- Assumes nothing.
-use mathlib.Core.Bool.{Bool, cond, true}
+use mathlib.Core.Bool.{cond, true}
 use mathlib.Core.List.{List, []}
 use mathlib.Core.Option.{Option, none, some}
 use mathlib.Core.Path.{_≡_}

@@ -85,7 +85,14 @@ fn refused(out: &mut [u8], limit: usize, at: usize, n: usize) -> usize
 }
 
 // A refusal with a text.
-pub fn refused_text(out: &mut [u8], limit: usize, at: usize, s: &[u8], n: usize, text: usize) -> usize
+pub fn refused_text(
+    out: &mut [u8],
+    limit: usize,
+    at: usize,
+    s: &[u8],
+    n: usize,
+    text: usize,
+) -> usize
     requires { ⌜ Room limit (now out) at × OnText (now s) text 0 ⌝ }
     ensures { λ r. ⌜ Laid limit (now (out .entry)) at (refusedForm n (quoted (textAt (now (s .entry)) text) ∷ [])) (now (out .exit)) r ⌝ }
 {
@@ -104,7 +111,14 @@ fn refused_outcome(out: &mut [u8], limit: usize, at: usize, s: &[u8], n: usize, 
     element(out, limit, b, s, o.name)
 }
 
-pub fn guard_unknown(out: &mut [u8], limit: usize, at: usize, s: &[u8], work: &[u32], o: Outcome) -> usize
+pub fn guard_unknown(
+    out: &mut [u8],
+    limit: usize,
+    at: usize,
+    s: &[u8],
+    work: &[u32],
+    o: Outcome,
+) -> usize
     requires { ⌜ Room limit (now out) at × OnText (now s) (o .name) 0 × NamesHeld (now s) (now work) ⌝ }
     ensures { λ r. ⌜ Laid limit (now (out .entry)) at (refusedForm 20 (decimalDigits (o .place) ∷ quoted (textAt (now (s .entry)) (o .name)) ∷ names (namesIn (now (s .entry)) (now (work .entry))) ∷ [])) (now (out .exit)) r ⌝ }
 {
@@ -112,7 +126,14 @@ pub fn guard_unknown(out: &mut [u8], limit: usize, at: usize, s: &[u8], work: &[
     close_named(out, limit, here, s, work)
 }
 
-pub fn not_a_source(out: &mut [u8], limit: usize, at: usize, s: &[u8], work: &[u32], m: Move) -> usize
+pub fn not_a_source(
+    out: &mut [u8],
+    limit: usize,
+    at: usize,
+    s: &[u8],
+    work: &[u32],
+    m: Move,
+) -> usize
     requires { ⌜ Room limit (now out) at × OnText (now s) (m .outcome .name) 0 × OnText (now s) (m .state) 0 × TextsHeld (now s) (now work) (m .from) ⌝ }
     ensures { λ r. ⌜ Laid limit (now (out .entry)) at (refusedForm 22 (decimalDigits (m .outcome .place) ∷ quoted (textAt (now (s .entry)) (m .outcome .name)) ∷ quoted (textAt (now (s .entry)) (m .state)) ∷ listed (ascii "from") (textsIn (valueAt (now (s .entry)) (now (work .entry)) (m .from))) ∷ [])) (now (out .exit)) r ⌝ }
 {
@@ -125,7 +146,15 @@ pub fn not_a_source(out: &mut [u8], limit: usize, at: usize, s: &[u8], work: &[u
 }
 
 // The start of a refusal at a rule; `other` is its message, in quotes, where it has none.
-fn refused_rule(out: &mut [u8], limit: usize, at: usize, s: &[u8], n: usize, r: Rule, other: &[u8]) -> usize
+fn refused_rule(
+    out: &mut [u8],
+    limit: usize,
+    at: usize,
+    s: &[u8],
+    n: usize,
+    r: Rule,
+    other: &[u8],
+) -> usize
     requires { ⌜ Room limit (now out) at × RuleHeld (now s) r ⌝ }
     ensures { λ p. ⌜ Laid limit (now (out .entry)) at (opened (ascii "refused" ∷ decimalDigits n ∷ decimalDigits (r .place) ∷ nameOr (textOf (now (s .entry)) (r .name)) ∷ quotedOr (now (other .entry)) (textOf (now (s .entry)) (r .message)) ∷ [])) (now (out .exit)) p ⌝ }
 {
@@ -147,13 +176,28 @@ pub fn rule_false(out: &mut [u8], limit: usize, at: usize, s: &[u8], r: Rule) ->
     byte(out, limit, here, b')')
 }
 
-pub fn rule_unknown(out: &mut [u8], limit: usize, at: usize, s: &[u8], work: &[u32], r: Rule) -> usize
+pub fn rule_unknown(
+    out: &mut [u8],
+    limit: usize,
+    at: usize,
+    s: &[u8],
+    work: &[u32],
+    r: Rule,
+) -> usize
     requires { ⌜ Room limit (now out) at × RuleHeld (now s) r × NamesHeld (now s) (now work) ⌝ }
     ensures { λ p. ⌜ Laid limit (now (out .entry)) at (refusedForm (unknownOr (rulesOf (r .rules))) (decimalDigits (r .place) ∷ nameOr (textOf (now (s .entry)) (r .name)) ∷ messageOr (ascii "condition could not be evaluated") (textOf (now (s .entry)) (r .message)) ∷ names (namesIn (now (s .entry)) (now (work .entry))) ∷ [])) (now (out .exit)) p ⌝ }
 {
     let rules = r.rules;
     let n = unknown_number(rules);
-    let here = refused_rule(out, limit, at, s, n, r, b"\"condition could not be evaluated\"");
+    let here = refused_rule(
+        out,
+        limit,
+        at,
+        s,
+        n,
+        r,
+        b"\"condition could not be evaluated\"",
+    );
     close_named(out, limit, here, s, work)
 }
 

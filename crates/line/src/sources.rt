@@ -12,7 +12,14 @@ ghost use Rattle.line.specs.Laid.{Laid, Room};
 ghost use Rattle.line.specs.Line.{listed};
 ghost use Rattle.line.specs.Texts.{TextsHeld, textsIn};
 
-pub fn sources(out: &mut [u8], limit: usize, at: usize, s: &[u8], work: &[u32], node: usize) -> usize
+pub fn sources(
+    out: &mut [u8],
+    limit: usize,
+    at: usize,
+    s: &[u8],
+    work: &[u32],
+    node: usize,
+) -> usize
     requires { ⌜ Room limit (now out) at × TextsHeld (now s) (now work) node ⌝ }
     ensures { λ r. ⌜ Laid limit (now (out .entry)) at (listed (ascii "from") (textsIn (valueAt (now (s .entry)) (now (work .entry)) node))) (now (out .exit)) r ⌝ }
 {

@@ -1,3 +1,5 @@
+-- `line::emit::number` meets its contract: by the case of the answer.
+-- Assumes nothing.
 use mathlib.Core.Path.{refl}
 use Rattle.line.proofs.Answers.{numbered}
 use Rattle.line.specs.Line.{refusalNumber}
@@ -6,150 +8,114 @@ use Rattle.line.specs.Reply.{numberOf}
 use borrow.Author.Needs.{needs}
 use Rattle.line.proofs.emit.number.Statement.{statement}
 use Rattle.line.proofs.emit.number.Tie as tie
-use Rattle.line.proofs.emit.number.Reads as reads
-use Rattle.line.proofs.emit.number.Lts as lts
-use Rattle.line.proofs.form.false_number.Reads as false-number-reads
-use Rattle.line.proofs.form.unknown_number.Reads as unknown-number-reads
 
--- src/emit.rt:50:25
 enum-told : tie.Need-enum-told
 enum-told c = search needs
 
--- src/emit.rt:51:26
 enum-told-2 : tie.Need-enum-told-2
 enum-told-2 c = search needs
 
--- src/emit.rt:52:28
 enum-told-3 : tie.Need-enum-told-3
 enum-told-3 c = search needs
 
--- src/emit.rt:53:27
 enum-told-4 : tie.Need-enum-told-4
 enum-told-4 c = search needs
 
--- src/emit.rt:54:32
 enum-told-5 : tie.Need-enum-told-5
 enum-told-5 c = search needs
 
--- src/emit.rt:55:32
 enum-told-6 : tie.Need-enum-told-6
 enum-told-6 c = search needs
 
--- src/emit.rt:56:28
 enum-told-7 : tie.Need-enum-told-7
 enum-told-7 c = search needs
 
--- src/emit.rt:57:41
 enum-told-8 : tie.Need-enum-told-8
 enum-told-8 c = search needs
 
--- src/emit.rt:58:25
 enum-told-9 : tie.Need-enum-told-9
 enum-told-9 c = search needs
 
--- src/emit.rt:59:27
 enum-known-a : tie.Need-enum-known-a
 enum-known-a c = search needs
 
--- src/emit.rt:61:13
 false-number-requires : tie.Need-false-number-requires
 false-number-requires c κs = search needs
 
--- src/emit.rt:63:29
 enum-known-a-2 : tie.Need-enum-known-a-2
 enum-known-a-2 c = search needs
 
--- src/emit.rt:65:13
 unknown-number-requires : tie.Need-unknown-number-requires
 unknown-number-requires c κs = search needs
 
--- src/emit.rt:67:30
 enum-told-10 : tie.Need-enum-told-10
 enum-told-10 c = search needs
 
--- src/emit.rt:68:36
 enum-told-11 : tie.Need-enum-told-11
 enum-told-11 c = search needs
 
--- src/emit.rt:69:34
 enum-told-12 : tie.Need-enum-told-12
 enum-told-12 c = search needs
 
--- src/emit.rt:70:34
 enum-told-13 : tie.Need-enum-told-13
 enum-told-13 c = search needs
 
--- src/emit.rt:46:1
 returns : tie.Need-returns
 unfolding meaning numberOf refusalNumber
 returns c = numbered (c .enum-told .given .1) (λ s w. refl)
 
--- src/emit.rt:46:1
 returns-2 : tie.Need-returns-2
 unfolding meaning numberOf refusalNumber
 returns-2 c = numbered (c .enum-told2 .given .1) (λ s w. refl)
 
--- src/emit.rt:46:1
 returns-3 : tie.Need-returns-3
 unfolding meaning numberOf refusalNumber
 returns-3 c = numbered (c .enum-told3 .given .1) (λ s w. refl)
 
--- src/emit.rt:46:1
 returns-4 : tie.Need-returns-4
 unfolding meaning numberOf refusalNumber
 returns-4 c = numbered (c .enum-told4 .given .1) (λ s w. refl)
 
--- src/emit.rt:46:1
 returns-5 : tie.Need-returns-5
 unfolding meaning numberOf refusalNumber
 returns-5 c = numbered (c .enum-told5 .given .1) (λ s w. refl)
 
--- src/emit.rt:46:1
 returns-6 : tie.Need-returns-6
 unfolding meaning numberOf refusalNumber
 returns-6 c = numbered (c .enum-told6 .given .1) (λ s w. refl)
 
--- src/emit.rt:46:1
 returns-7 : tie.Need-returns-7
 unfolding meaning numberOf refusalNumber
 returns-7 c = numbered (c .enum-told7 .given .1) (λ s w. refl)
 
--- src/emit.rt:46:1
 returns-8 : tie.Need-returns-8
 unfolding meaning numberOf refusalNumber
 returns-8 c = numbered (c .enum-told8 .given .1) (λ s w. refl)
 
--- src/emit.rt:46:1
 returns-9 : tie.Need-returns-9
 unfolding meaning numberOf refusalNumber
 returns-9 c = numbered (c .enum-told9 .given .1) (λ s w. refl)
 
--- src/emit.rt:46:1
 returns-10 : tie.Need-returns-10
 unfolding meaning numberOf refusalNumber
 returns-10 c = numbered (c .before .before .a .given .1) (λ s w. c .false-number .ensures)
 
--- src/emit.rt:46:1
 returns-11 : tie.Need-returns-11
 unfolding meaning numberOf refusalNumber
 returns-11 c = numbered (c .before .before .a2 .given .1) (λ s w. c .unknown-number .ensures)
 
--- src/emit.rt:46:1
 returns-12 : tie.Need-returns-12
 unfolding meaning numberOf refusalNumber
 returns-12 c = numbered (c .enum-told10 .given .1) (λ s w. refl)
 
--- src/emit.rt:46:1
 returns-13 : tie.Need-returns-13
 unfolding meaning numberOf refusalNumber
 returns-13 c = numbered (c .enum-told11 .given .1) (λ s w. refl)
 
--- src/emit.rt:46:1
 returns-14 : tie.Need-returns-14
 unfolding meaning numberOf refusalNumber
 returns-14 c = numbered (c .enum-told12 .given .1) (λ s w. refl)
 
--- src/emit.rt:46:1
 returns-15 : tie.Need-returns-15
 unfolding meaning numberOf refusalNumber
 returns-15 c = numbered (c .enum-told13 .given .1) (λ s w. refl)

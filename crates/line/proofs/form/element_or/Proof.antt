@@ -1,49 +1,35 @@
-use mathlib.Core.List.{append-assoc}
+-- `line::form::element_or` meets its contract: by whether the text is missing.
+-- Assumes nothing.
 use Rattle.line.proofs.Laying.{then, told}
 use Rattle.line.proofs.Least.{is-none, is-some, is-text}
-use Rattle.line.specs.Line.{spaced}
 use borrow.Author.Needs.{needs}
 use Rattle.line.proofs.form.element_or.Statement.{statement}
 use Rattle.line.proofs.form.element_or.Tie as tie
-use Rattle.line.proofs.form.element_or.Reads as reads
-use Rattle.line.proofs.form.element_or.Lts as lts
-use Rattle.line.proofs.lay.byte.Reads as byte-reads
-use Rattle.line.proofs.lay.bytes.Reads as bytes-reads
-use Rattle.line.proofs.quote.quoted.Reads as quoted-reads
 
--- src/form.rt:39:9
 byte-requires : tie.Need-byte-requires
 byte-requires c κs = search needs
 
--- src/form.rt:41:32
 enum-told : tie.Need-enum-told
 enum-told c = search needs
 
--- src/form.rt:41:26
 bytes-requires : tie.Need-bytes-requires
 bytes-requires c κs = search needs
 
--- src/form.rt:42:18
 enum-known-text : tie.Need-enum-known-text
 enum-known-text c = search needs
 
--- src/form.rt:42:28
 quoted-requires : tie.Need-quoted-requires
 quoted-requires c κs = (c .before .before .before .before .before .before .byte .ensures .room, is-text (c .before .before .before .before .before .before .before .before .before .before .before .args .s .now) _ (c .before .before .before .before .before .before .before .before .before .before .before .pre .1) (c .before .before .text .given .1))
 
--- src/form.rt:35:1
 same-length : tie.Need-same-length
 same-length c = search needs
 
--- src/form.rt:35:1
 returns : tie.Need-returns
 returns c = told (rw (is-none (c .before .before .before .before .before .before .before .before .before .before .before .before .before .args .s .now) (c .before .before .before .before .enum-told .given .1))) (then (c .before .before .before .before .before .before .before .before .byte .ensures) (c .before .before .bytes .ensures))
 
--- src/form.rt:35:1
 same-length-2 : tie.Need-same-length-2
 same-length-2 c = search needs
 
--- src/form.rt:35:1
 returns-2 : tie.Need-returns-2
 returns-2 c = told (rw (is-some (c .before .before .before .before .before .before .before .before .before .before .before .before .before .before .args .s .now) _ (c .before .before .before .before .before .text .given .1))) (then (c .before .before .before .before .before .before .before .before .before .byte .ensures) (c .before .before .quoted .ensures))
 

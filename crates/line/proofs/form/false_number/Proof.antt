@@ -1,26 +1,22 @@
+-- `line::form::false_number` meets its contract: by its two cases.
+-- Assumes nothing.
 use mathlib.Core.Path.{ap, sym}
-use Rattle.line.specs.Line.{falseOr, unknownOr}
+use Rattle.line.specs.Line.{falseOr}
 use Rattle.line.specs.Meaning.{rulesOf}
 use borrow.Author.Needs.{needs}
 use Rattle.line.proofs.form.false_number.Statement.{statement}
 use Rattle.line.proofs.form.false_number.Tie as tie
-use Rattle.line.proofs.form.false_number.Reads as reads
-use Rattle.line.proofs.form.false_number.Lts as lts
 
--- src/form.rt:163:33
 enum-told : tie.Need-enum-told
 enum-told c = search needs
 
--- src/form.rt:164:30
 enum-told-2 : tie.Need-enum-told-2
 enum-told-2 c = search needs
 
--- src/form.rt:159:1
 returns : tie.Need-returns
 unfolding rulesOf
 returns c = sym (ap (λ k. falseOr (rulesOf k)) (c .enum-told .given .1))
 
--- src/form.rt:159:1
 returns-2 : tie.Need-returns-2
 unfolding rulesOf
 returns-2 c = sym (ap (λ k. falseOr (rulesOf k)) (c .enum-told2 .given .1))

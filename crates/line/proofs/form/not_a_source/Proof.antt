@@ -1,49 +1,35 @@
+-- `line::form::not_a_source` meets its contract: its parts, one after another.
+-- Assumes nothing.
 use mathlib.Core.List.{[], _++_, _∷_}
 use Rattle.line.proofs.Forms.{closed-with, opened-further}
-use Rattle.line.specs.Line.{decimalDigits, listed, messageOr, nameOr, names, quoted, quotedOr}
-use Rattle.line.specs.Meaning.{namesIn}
-use Rattle.line.specs.Texts.{textOf, textsIn}
+use Rattle.line.specs.Line.{decimalDigits, listed, quoted}
+use Rattle.line.specs.Texts.{textsIn}
 use Rattle.reader.specs.Bytes.{ascii}
 use Rattle.reader.specs.Spans.{textAt}
 use Rattle.reader.specs.Table.{valueAt}
-use mathlib.Core.List.{append-assoc}
 use Rattle.line.proofs.Laying.{then, told}
-use Rattle.line.specs.Line.{quotedBytes, spaced}
 use borrow.Author.Needs.{needs}
 use Rattle.line.proofs.form.not_a_source.Statement.{statement}
 use Rattle.line.proofs.form.not_a_source.Tie as tie
-use Rattle.line.proofs.form.not_a_source.Reads as reads
-use Rattle.line.proofs.form.not_a_source.Lts as lts
-use Rattle.line.proofs.form.refused_outcome.Reads as refused-outcome-reads
-use Rattle.line.proofs.lay.byte.Reads as byte-reads
-use Rattle.line.proofs.quote.element.Reads as element-reads
-use Rattle.line.proofs.sources.sources.Reads as sources-reads
 
--- src/form.rt:120:9
 refused-outcome-requires : tie.Need-refused-outcome-requires
 refused-outcome-requires c κs = search needs
 
--- src/form.rt:121:9
 element-requires : tie.Need-element-requires
 element-requires c κs = search needs
 
--- src/form.rt:122:9
 byte-requires : tie.Need-byte-requires
 byte-requires c κs = search needs
 
--- src/form.rt:123:9
 sources-requires : tie.Need-sources-requires
 sources-requires c κs = search needs
 
--- src/form.rt:124:5
 byte-requires-2 : tie.Need-byte-requires-2
 byte-requires-2 c κs = search needs
 
--- src/form.rt:115:1
 same-length : tie.Need-same-length
 same-length c = search needs
 
--- src/form.rt:115:1
 returns : tie.Need-returns
 returns c =
     let a = c .before .before .before .before .before .before .before .before .before .before .before .before .before .before .before .before .before .before .before .before .before .before .before .before .args in

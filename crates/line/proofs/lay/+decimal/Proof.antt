@@ -1,3 +1,5 @@
+-- `line::lay::decimal` meets its contract: the digits of a tenth, and then the last one; the number falls.
+-- Assumes nothing.
 use mathlib.Core.Path.{sym}
 use native.Mathlib.Omega.{arith}
 use borrow.Author.Needs.{needs}
@@ -22,7 +24,6 @@ decimal-at t = and 1 decimal-kinds.ps (is 1 decimal-kinds.ps μ-decimal t) decim
 abbrev decimal-below : ℕ → In 1 decimal-kinds.ps
 decimal-below t = and 1 decimal-kinds.ps (falls 1 decimal-kinds.ps _<_ μ-decimal t) decimal.Pre
 
--- src/lay.rt:38:42
 decimal-cast-byte : (t : ℕ) → decimal-lts.Need-cast-byte (
   byte-reads.Asked,
   byte-reads.Learnt,
@@ -31,7 +32,6 @@ decimal-cast-byte : (t : ℕ) → decimal-lts.Need-cast-byte (
 ) (decimal-at t) decimal.Post
 decimal-cast-byte t c = omega arith
 
--- src/lay.rt:38:37
 decimal-add-byte : (t : ℕ) → decimal-lts.Need-add-byte (
   byte-reads.Asked,
   byte-reads.Learnt,
@@ -40,7 +40,6 @@ decimal-add-byte : (t : ℕ) → decimal-lts.Need-add-byte (
 ) (decimal-at t) decimal.Post
 decimal-add-byte t c = omega arith
 
--- src/lay.rt:38:9
 decimal-byte-requires : (t : ℕ) → decimal-lts.Need-byte-requires (
   byte-reads.Asked,
   byte-reads.Learnt,
@@ -49,7 +48,6 @@ decimal-byte-requires : (t : ℕ) → decimal-lts.Need-byte-requires (
 ) (decimal-at t) decimal.Post
 decimal-byte-requires t c κs = c .before .before .before .pre .1
 
--- src/lay.rt:38:9
 decimal-same-length : (t : ℕ) → decimal-lts.Need-same-length (
   byte-reads.Asked,
   byte-reads.Learnt,
@@ -58,7 +56,6 @@ decimal-same-length : (t : ℕ) → decimal-lts.Need-same-length (
 ) (decimal-at t) decimal.Post
 decimal-same-length t c = search needs
 
--- src/lay.rt:38:9
 decimal-returns : (t : ℕ) → decimal-lts.Need-returns (
   byte-reads.Asked,
   byte-reads.Learnt,
@@ -67,7 +64,6 @@ decimal-returns : (t : ℕ) → decimal-lts.Need-returns (
 ) (decimal-at t) decimal.Post
 decimal-returns t c = told (sym (one-digit (c .before .before .before .before .before .before .args .n) (c .before .before .before .before .if1 .taken))) (c .before .before .byte .ensures)
 
--- src/lay.rt:40:9
 decimal-decimal-requires : (t : ℕ) → decimal-lts.Need-decimal-requires (
   byte-reads.Asked,
   byte-reads.Learnt,
@@ -76,7 +72,6 @@ decimal-decimal-requires : (t : ℕ) → decimal-lts.Need-decimal-requires (
 ) (decimal-at t) decimal.Post
 decimal-decimal-requires t c κs = (omega arith, c .before .before .before .pre .1)
 
--- src/lay.rt:41:33
 decimal-cast-byte-2 : (t : ℕ) → decimal-lts.Need-cast-byte-2 (
   byte-reads.Asked,
   byte-reads.Learnt,
@@ -85,7 +80,6 @@ decimal-cast-byte-2 : (t : ℕ) → decimal-lts.Need-cast-byte-2 (
 ) (decimal-at t) decimal.Post
 decimal-cast-byte-2 t c = omega arith
 
--- src/lay.rt:41:28
 decimal-add-byte-2 : (t : ℕ) → decimal-lts.Need-add-byte-2 (
   byte-reads.Asked,
   byte-reads.Learnt,
@@ -94,7 +88,6 @@ decimal-add-byte-2 : (t : ℕ) → decimal-lts.Need-add-byte-2 (
 ) (decimal-at t) decimal.Post
 decimal-add-byte-2 t c = omega arith
 
--- src/lay.rt:41:5
 decimal-byte-requires-2 : (t : ℕ) → decimal-lts.Need-byte-requires-2 (
   byte-reads.Asked,
   byte-reads.Learnt,
@@ -103,7 +96,6 @@ decimal-byte-requires-2 : (t : ℕ) → decimal-lts.Need-byte-requires-2 (
 ) (decimal-at t) decimal.Post
 decimal-byte-requires-2 t c κs = c .before .before .before .decimal .ensures .room
 
--- src/lay.rt:33:1
 decimal-same-length-2 : (t : ℕ) → decimal-lts.Need-same-length-2 (
   byte-reads.Asked,
   byte-reads.Learnt,
@@ -112,7 +104,6 @@ decimal-same-length-2 : (t : ℕ) → decimal-lts.Need-same-length-2 (
 ) (decimal-at t) decimal.Post
 decimal-same-length-2 t c = search needs
 
--- src/lay.rt:33:1
 decimal-returns-2 : (t : ℕ) → decimal-lts.Need-returns-2 (
   byte-reads.Asked,
   byte-reads.Learnt,

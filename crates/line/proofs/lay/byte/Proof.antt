@@ -1,36 +1,29 @@
+-- `line::lay::byte` meets its contract: a store inside the output, and nothing past its end.
+-- Assumes nothing.
 use mathlib.Core.Path.{sym}
 use lib.Seq.{set-out}
 use borrow.Author.Needs.{needs}
 use Rattle.line.proofs.lay.byte.Statement.{statement}
 use Rattle.line.proofs.lay.byte.Tie as tie
-use Rattle.line.proofs.lay.byte.Reads as reads
-use Rattle.line.proofs.lay.byte.Lts as lts
 
--- src/lay.rt:13:9
 slice-write-out : tie.Need-slice-write-out
 slice-write-out c = search needs
 
--- src/lay.rt:14:16
 add-result : tie.Need-add-result
 add-result c = search needs
 
--- src/lay.rt:14:9
 same-length : tie.Need-same-length
 same-length c = search needs
 
--- src/lay.rt:14:9
 returns : tie.Need-returns
 returns c = search needs
 
--- src/lay.rt:16:21
 add-result-2 : tie.Need-add-result-2
 add-result-2 c = search needs
 
--- src/lay.rt:8:1
 returns-2 : tie.Need-returns-2
 returns-2 c = record { bytes = sym (set-out (c .before .before .args .out .now) (c .before .before .args .at) _ (c .before .if1 .left)); place = search needs; room = search needs }
 
--- src/lay.rt:8:1
 returns-3 : tie.Need-returns-3
 returns-3 c = record { bytes = sym (set-out (c .before .before .args .out .now) (c .before .before .args .at) _ (c .before .if1 .left)); place = search needs; room = search needs }
 

@@ -1,13 +1,11 @@
-use mathlib.Core.Path.{sym}
+-- `line::lay::bytes` meets its contract: the loop says that the bytes from the index on are left to lay.
+-- Assumes nothing.
 use Prim.Native.Nat.{_+_, _-_, _≤_}
 use native.Mathlib.Omega.{arith}
 use lib.ListN.{drop, drop-of-length-le, length}
 use Rattle.line.proofs.Laying.{Going, ends, goes, next-byte, starts}
 use Rattle.line.proofs.lay.bytes.Statement.{statement}
 use Rattle.line.proofs.lay.bytes.Tie as tie
-use Rattle.line.proofs.lay.bytes.Reads as reads
-use Rattle.line.proofs.lay.bytes.Lts as lts
-use Rattle.line.proofs.lay.byte.Reads as byte-reads
 
 abbrev Inv-loop : tie.InvT-loop
 Inv-loop out₀ limit at bs here₀ i₀ out here i = (i ≤ length bs) × Going limit out₀ at bs out here (drop i bs)
@@ -15,38 +13,30 @@ Inv-loop out₀ limit at bs here₀ i₀ out here i = (i ≤ length bs) × Going
 abbrev μ-loop : tie.MeasureT-loop
 μ-loop out₀ limit at bs here₀ i₀ out here i = length bs - i
 
--- src/lay.rt:25:5
 loop-holds : tie.Need-loop-holds Inv-loop μ-loop
 loop-holds c = (omega arith, starts (c .before .before .args .bs .now) (c .before .before .pre))
 
--- src/lay.rt:26:39
 shared-slice-read-byte : tie.Need-shared-slice-read-byte Inv-loop μ-loop
 shared-slice-read-byte c = omega arith
 
--- src/lay.rt:26:9
 byte-requires : tie.Need-byte-requires Inv-loop μ-loop
 byte-requires c κs = c .before .before .before .loop .inv .1 .room
 
--- src/lay.rt:27:9
 add-i : tie.Need-add-i Inv-loop μ-loop
 add-i c = omega arith
 
--- src/lay.rt:25:5
 loop-less : tie.Need-loop-less Inv-loop μ-loop
 loop-less c = omega arith
 
--- src/lay.rt:25:5
 loop-again : tie.Need-loop-again Inv-loop μ-loop
 loop-again c =
     let l = c .before .before .before .before .before .before .loop in
     let bs = c .before .before .before .before .before .before .before .before .before .args .bs .now in
     (omega arith, goes (drop (l .i + 1) bs) (rw (next-byte bs (l .i) (omega arith)) at (l .inv .1)) (c .before .before .byte .ensures))
 
--- src/lay.rt:19:1
 same-length : tie.Need-same-length Inv-loop μ-loop
 same-length c = c .before .loop .inv .1 .size
 
--- src/lay.rt:19:1
 returns : tie.Need-returns Inv-loop μ-loop
 returns c =
     let l = c .before .loop in

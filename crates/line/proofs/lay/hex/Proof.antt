@@ -1,24 +1,20 @@
+-- `line::lay::hex` meets its contract: by its two cases.
+-- Assumes nothing.
 use mathlib.Core.Path.{sym}
 use Rattle.line.proofs.Digits.{high-hex, low-hex}
 use borrow.Author.Needs.{needs}
 use Rattle.line.proofs.lay.hex.Statement.{statement}
 use Rattle.line.proofs.lay.hex.Tie as tie
-use Rattle.line.proofs.lay.hex.Reads as reads
-use Rattle.line.proofs.lay.hex.Lts as lts
 
--- src/lay.rt:49:17
 add-result : tie.Need-add-result
 add-result c = search needs
 
--- src/lay.rt:49:33
 add-result-2 : tie.Need-add-result-2
 add-result-2 c = search needs
 
--- src/lay.rt:45:1
 returns : tie.Need-returns
 returns c = sym (low-hex (c .before .args .n) (c .if1 .taken))
 
--- src/lay.rt:45:1
 returns-2 : tie.Need-returns-2
 returns-2 c = sym (high-hex (c .before .args .n) (c .if1 .left))
 

@@ -1,91 +1,69 @@
+-- `line::lay::quoted_byte` meets its contract: by the four cases of a byte.
+-- Assumes nothing.
 use mathlib.Core.Path.{sym, _∙_}
 use Rattle.line.proofs.Laying.{then, told}
 use Rattle.line.proofs.Digits.{backslash-escaped, byte-itself, control-escaped, quote-escaped}
 use borrow.Author.Needs.{needs}
 use Rattle.line.proofs.lay.quoted_byte.Statement.{statement}
 use Rattle.line.proofs.lay.quoted_byte.Tie as tie
-use Rattle.line.proofs.lay.quoted_byte.Reads as reads
-use Rattle.line.proofs.lay.quoted_byte.Lts as lts
-use Rattle.line.proofs.lay.byte.Reads as byte-reads
-use Rattle.line.proofs.lay.bytes.Reads as bytes-reads
-use Rattle.line.proofs.lay.hex.Reads as hex-reads
 
--- src/lay.rt:58:38
 slice-aggregate-bytes : tie.Need-slice-aggregate-bytes
 slice-aggregate-bytes c = search needs
 
--- src/lay.rt:58:9
 bytes-requires : tie.Need-bytes-requires
 bytes-requires c κs = search needs
 
--- src/lay.rt:58:9
 same-length : tie.Need-same-length
 same-length c = search needs
 
--- src/lay.rt:58:9
 returns : tie.Need-returns
 returns c = told (sym (quote-escaped (c .before .before .before .before .before .before .before .args .b) (c .before .before .before .before .before .if1 .taken))) (c .before .before .bytes .ensures)
 
--- src/lay.rt:61:38
 slice-aggregate-bytes-2 : tie.Need-slice-aggregate-bytes-2
 slice-aggregate-bytes-2 c = search needs
 
--- src/lay.rt:61:9
 bytes-requires-2 : tie.Need-bytes-requires-2
 bytes-requires-2 c κs = search needs
 
--- src/lay.rt:61:9
 same-length-2 : tie.Need-same-length-2
 same-length-2 c = search needs
 
--- src/lay.rt:61:9
 returns-2 : tie.Need-returns-2
 returns-2 c = told (sym (backslash-escaped (c .before .before .before .before .before .before .before .before .args .b) (c .before .before .before .before .before .before .if1 .left) (c .before .before .before .before .before .if2 .taken))) (c .before .before .bytes2 .ensures)
 
--- src/lay.rt:64:39
 slice-aggregate-bytes-3 : tie.Need-slice-aggregate-bytes-3
 slice-aggregate-bytes-3 c = search needs
 
--- src/lay.rt:64:13
 bytes-requires-3 : tie.Need-bytes-requires-3
 bytes-requires-3 c κs = search needs
 
--- src/lay.rt:65:37
 hex-requires : tie.Need-hex-requires
 hex-requires c κs = search needs
 
--- src/lay.rt:65:13
 byte-requires : tie.Need-byte-requires
 byte-requires c κs = search needs
 
--- src/lay.rt:66:36
 hex-requires-2 : tie.Need-hex-requires-2
 hex-requires-2 c κs = search needs
 
--- src/lay.rt:66:9
 byte-requires-2 : tie.Need-byte-requires-2
 byte-requires-2 c κs = search needs
 
--- src/lay.rt:66:9
 same-length-3 : tie.Need-same-length-3
 same-length-3 c = search needs
 
--- src/lay.rt:66:9
 returns-3 : tie.Need-returns-3
 returns-3 c =
     told
     (sym (control-escaped (c .before .before .before .before .before .before .before .before .before .before .before .before .before .before .before .before .before .before .before .args .b) (c .before .before .before .before .before .before .before .before .before .before .before .before .before .before .before .before .before .if1 .left) (c .before .before .before .before .before .before .before .before .before .before .before .before .before .before .before .before .if2 .left) (c .before .before .before .before .before .before .before .before .before .before .before .before .before .before .before .if3 .taken) ∙ rw (← c .before .before .before .before .before .before .before .before .hex .ensures, ← c .before .before .before .hex2 .ensures)))
     (then (then (c .before .before .before .before .before .before .before .before .before .before .before .before .bytes3 .ensures) (c .before .before .before .before .before .before .before .byte .ensures)) (c .before .before .byte2 .ensures))
 
--- src/lay.rt:68:5
 byte-requires-3 : tie.Need-byte-requires-3
 byte-requires-3 c κs = search needs
 
--- src/lay.rt:53:1
 same-length-4 : tie.Need-same-length-4
 same-length-4 c = search needs
 
--- src/lay.rt:53:1
 returns-4 : tie.Need-returns-4
 returns-4 c = told (sym (byte-itself (c .before .before .before .before .before .before .before .before .args .b) (c .before .before .before .before .before .before .if1 .left) (c .before .before .before .before .before .if2 .left) (c .before .before .before .before .if3 .left))) (c .before .before .byte3 .ensures)
 

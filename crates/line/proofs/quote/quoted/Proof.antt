@@ -1,3 +1,5 @@
+-- `line::quote::quoted` meets its contract: the loop says that what the cursor has before it is left to lay.
+-- Assumes nothing.
 use borrow.Author.Needs.{needs}
 use Rattle.reader.proofs.Leaves.{was-byte}
 use Rattle.reader.specs.Cursor.{weight}
@@ -5,11 +7,6 @@ use Rattle.line.proofs.Laying.{then}
 use Rattle.line.proofs.Quotes.{Quoting, closed, on, quoting}
 use Rattle.line.proofs.quote.quoted.Statement.{statement}
 use Rattle.line.proofs.quote.quoted.Tie as tie
-use Rattle.line.proofs.quote.quoted.Reads as reads
-use Rattle.line.proofs.quote.quoted.Lts as lts
-use Rattle.line.proofs.lay.byte.Reads as byte-reads
-use Rattle.line.proofs.lay.quoted_byte.Reads as quoted-byte-reads
-use Rattle.reader.proofs.text.next.Reads as next-reads
 
 abbrev Inv-loop : tie.InvT-loop
 Inv-loop out₀ limit at s text here₀ c₀ out here c = Quoting limit s out₀ here₀ text out here c
@@ -17,47 +14,36 @@ Inv-loop out₀ limit at s text here₀ c₀ out here c = Quoting limit s out₀
 abbrev μ-loop : tie.MeasureT-loop
 μ-loop out₀ limit at s text here₀ c₀ out here c = weight s (c .at) (c .left)
 
--- src/quote.rt:16:9
 byte-requires : tie.Need-byte-requires Inv-loop μ-loop
 byte-requires c κs = c .before .before .before .pre .0
 
--- src/quote.rt:22:5
 loop-holds : tie.Need-loop-holds Inv-loop μ-loop
 loop-holds c = quoting (c .before .before .before .before .before .before .args .s .now) (c .before .before .before .before .before .before .args .text) (c .before .before .byte .ensures .room) (c .before .before .before .before .before .before .pre .1)
 
--- src/quote.rt:23:15
 next-requires : tie.Need-next-requires Inv-loop μ-loop
 next-requires c κs = c .loop .inv .onText
 
--- src/quote.rt:25:29
 enum-told : tie.Need-enum-told Inv-loop μ-loop
 enum-told c = search needs
 
--- src/quote.rt:25:17
 byte-requires-2 : tie.Need-byte-requires-2 Inv-loop μ-loop
 byte-requires-2 c κs = c .before .before .before .before .loop .inv .going .room
 
--- src/quote.rt:25:17
 same-length : tie.Need-same-length Inv-loop μ-loop
 same-length c = search needs
 
--- src/quote.rt:25:17
 returns : tie.Need-returns Inv-loop μ-loop
 returns c = then (c .before .before .before .before .before .before .before .before .before .before .byte .ensures) (closed (c .before .before .before .before .before .before .before .loop .inv) (c .before .before .before .before .before .before .next .ensures) (c .before .before .before .before .enum-told .given .1) (c .before .before .byte2 .ensures))
 
--- src/quote.rt:27:24
 enum-known-t : tie.Need-enum-known-t Inv-loop μ-loop
 enum-known-t c = search needs
 
--- src/quote.rt:28:17
 quoted-byte-requires : tie.Need-quoted-byte-requires Inv-loop μ-loop
 quoted-byte-requires c κs = c .before .before .before .before .before .loop .inv .going .room
 
--- src/quote.rt:22:5
 loop-less : tie.Need-loop-less Inv-loop μ-loop
 loop-less c = was-byte (c .before .before .before .before .before .before .t .given .0 .0) (c .before .before .before .before .before .before .before .before .next .ensures) (c .before .before .before .before .before .before .t .given .1) .falls
 
--- src/quote.rt:22:5
 loop-again : tie.Need-loop-again Inv-loop μ-loop
 loop-again c = on (c .before .before .before .before .before .before .before .before .before .loop .inv) (c .before .before .before .before .before .before .t .given .0 .0) (c .before .before .before .before .before .before .before .before .next .ensures) (c .before .before .before .before .before .before .t .given .1) (c .before .before .before .quoted-byte .ensures)
 
