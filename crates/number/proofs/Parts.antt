@@ -2,7 +2,7 @@
 -- Assumes nothing.
 use mathlib.Core.Bool.{Bool, false, true, true≢false}
 use mathlib.Core.List.{[], append-assoc, append-nil, _++_, _∷_}
-use mathlib.Core.Logic.{inl, inr, _⊎_}
+use mathlib.Core.Logic.{inl, inr}
 use mathlib.Core.Path.{ap, refl, subst, sym, _∙_, _≡_}
 use Prim.Native.Nat.{suc, zero, ℕ, _+_, _-_, _<_, _≤_}
 use native.Mathlib.Numerals.{add-one}
@@ -213,15 +213,6 @@ ahead p (c ∷ x) = go (ahead p x) (p c) refl
     go : x ≡ before p x ++ drop (length (before p x)) x → (b : Bool) → p c ≡ b → c ∷ x ≡ before p (c ∷ x) ++ drop (length (before p (c ∷ x))) (c ∷ x)
     go h true e = rw (before-stop p c x e) refl
     go h false e = rw (before-on p c x e) (ap (λ (t : Bytes). c ∷ t) h)
-
--- what stands behind a part: nothing, or a byte that ends it
-behind-part : (p : ℕ → Bool) (x : Bytes) → (drop (length (before p x)) x ≡ []) ⊎ ((c : ℕ) × (y : Bytes) × (drop (length (before p x)) x ≡ c ∷ y) × (p c ≡ true))
-behind-part p [] = rw (before-nil p) (inl refl)
-behind-part p (c ∷ x) = go (behind-part p x) (p c) refl
-  where
-    go : (drop (length (before p x)) x ≡ []) ⊎ ((d : ℕ) × (y : Bytes) × (drop (length (before p x)) x ≡ d ∷ y) × (p d ≡ true)) → (b : Bool) → p c ≡ b → (drop (length (before p (c ∷ x))) (c ∷ x) ≡ []) ⊎ ((d : ℕ) × (y : Bytes) × (drop (length (before p (c ∷ x))) (c ∷ x) ≡ d ∷ y) × (p d ≡ true))
-    go h true e = rw (before-stop p c x e) (inr (c, x, refl, e))
-    go h false e = rw (before-on p c x e) h
 
 -- the exponent stands behind the part that an `e` ends
 exponent-behind : (x : Bytes) → tail (drop (length (before isE x)) x) ≡ behind isE x

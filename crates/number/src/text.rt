@@ -261,12 +261,11 @@ impl Decimal {
             let first = zeros(s, zero + 1);
             let ends = part(s, first, first, true);
             let end = ends.end;
-            let last = ends.last;
             return Decimal {
                 negative: negative,
                 digits: Cursor {
                     at: first,
-                    end: last,
+                    end: ends.last,
                     pointed: true,
                 },
                 whole: zero - start,
@@ -277,12 +276,11 @@ impl Decimal {
         let whole = part(s, zero, zero, false);
         let ends = fraction(s, whole);
         let end = ends.end;
-        let last = ends.last;
         Decimal {
             negative: negative,
             digits: Cursor {
                 at: zero,
-                end: last,
+                end: ends.last,
                 pointed: false,
             },
             whole: whole.end - start,

@@ -26,14 +26,14 @@ zeros-requires-2 c κs = omega (arith, point-within (c .before .before .before .
 part-requires : tie.Need-part-requires
 part-requires c κs = search needs
 
+sub-t13 : tie.Need-sub-t13
+sub-t13 c = search needs
+
 sub-t15 : tie.Need-sub-t15
 sub-t15 c = search needs
 
-sub-t17 : tie.Need-sub-t17
-sub-t17 c = search needs
-
-sub-t18 : tie.Need-sub-t18
-sub-t18 c = search needs
+sub-t16 : tie.Need-sub-t16
+sub-t16 c = search needs
 
 behind-requires : tie.Need-behind-requires
 behind-requires c κs = search needs
@@ -47,11 +47,11 @@ part-requires-2 c κs = search needs
 fraction-requires : tie.Need-fraction-requires
 fraction-requires c κs = search needs
 
-sub-t21 : tie.Need-sub-t21
-sub-t21 c = search needs
+sub-t19 : tie.Need-sub-t19
+sub-t19 c = search needs
 
-sub-t22 : tie.Need-sub-t22
-sub-t22 c = search needs
+sub-t20 : tie.Need-sub-t20
+sub-t20 c = search needs
 
 behind-requires-2 : tie.Need-behind-requires-2
 behind-requires-2 c κs = fraction-upto (c .before .before .before .before .before .before .before .before .args .s .now) (c .before .before .part2 .result) (c .before .fraction .result) (c .before .fraction .ensures) (c .before .before .part2 .ensures .upto)
@@ -69,14 +69,14 @@ parse-spec =
     add-zeros
     zeros-requires-2
     part-requires
+    sub-t13
     sub-t15
-    sub-t17
-    sub-t18
+    sub-t16
     behind-requires
     returns
     part-requires-2
     fraction-requires
-    sub-t21
-    sub-t22
+    sub-t19
+    sub-t20
     behind-requires-2
     returns-2)
