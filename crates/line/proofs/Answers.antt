@@ -11,7 +11,7 @@ use lib.ListN.{drop, length, length-append, set}
 use lib.Seq.{sets, sets-eq}
 use Rattle.line.proofs.Laying.{sets-append}
 use Rattle.line.specs.Laid.{Laid}
-use Rattle.line.specs.Line.{endLine, falseOr, refusalLine, refusalNumber, unknownOr, verdictForm, verdictLine}
+use Rattle.line.specs.Line.{endLine, falseNumber, refusalLine, refusalNumber, unknownNumber, verdictForm, verdictLine}
 use Rattle.line.specs.Meaning.{Emitted, Held, meaning, rulesOf}
 use Rattle.line.specs.Reply.{fitted, formOf, numberOf, orEmpty, reply}
 use Rattle.line.specs.Verdict.{Verdict}
@@ -35,7 +35,7 @@ pub formed : {limit at r : ℕ} {o o₁ : Bytes} (s : Bytes) (w : List ℕ) {a b
 formed s w e l = rw e l
 
 -- all have a line but one
-rule-number : (k : Rules) → (falseOr k ≡ 12 → ⊥) × (unknownOr k ≡ 12 → ⊥)
+rule-number : (k : Rules) → (falseNumber k ≡ 12 → ⊥) × (unknownNumber k ≡ 12 → ⊥)
 rule-number preconditions = (λ e. omega arith, λ e. omega arith)
 rule-number invariants = (λ e. omega arith, λ e. omega arith)
 

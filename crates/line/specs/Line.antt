@@ -12,13 +12,13 @@ use Rattle.reader.specs.Bytes.{Bytes, ascii, choose}
 use Rattle.reader.specs.Refusal.{Refusal, Rules, guardUnknown, invariants, lineTooLong, noId, noInput, noOutcome, notASource, notCarried, notJson, notUtf8, numberTooLong, preconditions, repeatedName, ruleFalse, ruleUnknown, tooDeep, tooLong, tooManyNodes, unknownExpression, workTooSmall, wrongShape, wrongSheet, wrongState}
 
 -- the numbers of a rule that is False, and of one that is Unknown
-abbrev pub falseOr : Rules → ℕ
-falseOr preconditions = 15
-falseOr invariants = 17
+abbrev pub falseNumber : Rules → ℕ
+falseNumber preconditions = 15
+falseNumber invariants = 17
 
-abbrev pub unknownOr : Rules → ℕ
-unknownOr preconditions = 16
-unknownOr invariants = 18
+abbrev pub unknownNumber : Rules → ℕ
+unknownNumber preconditions = 16
+unknownNumber invariants = 18
 
 unfoldable pub refusalNumber : Refusal → ℕ
 refusalNumber workTooSmall = 1
@@ -35,8 +35,8 @@ refusalNumber notCarried = 11
 refusalNumber noInput = 12
 refusalNumber (unknownExpression e) = 13
 refusalNumber noId = 14
-refusalNumber (ruleFalse k i n m) = falseOr k
-refusalNumber (ruleUnknown k i n m ns) = unknownOr k
+refusalNumber (ruleFalse k i n m) = falseNumber k
+refusalNumber (ruleUnknown k i n m ns) = unknownNumber k
 refusalNumber noOutcome = 19
 refusalNumber (guardUnknown i n ns) = 20
 refusalNumber (wrongState s) = 21
@@ -146,8 +146,8 @@ refusalForm notCarried = none
 refusalForm noInput = none
 refusalForm (unknownExpression e) = some (refusedForm 13 (quoted e ∷ []))
 refusalForm noId = some (refusedForm 14 (quoted (ascii "$id") ∷ []))
-refusalForm (ruleFalse k i n m) = some (refusedForm (falseOr k) (decimalDigits i ∷ nameOr n ∷ messageOr (ascii "condition evaluated to false") m ∷ []))
-refusalForm (ruleUnknown k i n m ns) = some (refusedForm (unknownOr k) (decimalDigits i ∷ nameOr n ∷ messageOr (ascii "condition could not be evaluated") m ∷ names ns ∷ []))
+refusalForm (ruleFalse k i n m) = some (refusedForm (falseNumber k) (decimalDigits i ∷ nameOr n ∷ messageOr (ascii "condition evaluated to false") m ∷ []))
+refusalForm (ruleUnknown k i n m ns) = some (refusedForm (unknownNumber k) (decimalDigits i ∷ nameOr n ∷ messageOr (ascii "condition could not be evaluated") m ∷ names ns ∷ []))
 refusalForm noOutcome = some (refusedForm 19 [])
 refusalForm (guardUnknown i n ns) = some (refusedForm 20 (decimalDigits i ∷ quoted n ∷ names ns ∷ []))
 refusalForm (wrongState s) = some (refusedForm 21 (quoted s ∷ []))

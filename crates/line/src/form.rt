@@ -18,7 +18,7 @@ ghost use Rattle.reader.specs.Cursor.{OnText};
 ghost use Rattle.reader.specs.Spans.{textAt};
 ghost use Rattle.reader.specs.Table.{valueAt};
 ghost use Rattle.line.specs.Laid.{Laid, Room};
-ghost use Rattle.line.specs.Line.{decimalDigits, falseOr, form, listed, messageOr, nameOr, names, opened, quoted, quotedOr, refusedForm, unknownOr};
+ghost use Rattle.line.specs.Line.{decimalDigits, falseNumber, form, listed, messageOr, nameOr, names, opened, quoted, quotedOr, refusedForm, unknownNumber};
 ghost use Rattle.line.specs.Meaning.{RuleHeld, namesIn, rulesOf};
 ghost use Rattle.line.specs.Texts.{IsText, NamesHeld, TextsHeld, textOf, textsIn};
 
@@ -168,7 +168,7 @@ fn refused_rule(
 
 pub fn rule_false(out: &mut [u8], limit: usize, at: usize, s: &[u8], r: Rule) -> usize
     requires { ⌜ Room limit (now out) at × RuleHeld (now s) r ⌝ }
-    ensures { λ p. ⌜ Laid limit (now (out .entry)) at (refusedForm (falseOr (rulesOf (r .rules))) (decimalDigits (r .place) ∷ nameOr (textOf (now (s .entry)) (r .name)) ∷ messageOr (ascii "condition evaluated to false") (textOf (now (s .entry)) (r .message)) ∷ [])) (now (out .exit)) p ⌝ }
+    ensures { λ p. ⌜ Laid limit (now (out .entry)) at (refusedForm (falseNumber (rulesOf (r .rules))) (decimalDigits (r .place) ∷ nameOr (textOf (now (s .entry)) (r .name)) ∷ messageOr (ascii "condition evaluated to false") (textOf (now (s .entry)) (r .message)) ∷ [])) (now (out .exit)) p ⌝ }
 {
     let rules = r.rules;
     let n = false_number(rules);
@@ -185,7 +185,7 @@ pub fn rule_unknown(
     r: Rule,
 ) -> usize
     requires { ⌜ Room limit (now out) at × RuleHeld (now s) r × NamesHeld (now s) (now work) ⌝ }
-    ensures { λ p. ⌜ Laid limit (now (out .entry)) at (refusedForm (unknownOr (rulesOf (r .rules))) (decimalDigits (r .place) ∷ nameOr (textOf (now (s .entry)) (r .name)) ∷ messageOr (ascii "condition could not be evaluated") (textOf (now (s .entry)) (r .message)) ∷ names (namesIn (now (s .entry)) (now (work .entry))) ∷ [])) (now (out .exit)) p ⌝ }
+    ensures { λ p. ⌜ Laid limit (now (out .entry)) at (refusedForm (unknownNumber (rulesOf (r .rules))) (decimalDigits (r .place) ∷ nameOr (textOf (now (s .entry)) (r .name)) ∷ messageOr (ascii "condition could not be evaluated") (textOf (now (s .entry)) (r .message)) ∷ names (namesIn (now (s .entry)) (now (work .entry))) ∷ [])) (now (out .exit)) p ⌝ }
 {
     let rules = r.rules;
     let n = unknown_number(rules);
@@ -203,7 +203,7 @@ pub fn rule_unknown(
 
 // The number of a rule that is False.
 pub fn false_number(k: Rules) -> usize
-    ensures { λ r. ⌜ r ≡ falseOr (rulesOf k) ⌝ }
+    ensures { λ r. ⌜ r ≡ falseNumber (rulesOf k) ⌝ }
 {
     match k {
         Rules::Preconditions => 15,
@@ -213,7 +213,7 @@ pub fn false_number(k: Rules) -> usize
 
 // The number of a rule that is Unknown.
 pub fn unknown_number(k: Rules) -> usize
-    ensures { λ r. ⌜ r ≡ unknownOr (rulesOf k) ⌝ }
+    ensures { λ r. ⌜ r ≡ unknownNumber (rulesOf k) ⌝ }
 {
     match k {
         Rules::Preconditions => 16,
