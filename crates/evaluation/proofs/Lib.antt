@@ -2,3 +2,9 @@ pub mod Names
 pub mod Later
 pub mod Kleene
 pub mod Slips
+pub mod Stands
+pub mod Layers
+pub mod Nesting
+pub mod Judge
+pub mod Limits
+pub mod Samples

@@ -7,3 +7,6 @@ pub mod Equality
 pub mod Forms
 pub mod Evaluate
 pub mod Readings
+pub mod Lazy
+pub mod Shape
+pub mod Judge
