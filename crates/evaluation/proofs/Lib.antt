@@ -8,3 +8,5 @@ pub mod Nesting
 pub mod Judge
 pub mod Limits
 pub mod Samples
+pub mod Units
+pub mod Matching

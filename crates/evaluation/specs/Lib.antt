@@ -10,3 +10,5 @@ pub mod Readings
 pub mod Lazy
 pub mod Shape
 pub mod Judge
+pub mod Path
+pub mod Told

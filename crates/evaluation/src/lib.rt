@@ -1,1 +1,4 @@
-// The definitions of the crate stand in specs/, its laws in proofs/.
+// Evaluation of conditions over the reader's table. The definitions stand in specs/, the laws in proofs/.
+pub mod path;
+pub mod truth;
+pub mod written;
