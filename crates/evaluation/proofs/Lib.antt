@@ -10,3 +10,5 @@ pub mod Limits
 pub mod Samples
 pub mod Units
 pub mod Matching
+pub mod Stack
+pub mod Words

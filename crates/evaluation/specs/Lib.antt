@@ -12,3 +12,5 @@ pub mod Shape
 pub mod Judge
 pub mod Path
 pub mod Told
+pub mod Stack
+pub mod Stored

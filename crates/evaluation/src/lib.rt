@@ -1,4 +1,7 @@
 // Evaluation of conditions over the reader's table. The definitions stand in specs/, the laws in proofs/.
+pub mod frames;
+pub mod operand;
 pub mod path;
+pub mod rows;
 pub mod truth;
 pub mod written;
