@@ -12,3 +12,4 @@ pub mod Units
 pub mod Matching
 pub mod Stack
 pub mod Words
+pub mod Ordered

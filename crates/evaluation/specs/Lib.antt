@@ -14,3 +14,4 @@ pub mod Path
 pub mod Told
 pub mod Stack
 pub mod Stored
+pub mod Children
