@@ -13,3 +13,7 @@ pub mod Matching
 pub mod Stack
 pub mod Words
 pub mod Ordered
+pub mod Trees
+pub mod Unbound
+pub mod Lookup
+pub mod Reaching

@@ -15,3 +15,5 @@ pub mod Told
 pub mod Stack
 pub mod Stored
 pub mod Children
+pub mod Reached
+pub mod Rooted

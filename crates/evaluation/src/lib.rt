@@ -1,8 +1,10 @@
 // Evaluation of conditions over the reader's table. The definitions stand in specs/, the laws in proofs/.
 pub mod children;
 pub mod frames;
+pub mod member;
 pub mod operand;
 pub mod path;
+pub mod roots;
 pub mod rows;
 pub mod truth;
 pub mod written;
