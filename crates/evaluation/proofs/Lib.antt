@@ -17,3 +17,4 @@ pub mod Trees
 pub mod Unbound
 pub mod Lookup
 pub mod Reaching
+pub mod Slices

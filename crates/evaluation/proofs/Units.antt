@@ -24,7 +24,11 @@ use Rattle.reader.specs.Utf8.{encode}
 use Rattle.evaluation.specs.Expression.{parts, push}
 use Rattle.evaluation.specs.Operand.{afterDollar, escaped, expression, plain, readText}
 use Rattle.evaluation.specs.Path.{further, part}
-use Rattle.evaluation.specs.Told.{Behind, High, UnitIs, UnitTold}
+use Rattle.evaluation.specs.Told.{Behind, High, RestTold, UnitIs, UnitTold, WrittenTold}
+use Rattle.evaluation.specs.declared.path.Rest.{Rest}
+use Rattle.evaluation.specs.declared.path.Rest.the-variants as rests
+use Rattle.evaluation.specs.declared.written.Written as writtens
+use Rattle.evaluation.specs.declared.written.Written.the-variants as writing
 use Rattle.evaluation.specs.declared.written.Unit as units
 use Rattle.evaluation.specs.declared.written.Unit.the-variants as unit
 use Rattle.reader.specs.declared.escape.Scalar.{Scalar}
@@ -200,3 +204,25 @@ unit-was {s} {at} x h e = subst (UnitTold s at) e h
 pub unit-ended : (s : Bytes) (at : ℕ) {r : units.Unit} → UnitTold s at r → r ≡ unit.End → textAt s at ≡ []
 unfolding UnitTold
 unit-ended s at h e = subst (UnitTold s at) e h
+
+pub rest-was : {path : Bytes} {r : Rest} (p : ℕ) → RestTold path r → r ≡ rests.At p → (further (textAt path 0) ≡ some (textAt path p)) × OnText path p 0 × (0 < p) × (p ≤ length path)
+unfolding RestTold
+rest-was {path} p h e = subst (RestTold path) e h
+
+pub rest-none : (path : Bytes) {r : Rest} → RestTold path r → r ≡ rests.Nothing → further (textAt path 0) ≡ none
+unfolding RestTold
+rest-none path h e = subst (RestTold path) e h
+
+-- of a text that starts at a
+module _ (s : Bytes) {a b : ℕ} {r : writtens.Written} (h : WrittenTold s a r) (q : a ≡ b) where
+  pub was-plain : r ≡ writing.Plain → readText (textAt s b) ≡ plain
+  unfolding WrittenTold
+  was-plain e = rw (sym q) (subst (WrittenTold s a) e h)
+
+  pub was-escaped : (p : ℕ) → r ≡ writing.Escaped p → (readText (textAt s b) ≡ escaped (textAt s p)) × Behind s b p
+  unfolding WrittenTold
+  was-escaped p e = rw (sym q) (subst (WrittenTold s a) e h)
+
+  pub was-expression : (p : ℕ) → r ≡ writing.Expression p → (readText (textAt s b) ≡ expression (textAt s p)) × Behind s b p
+  unfolding WrittenTold
+  was-expression p e = rw (sym q) (subst (WrittenTold s a) e h)

@@ -17,3 +17,4 @@ pub mod Stored
 pub mod Children
 pub mod Reached
 pub mod Rooted
+pub mod Ready

@@ -4,6 +4,7 @@ pub mod frames;
 pub mod member;
 pub mod operand;
 pub mod path;
+pub mod reach;
 pub mod roots;
 pub mod rows;
 pub mod truth;

@@ -108,7 +108,7 @@ pub fn or_null(found: Looked) -> Operand
     }
 }
 
-fn nothing() -> Operand
+pub fn nothing() -> Operand
     ensures { λ r. ⌜ r ≡ record { node = 0; depth = 0; kind = Null } ⌝ }
 {
     Operand {
