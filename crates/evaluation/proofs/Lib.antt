@@ -18,3 +18,5 @@ pub mod Unbound
 pub mod Lookup
 pub mod Reaching
 pub mod Slices
+pub mod Layered
+pub mod Alike

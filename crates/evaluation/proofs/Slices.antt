@@ -145,3 +145,10 @@ touch-falls l e = omega arith
 
 pub look-falls : (l m n k : ℕ) {t : ℕ} → 40000 * l ≡ t → (l ≡ 0 → ⊥) → m ≡ n - k → n ≤ 32768 → 40000 * (l - 1) + m + 3 < t
 look-falls l m n k e z q h = omega arith
+
+-- what falls in equality: layers left
+pub layer-falls : (l : ℕ) {t : ℕ} → 2 * l ≡ t → (l ≡ 0 → ⊥) → 2 * (l - 1) + 1 < t
+layer-falls l e h = omega arith
+
+pub part-falls : (l : ℕ) {t : ℕ} → 2 * l + 1 ≡ t → 2 * l < t
+part-falls l e = omega arith

@@ -18,3 +18,5 @@ pub mod Children
 pub mod Reached
 pub mod Rooted
 pub mod Ready
+pub mod Layered
+pub mod Matched

@@ -1,6 +1,8 @@
 // Evaluation of conditions over the reader's table. The definitions stand in specs/, the laws in proofs/.
 pub mod children;
+pub mod equal;
 pub mod frames;
+pub mod layer;
 pub mod member;
 pub mod operand;
 pub mod path;
