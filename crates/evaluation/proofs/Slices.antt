@@ -152,3 +152,7 @@ layer-falls l e h = omega arith
 
 pub part-falls : (l : ℕ) {t : ℕ} → 2 * l + 1 ≡ t → 2 * l < t
 part-falls l e = omega arith
+
+-- what falls in resolving: brackets left
+pub parts-falls : (l : ℕ) {t : ℕ} → 2 * l ≡ t → 1 ≤ l → 2 * (l - 1) + 1 < t
+parts-falls l e h = omega arith

@@ -20,3 +20,4 @@ pub mod Rooted
 pub mod Ready
 pub mod Layered
 pub mod Matched
+pub mod Marks

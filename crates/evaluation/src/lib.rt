@@ -7,6 +7,7 @@ pub mod member;
 pub mod operand;
 pub mod path;
 pub mod reach;
+pub mod resolve;
 pub mod roots;
 pub mod rows;
 pub mod truth;
