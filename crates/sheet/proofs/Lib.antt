@@ -1,3 +1,4 @@
+pub mod Accepted
 pub mod Conditions
 pub mod Counts
 pub mod Digits

@@ -5,6 +5,7 @@ pub mod member;
 pub mod node;
 pub mod outcome;
 pub mod rule;
+pub mod shape;
 pub mod sheet;
 pub mod word;
 pub mod written;

@@ -1,0 +1,92 @@
+-- What is known of an accepted sheet: which node of the table gives each of its members.
+-- Assumes nothing.
+use mathlib.Core.List.{List}
+use mathlib.Core.Option.{Option, none, some}
+use mathlib.Core.Bool.{true}
+use mathlib.Core.Path.{_≡_}
+use Prim.Native.Nat.{ℕ}
+use Rattle.reader.specs.Bytes.{Bytes}
+use Rattle.reader.specs.Held.{IsNode}
+use Rattle.reader.specs.Json.{Value}
+use Rattle.reader.specs.Limits.{maxNumber, tidy}
+use Rattle.reader.specs.Reader.{json}
+use Rattle.reader.specs.Refusal.{Result, notCarried, ok, refused, wrongShape, wrongSheet}
+use Rattle.reader.specs.Sorted.{sorted}
+use Rattle.reader.specs.Table.{valueAt}
+use Rattle.reader.specs.declared.rows.Found.{Found}
+use Rattle.reader.specs.declared.rows.Found.the-variants as founds
+use Rattle.sheet.specs.Condition.{Condition, condition}
+use Rattle.sheet.specs.Kinds.{aText, aVersion, anArrayOf, anObject}
+use Rattle.sheet.specs.Outcome.{anOutcome}
+use Rattle.sheet.specs.Rule.{aRule}
+use Rattle.sheet.specs.Sheet.{Sheet, readSheet}
+use Rattle.sheet.specs.declared.shape.Members.{Members}
+use Rattle.sheet.specs.declared.shape.Shape.{Shape}
+use Rattle.sheet.specs.declared.shape.Shape.the-variants as shapes
+use Rattle.sheet.specs.declared.sheet.SheetMembers.{SheetMembers}
+
+-- the table holds the tree that the sheet's text spells: what reading it leaves
+pub record Stored (s : Bytes) (w : List ℕ) : Type 0 where
+  pub reads : json s ≡ ok (valueAt s w 0)
+  pub node : IsNode s w 64 0
+
+-- the node's value, sorted, gives what the kind makes of it; no name is repeated in it
+pub record Gives {A : Type 0} (kind : Value → Result A) (s : Bytes) (w : List ℕ) (n : ℕ) (a : A) : Type 0 where
+  pub node : IsNode s w 64 n
+  pub isTidy : tidy maxNumber (valueAt s w n) ≡ true
+  pub is : kind (sorted (valueAt s w n)) ≡ ok a
+
+-- the same of a member that may be missing
+unfoldable pub MayGive : {A : Type 0} → (Value → Result A) → Bytes → List ℕ → Found → Option A → Type 0
+MayGive kind s w founds.Nothing o = o ≡ none
+MayGive {A} kind s w (founds.At n) o = (a : A) × (o ≡ some a) × Gives kind s w n a
+
+-- the node of a member that is there
+unfoldable pub nodeOf : Found → ℕ
+nodeOf founds.Nothing = 0
+nodeOf (founds.At n) = n
+
+unfoldable pub membersOf : SheetMembers → Members
+unfolding nodeOf
+membersOf m =
+    record {
+      id = m .id;
+      entity = nodeOf (m .entity);
+      version = nodeOf (m .version);
+      args = nodeOf (m .args);
+      fields = nodeOf (m .fields);
+      «old_fields» = nodeOf (m .«old_fields»);
+      «from_state» = m .«from_state»;
+      «to_state» = nodeOf (m .«to_state»);
+      state = m .state;
+      states = nodeOf (m .states);
+      condition = m .condition;
+      preconditions = nodeOf (m .preconditions);
+      invariants = nodeOf (m .invariants);
+      outcomes = nodeOf (m .outcomes);
+    }
+
+-- the sheet that is read, and the node that gives each of its members
+pub record Accepted (s : Bytes) (w : List ℕ) (m : Members) (sheet : Sheet Condition) : Type 0 where
+  pub reads : readSheet s ≡ ok sheet
+  pub id : MayGive aText s w (m .id) (sheet .id)
+  pub entity : Gives aText s w (m .entity) (sheet .entity)
+  pub version : Gives aVersion s w (m .version) (sheet .version)
+  pub args : Gives anObject s w (m .args) (sheet .args)
+  pub fields : Gives anObject s w (m .fields) (sheet .fields)
+  pub oldFields : Gives anObject s w (m .«old_fields») (sheet .oldFields)
+  pub fromState : MayGive aText s w (m .«from_state») (sheet .fromState)
+  pub toState : Gives aText s w (m .«to_state») (sheet .toState)
+  pub state : MayGive aText s w (m .state) (sheet .state)
+  pub states : Gives (anArrayOf aText) s w (m .states) (sheet .states)
+  pub itsCondition : MayGive condition s w (m .condition) (sheet .condition)
+  pub preconditions : Gives (anArrayOf (aRule condition)) s w (m .preconditions) (sheet .preconditions)
+  pub invariants : Gives (anArrayOf (aRule condition)) s w (m .invariants) (sheet .invariants)
+  pub outcomes : Gives (anArrayOf (anOutcome condition)) s w (m .outcomes) (sheet .outcomes)
+
+-- what the answer says: the refusal, or the sheet
+unfoldable pub Shaped : Bytes → List ℕ → Shape → Type 0
+Shaped s w shapes.WrongSheet = readSheet s ≡ refused wrongSheet
+Shaped s w shapes.WrongShape = readSheet s ≡ refused wrongShape
+Shaped s w shapes.NotCarried = readSheet s ≡ refused notCarried
+Shaped s w (shapes.Is m) = (sheet : Sheet Condition) × Accepted s w m sheet
