@@ -8,3 +8,4 @@ pub mod Naming
 pub mod Sourcing
 pub mod Forms
 pub mod Answers
+pub mod Samples

@@ -4,6 +4,7 @@ use mathlib.Core.Path.{ap, _∙_}
 use lib.ListN.{length, length-set}
 use Rattle.line.proofs.Answers.{emitted-23, emitted-line, emitted-none}
 use Rattle.line.proofs.Laying.{measured, same-size, too-long, written}
+use native.Mathlib.Omega.{arith}
 use borrow.Author.Needs.{needs}
 use Rattle.line.proofs.emit.emit.Statement.{statement}
 use Rattle.line.proofs.emit.emit.Tie as tie
@@ -36,7 +37,7 @@ returns-2 c =
     let a = c .before .before .before .before .before .before .before .before .before .before .args in
     rw
     (measured (c .before .before .before .form .ensures) (a .out .now))
-    (emitted-23 (a .s .now) (a .work .now) (a .a) (a .out .now) (c .before .before .before .before .before .before .number .ensures (a .s .now) (a .work .now)) (c .before .before .before .before .before .if1 .left) (too-long (c .before .before .before .form .ensures) (c .if2 .taken)))
+    (emitted-23 (a .s .now) (a .work .now) (a .a) (a .out .now) (c .before .before .before .before .before .before .number .ensures (a .s .now) (a .work .now)) (c .before .before .before .before .before .if1 .left) (too-long (c .before .before .before .form .ensures) (omega arith)))
 
 form-requires-2 : tie.Need-form-requires-2
 form-requires-2 c κs = search needs
@@ -50,7 +51,7 @@ same-length-2 c = simp length-set (same-size (c .before .before .form2 .ensures)
 returns-3 : tie.Need-returns-3
 returns-3 c =
     let a = c .before .before .before .before .before .before .before .before .before .before .before .before .before .before .args in
-    let r = written (c .before .before .before .before .before .before .before .form .ensures) (a .out .now) (c .before .before .before .before .if2 .left) (c .before .before .form2 .ensures) in
+    let r = written (c .before .before .before .before .before .before .before .form .ensures) (a .out .now) (omega arith) (c .before .before .form2 .ensures) in
     emitted-line (a .s .now) (a .work .now) (a .a) (a .out .now) (c .before .before .before .before .before .before .before .before .before .before .number .ensures (a .s .now) (a .work .now)) (c .before .before .before .before .before .before .before .before .before .if1 .left) (r .0) (r .1) (r .2)
 
 pub emit-spec : {M : Type 1} → statement M

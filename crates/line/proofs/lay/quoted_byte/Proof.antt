@@ -3,6 +3,7 @@
 use mathlib.Core.Path.{sym, _∙_}
 use Rattle.line.proofs.Laying.{then, told}
 use Rattle.line.proofs.Digits.{backslash-escaped, byte-itself, control-escaped, quote-escaped}
+use native.Mathlib.Omega.{arith}
 use borrow.Author.Needs.{needs}
 use Rattle.line.proofs.lay.quoted_byte.Statement.{statement}
 use Rattle.line.proofs.lay.quoted_byte.Tie as tie
@@ -55,7 +56,7 @@ same-length-3 c = search needs
 returns-3 : tie.Need-returns-3
 returns-3 c =
     told
-    (sym (control-escaped (c .before .before .before .before .before .before .before .before .before .before .before .before .before .before .before .before .before .before .before .args .b) (c .before .before .before .before .before .before .before .before .before .before .before .before .before .before .before .before .before .if1 .left) (c .before .before .before .before .before .before .before .before .before .before .before .before .before .before .before .before .if2 .left) (c .before .before .before .before .before .before .before .before .before .before .before .before .before .before .before .if3 .taken) ∙ rw (← c .before .before .before .before .before .before .before .before .hex .ensures, ← c .before .before .before .hex2 .ensures)))
+    (sym (control-escaped (c .before .before .before .before .before .before .before .before .before .before .before .before .before .before .before .before .before .before .before .args .b) (c .before .before .before .before .before .before .before .before .before .before .before .before .before .before .before .before .before .if1 .left) (c .before .before .before .before .before .before .before .before .before .before .before .before .before .before .before .before .if2 .left) (omega arith) ∙ rw (← c .before .before .before .before .before .before .before .before .hex .ensures, ← c .before .before .before .hex2 .ensures)))
     (then (then (c .before .before .before .before .before .before .before .before .before .before .before .before .bytes3 .ensures) (c .before .before .before .before .before .before .before .byte .ensures)) (c .before .before .byte2 .ensures))
 
 byte-requires-3 : tie.Need-byte-requires-3
@@ -65,7 +66,7 @@ same-length-4 : tie.Need-same-length-4
 same-length-4 c = search needs
 
 returns-4 : tie.Need-returns-4
-returns-4 c = told (sym (byte-itself (c .before .before .before .before .before .before .before .before .args .b) (c .before .before .before .before .before .before .if1 .left) (c .before .before .before .before .before .if2 .left) (c .before .before .before .before .if3 .left))) (c .before .before .byte3 .ensures)
+returns-4 c = told (sym (byte-itself (c .before .before .before .before .before .before .before .before .args .b) (c .before .before .before .before .before .before .if1 .left) (c .before .before .before .before .before .if2 .left) (omega arith))) (c .before .before .byte3 .ensures)
 
 pub quoted-byte-spec : {M : Type 1} → statement M
 quoted-byte-spec =
