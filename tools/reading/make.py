@@ -4,13 +4,19 @@
 The answers come from a model of the paper's reading, written from the paper and from RFC 8259 alone, not from the definitions. Each tree of an
 accepted text is also held against Python's own json, and each text that is refused with 4 must be refused there too, but for lone surrogates.
 
-    scripts/reading.py          writes both files again (the random part comes from a fixed seed)
+    tools/reading/make.py          writes both files again (the random part comes from a fixed seed)
+
+JSONTestSuite is fetched with Debian's source package libcpanel-json-xs-perl, which wants a deb-src line for apt-get; JSON_checker's texts are those of
+Python's own tests (Debian's package libpython3.11-testsuite).
 """
 import json
 import os
+import pathlib
 import random
 import re
+import subprocess
 import sys
+import tempfile
 
 BYTES, BRACKETS, NODES, NUMBER = 32768, 64, 4096, 255
 NULL, TRUE, FALSE, NUMERAL, TEXT, ARRAY, OBJECT = range(7)
@@ -262,13 +268,27 @@ def by_hand():
 
 
 def published():
-    """JSON_checker's texts as Python's own tests have them, where they are installed."""
-    try:
-        from test.test_json import test_fail, test_pass1, test_pass2, test_pass3
-    except ImportError:
-        return
+    """JSON_checker's texts as Python's own tests have them."""
+    from test.test_json import test_fail, test_pass1, test_pass2, test_pass3
+
     yield from (d.encode() for d in test_fail.JSONDOCS)
     yield from (m.JSON.encode() for m in (test_pass1, test_pass2, test_pass3))
+
+
+def suite():
+    """JSONTestSuite's files that have at most one byte more than a sheet may have. A file y_* is JSON, n_* is not, i_* may be either."""
+    with tempfile.TemporaryDirectory() as folder:
+        subprocess.run(["apt-get", "source", "--download-only", "libcpanel-json-xs-perl"], cwd=folder, check=True, capture_output=True)
+        subprocess.run("tar xf libcpanel-json-xs-perl_*.orig.tar.gz", cwd=folder, shell=True, check=True)
+        for file in sorted(pathlib.Path(folder).glob("*/t/test_parsing/*.json")):
+            text = file.read_bytes()
+            got = answer(text)
+            if file.name.startswith("n_"):
+                assert got in (2, 3, 4), file.name
+            elif file.name.startswith("y_") and "utf16" not in file.name and "utf32" not in file.name:
+                assert got == 8 if "duplicated_key" in file.name else isinstance(got, list), file.name
+            if len(text) <= BYTES + 1:
+                yield text
 
 
 def drawn(rng, depth):
@@ -303,8 +323,8 @@ def random_texts(rng, count):
 
 
 def main():
-    here = os.path.join(os.path.dirname(os.path.abspath(__file__)), "..", "crates", "reading")
-    texts = list(by_hand()) + list(limits()) + list(published()) + list(random_texts(random.Random(1), 2000))
+    here = os.path.join(os.path.dirname(os.path.abspath(__file__)), "..", "..", "crates", "reading")
+    texts = list(by_hand()) + list(limits()) + list(published()) + list(suite()) + list(random_texts(random.Random(1), 2000))
     with open(os.path.join(here, "stdin"), "wb") as lines, open(os.path.join(here, "stdout"), "wb") as answers:
         answers.write(b"1\n")
         for text in texts:
