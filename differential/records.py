@@ -1,0 +1,93 @@
+"""Records of calls with their expected answers, and the programs that make them.
+
+A record is one line of eight fields with a tab between: call, place, work words, output bytes, form, sheet, number, line. The form is `text` where the
+sheet stands as it is, and `hex` where it holds a byte that cannot stand in a field. The number is 0 where nothing is refused; the line is without its
+LF, and `-` where there is none.
+"""
+
+import pathlib
+import subprocess
+from typing import NamedTuple, Optional
+
+ROOT = pathlib.Path(__file__).resolve().parent.parent
+PROGRAMS = ROOT / "target" / "differential" / "release"
+CALLS = ["evaluate", "preconditions", "invariants", "select", "admit", "decide"]
+WORK = 16384
+OUTPUT = 65536
+
+
+class Record(NamedTuple):
+    call: str
+    place: int
+    work: int
+    output: int
+    sheet: bytes
+    number: int
+    line: Optional[bytes]
+
+
+def plain(sheet: bytes) -> bool:
+    """Whether a sheet can stand in a field as it is."""
+    try:
+        sheet.decode("utf-8")
+    except UnicodeDecodeError:
+        return False
+    return not any(byte < 32 for byte in sheet)
+
+
+def written(record: Record) -> bytes:
+    form, sheet = (b"text", record.sheet) if plain(record.sheet) else (b"hex", record.sheet.hex().encode())
+    head = f"{record.call}\t{record.place}\t{record.work}\t{record.output}\t".encode()
+    return head + form + b"\t" + sheet + b"\t" + str(record.number).encode() + b"\t" + (b"-" if record.line is None else record.line)
+
+
+def read(path) -> list:
+    records = []
+    for text in pathlib.Path(path).read_bytes().split(b"\n")[:-1]:
+        call, place, work, output, form, sheet, number, line = text.split(b"\t")
+        sheet = bytes.fromhex(sheet.decode()) if form == b"hex" else sheet
+        records.append(Record(call.decode(), int(place), int(work), int(output), sheet, int(number), None if line == b"-" else line))
+    return records
+
+
+def write(path, records) -> None:
+    pathlib.Path(path).write_bytes(b"".join(written(record) + b"\n" for record in records))
+
+
+def build() -> None:
+    subprocess.run(["cargo", "build", "--release", "--quiet"], cwd=ROOT / "differential", check=True)
+
+
+def generated(seed: int, count: int, shape: str) -> list:
+    done = subprocess.run([PROGRAMS / "generate", str(seed), str(count), shape], stdout=subprocess.PIPE, check=True)
+    return done.stdout.split(b"\n")[:-1]
+
+
+def answered(calls) -> list:
+    """The oracle's records for (call, place, sheet) with work and output enough."""
+    texts = [f"{call} {place} ".encode() + sheet for call, place, sheet in calls]
+    done = subprocess.run([PROGRAMS / "oracle"], input=b"".join(text + b"\n" for text in texts), stdout=subprocess.PIPE, check=True)
+    records = []
+    for (call, place, sheet), answer in zip(calls, done.stdout.split(b"\n")[:-1], strict=True):
+        number, line = answer.split(b" ", 1)
+        records.append(Record(call, place, WORK, OUTPUT, sheet, int(number), None if line == b"-" else line))
+    return records
+
+
+def histogram(records) -> str:
+    """How often each answer occurs, by call."""
+    counts: dict = {}
+    for record in records:
+        words = (record.line or b"").split(b" ")
+        word = str(record.number)
+        if record.number == 0:
+            word = words[0].strip(b"()").decode()
+            word = words[1].decode() if word == "truth" else word
+        of_call = counts.setdefault(record.call, {})
+        of_call[word] = of_call.get(word, 0) + 1
+    rows = []
+    for call in CALLS:
+        if call in counts:
+            row = sorted(counts[call].items(), key=lambda item: (item[0].isdigit(), item[0].zfill(3)))
+            rows.append(f"  {call}: " + ", ".join(f"{word} {count}" for word, count in row))
+    return "\n".join(rows)
