@@ -9,11 +9,14 @@ import pathlib
 import subprocess
 from typing import NamedTuple, Optional
 
+import reading
+
 ROOT = pathlib.Path(__file__).resolve().parent.parent
 PROGRAMS = ROOT / "target" / "differential" / "release"
 CALLS = ["evaluate", "preconditions", "invariants", "select", "admit", "decide"]
 WORK = 16384
 OUTPUT = 65536
+SPACED = bytes.maketrans(b"\n\r", b"  ")
 
 
 class Record(NamedTuple):
@@ -64,14 +67,31 @@ def generated(seed: int, count: int, shape: str) -> list:
 
 
 def answered(calls) -> list:
-    """The oracle's records for (call, place, sheet) with work and output enough."""
-    texts = [f"{call} {place} ".encode() + sheet for call, place, sheet in calls]
+    """The oracle's records for (call, place, sheet) with work and output enough. A sheet's newlines stand between its tokens, as spaces do."""
+    texts = [f"{call} {place} ".encode() + sheet.translate(SPACED) for call, place, sheet in calls]
     done = subprocess.run([PROGRAMS / "oracle"], input=b"".join(text + b"\n" for text in texts), stdout=subprocess.PIPE, check=True)
     records = []
     for (call, place, sheet), answer in zip(calls, done.stdout.split(b"\n")[:-1], strict=True):
         number, line = answer.split(b" ", 1)
         records.append(Record(call, place, WORK, OUTPUT, sheet, int(number), None if line == b"-" else line))
     return records
+
+
+def expected(questions) -> list:
+    """The records for (call, place, work, output, sheet): reading by the model of the paper, the rest by the oracle, and 23 by the line's length."""
+    numbers = [reading.refusal(sheet, work) for _, _, work, _, sheet in questions]
+    accepted = [(call, place, sheet) for (call, place, _, _, sheet), number in zip(questions, numbers) if number == 0]
+    answers = iter(answered(accepted))
+    found = []
+    for (call, place, work, output, sheet), number in zip(questions, numbers):
+        line = None
+        if number == 0:
+            answer = next(answers)
+            number, line = answer.number, answer.line
+        if line is not None and len(line) + 1 > output:
+            number, line = 23, None
+        found.append(Record(call, place, work, output, sheet, number, line))
+    return found
 
 
 def histogram(records) -> str:

@@ -1,0 +1,26 @@
+"""Questions on generated sheets: (call, place, work, output, sheet)."""
+
+import random
+
+import faults
+import records
+
+
+def questions(sheets):
+    for index, sheet in enumerate(sheets):
+        for call in records.CALLS:
+            yield call, index % 3 if call == "admit" else 0, records.WORK, records.OUTPUT, sheet
+
+
+def faulty(seed, sheets):
+    draw = random.Random(seed)
+    for sheet in sheets:
+        sheet = faults.changed(draw, sheet)
+        for call in draw.sample(records.CALLS, 2):
+            yield call, 0, records.WORK, records.OUTPUT, sheet
+
+
+def asked(seed, count, shape):
+    if shape == "faulty":
+        return list(faulty(seed, records.generated(seed, count, "mixed")))
+    return list(questions(records.generated(seed, count, shape)))
