@@ -64,7 +64,9 @@ def sizes():
         yield decided(of_nodes(count))
         yield "admit", 0, WORK, OUTPUT, of_nodes(count)
         yield decided(b"[" + b",".join([b"0"] * (count - 1)) + b"]")
-        yield decided(b"{" + b",".join(b'"%d":0' % index for index in range(count // 2)) + b"}")
+        yield decided(b'{"a":[' + b",".join([b"0"] * (count - 3)) + b"]}")
+    for count in (2047, 2048):
+        yield decided(b"{" + b",".join(b'"%d":0' % index for index in range(count)) + b"}")
 
 
 def brackets():
@@ -112,11 +114,10 @@ def ties():
     yield decided(b"[" * nest + b"0," * filled + b"[")
     yield decided(b"[" * nest + b"0," * (filled - 1) + b"[")
     yield decided(b"[" * (nest - 1) + b"0," * (filled + 1) + b"[")
-    pairs = b",".join(b'"%d":0' % index for index in range(2047))
-    yield decided(b"{" + pairs + b',"0":0}')
-    yield decided(b"[{" + pairs + b',"0":0}]')
-    yield decided(b"[0,{" + pairs + b',"0"')
-    yield decided(b"[0,{" + pairs + b',"x')
+    for count in (4092, 4093, 4094):
+        held = b'{"a":[' + b",".join([b"0"] * count) + b"]"
+        for rest in (b',"a":0}', b',"a"', b',"a', b',"x":0}', b"}"):
+            yield decided(held + rest)
     for text in (
         b'{"a":1,"a"',
         b'{"a":1,"a',

@@ -2,10 +2,11 @@
 
 A record is one line of eight fields with a tab between: call, place, work words, output bytes, form, sheet, number, line. The form is `text` where the
 sheet stands as it is, and `hex` where it holds a byte that cannot stand in a field. The number is 0 where nothing is refused; the line is without its
-LF, and `-` where there is none.
+LF, and `-` where there is none. A line of two fields, sheet and line, is a record of Evaluate.
 """
 
 import pathlib
+import re
 import subprocess
 from typing import NamedTuple, Optional
 
@@ -44,17 +45,28 @@ def written(record: Record) -> bytes:
     return head + form + b"\t" + sheet + b"\t" + str(record.number).encode() + b"\t" + (b"-" if record.line is None else record.line)
 
 
+def parsed(text: bytes) -> Record:
+    fields = text.split(b"\t")
+    if len(fields) == 2:
+        sheet, line = fields
+        refused = re.match(rb"\(refused (\d+)", line)
+        return Record("evaluate", 0, WORK, OUTPUT, sheet, int(refused[1]) if refused else 0, line)
+    call, place, work, output, form, sheet, number, line = fields
+    sheet = bytes.fromhex(sheet.decode()) if form == b"hex" else sheet
+    return Record(call.decode(), int(place), int(work), int(output), sheet, int(number), None if line == b"-" else line)
+
+
 def read(path) -> list:
-    records = []
-    for text in pathlib.Path(path).read_bytes().split(b"\n")[:-1]:
-        call, place, work, output, form, sheet, number, line = text.split(b"\t")
-        sheet = bytes.fromhex(sheet.decode()) if form == b"hex" else sheet
-        records.append(Record(call.decode(), int(place), int(work), int(output), sheet, int(number), None if line == b"-" else line))
-    return records
+    return [parsed(text) for text in pathlib.Path(path).read_bytes().split(b"\n")[:-1]]
 
 
 def write(path, records) -> None:
     pathlib.Path(path).write_bytes(b"".join(written(record) + b"\n" for record in records))
+
+
+def write_conditions(path, records) -> None:
+    """Records of Evaluate in two fields, the sheet and the line."""
+    pathlib.Path(path).write_bytes(b"".join(record.sheet + b"\t" + record.line + b"\n" for record in records))
 
 
 def build() -> None:

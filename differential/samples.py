@@ -6,9 +6,9 @@ import faults
 import records
 
 
-def questions(sheets):
+def questions(sheets, calls):
     for index, sheet in enumerate(sheets):
-        for call in records.CALLS:
+        for call in calls:
             yield call, index % 3 if call == "admit" else 0, records.WORK, records.OUTPUT, sheet
 
 
@@ -23,4 +23,5 @@ def faulty(seed, sheets):
 def asked(seed, count, shape):
     if shape == "faulty":
         return list(faulty(seed, records.generated(seed, count, "mixed")))
-    return list(questions(records.generated(seed, count, shape)))
+    calls = records.CALLS if shape == "mixed" else ["evaluate"]
+    return list(questions(records.generated(seed, count, shape), calls))

@@ -2,7 +2,8 @@
 
 use crate::random::Random;
 
-const PLAIN: &[&str] = &["0", "1", "2", "3", "-1", "-0", "10", "100", "3.61", "3.58", "2.5", "-2.5", "0.00", "1.0", "10e-1", "0.1e1", "1e0", "12", "120", "12e1"];
+const PLAIN: &[&str] =
+    &["0", "1", "2", "3", "-1", "-0", "10", "100", "3.61", "3.58", "2.5", "-2.5", "0.00", "1.0", "10e-1", "0.1e1", "1e0", "12", "120", "12e1"];
 const ODD: &[&str] = &[
     "0e5",
     "-0.0e-7",
@@ -52,7 +53,8 @@ pub fn number(random: &mut Random) -> String {
             let sign = if random.chance(30) { "-" } else { "" };
             let whole = random.below(20);
             let fraction = if random.chance(40) { format!(".{}", random.below(100)) } else { String::new() };
-            let exponent = if random.chance(20) { format!("{}{}{}", random.pick(&["e", "E"]), random.pick(&["", "+", "-"]), random.below(12)) } else { String::new() };
+            let exponent =
+                if random.chance(20) { format!("{}{}{}", random.pick(&["e", "E"]), random.pick(&["", "+", "-"]), random.below(12)) } else { String::new() };
             format!("{sign}{whole}{fraction}{exponent}")
         }
     }

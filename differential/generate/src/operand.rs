@@ -16,7 +16,24 @@ pub struct Operand {
     pub value: Option<Json>,
 }
 
-const UNKNOWN: &[&str] = &["$foo", "$", "$.", "$.a", "$id.x", "$state.", "$entity.", "$argsx", "$version.1", "$from_state.", "$Args.v", "$fields2.a", "$to_state.x", "$old_fields_", "$ args", "$é"];
+const UNKNOWN: &[&str] = &[
+    "$foo",
+    "$",
+    "$.",
+    "$.a",
+    "$id.x",
+    "$state.",
+    "$entity.",
+    "$argsx",
+    "$version.1",
+    "$from_state.",
+    "$Args.v",
+    "$fields2.a",
+    "$to_state.x",
+    "$old_fields_",
+    "$ args",
+    "$é",
+];
 const WHOLE: &[&str] = &["$entity", "$version", "$to_state", "$state", "$args", "$fields", "$old_fields"];
 
 fn step(value: &Json, path: &str) -> Option<Json> {
@@ -180,10 +197,7 @@ pub fn other(random: &mut Random, value: &Json) -> Json {
 
 fn gathered(parts: Vec<Operand>, whole: impl Fn(Vec<Json>) -> Json) -> Operand {
     let value = parts.iter().map(|part| part.value.clone()).collect::<Option<Vec<Json>>>();
-    Operand {
-        written: whole(parts.into_iter().map(|part| part.written).collect()),
-        value: value.map(whole),
-    }
+    Operand { written: whole(parts.into_iter().map(|part| part.written).collect()), value: value.map(whole) }
 }
 
 /// Any operand.

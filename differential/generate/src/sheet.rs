@@ -115,11 +115,12 @@ fn framed(world: &World, rest: Vec<(&str, Json)>) -> Json {
 pub fn mixed(random: &mut Random) -> Json {
     let world = world(random);
     let heavy = random.below(4);
+    let many = if random.chance(3) { 20 } else { 0 };
     let mut rest = vec![
         ("states", states(random)),
-        ("preconditions", rules(random, &world, if heavy == 0 { 4 } else { 1 })),
-        ("invariants", rules(random, &world, if heavy == 1 { 4 } else { 1 })),
-        ("outcomes", outcomes(random, &world, if heavy == 2 { 6 } else { 3 })),
+        ("preconditions", rules(random, &world, if heavy == 0 { 4 + many } else { 1 })),
+        ("invariants", rules(random, &world, if heavy == 1 { 4 + many } else { 1 })),
+        ("outcomes", outcomes(random, &world, if heavy == 2 { 6 + many } else { 3 })),
     ];
     if random.chance(90) {
         rest.push(("state", text(random.pick(STATES))));
@@ -138,6 +139,28 @@ pub fn condition_alone(random: &mut Random) -> Json {
     let aim = aim(random, 30, 30, 20);
     let depth = depth(random) + 1;
     framed(&world, vec![("condition", condition(random, &world, aim, depth))])
+}
+
+/// A small condition on small arguments.
+pub fn small(random: &mut Random) -> Json {
+    let (args, condition) = crate::small::small(random);
+    let fields = object([("a", text("f"))]);
+    let id = random.chance(50).then(|| "i".to_owned());
+    let (text, version) = (String::new(), "1".to_owned());
+    let world = World {
+        args,
+        fields,
+        old_fields: object([]),
+        id,
+        from_state: None,
+        to_state: text.clone(),
+        entity: text,
+        version,
+        unknown: 0,
+        missing: 0,
+        unaddressed: 0,
+    };
+    framed(&world, vec![("condition", condition)])
 }
 
 /// `$c`, or sometimes `$d` where that is bound.

@@ -4,10 +4,44 @@ use crate::json::{text, Json};
 use crate::number::number;
 use crate::random::Random;
 
-const NAMES: &[&str] = &["v", "a", "b", "n", "t", "list", "o", "k", "x", "", "id", "args", "c", "é", "😀", "a b", "q\"q", "u\\u", "$w", "dot.ted", "A", "aa", "null"];
+const NAMES: &[&str] =
+    &["v", "a", "b", "n", "t", "list", "o", "k", "x", "", "id", "args", "c", "é", "😀", "a b", "q\"q", "u\\u", "\0", "$w", "dot.ted", "A", "aa", "null"];
 const TEXTS: &[&str] = &[
-    "", "a", "ab", "abc", "abcabc", "b", "in", "out", "x", "é", "e\u{301}", "😀", "a😀b", "$args.v", "$", "$$", "$foo", "$$foo", "tab\there", "line\nfeed", "q\"uote",
-    "back\\slash", "\u{1}", "\u{7f}", "\u{2028}", "true", "null", "1", "ab.c", "\u{10ffff}", "aab", "aaab", "/",
+    "",
+    "a",
+    "ab",
+    "abc",
+    "abcabc",
+    "b",
+    "in",
+    "out",
+    "x",
+    "é",
+    "e\u{301}",
+    "😀",
+    "a😀b",
+    "$args.v",
+    "$",
+    "$$",
+    "$foo",
+    "$$foo",
+    "tab\there",
+    "line\nfeed",
+    "q\"uote",
+    "back\\slash",
+    "\u{1}",
+    "\u{7f}",
+    "\u{2028}",
+    "true",
+    "null",
+    "1",
+    "ab.c",
+    "\u{10ffff}",
+    "aab",
+    "aaab",
+    "/",
+    "\0",
+    "a\0b",
 ];
 
 /// What may go wrong on a sheet, in percent of the places where it can.
@@ -71,10 +105,21 @@ fn rate(random: &mut Random, often: usize, percent: usize) -> usize {
     }
 }
 
+/// Arguments; now and then many of them.
+fn arguments(random: &mut Random, depth: usize) -> Json {
+    let mut args = some_object(random, depth, 5);
+    if let (Json::Object(members), true) = (&mut args, random.chance(4)) {
+        for index in 0..random.between(10, 60) {
+            members.push((format!("w{index}"), value(random, depth)));
+        }
+    }
+    args
+}
+
 pub fn world(random: &mut Random) -> World {
     let depth = random.between(1, 3);
     World {
-        args: some_object(random, depth, 5),
+        args: arguments(random, depth),
         fields: some_object(random, depth, 3),
         old_fields: some_object(random, 1, 2),
         id: random.chance(60).then(|| some_text(random)),

@@ -43,9 +43,7 @@ fn refused(error: &CoreError, at: usize) -> (u8, String) {
         CoreError::NoOutcomeSelected { .. } => return (19, "(refused 19)".to_owned()),
         CoreError::OutcomeUnobservable { outcome, unresolved, .. } => (20, format!("{at} {} {}", quoted(outcome), listed("names", unresolved))),
         CoreError::InvalidTransition { state, .. } => (21, quoted(state)),
-        CoreError::UnspecifiedMoveSource { outcome, state, from, .. } => {
-            (22, format!("{at} {} {} {}", quoted(outcome), quoted(state), listed("from", from)))
-        }
+        CoreError::UnspecifiedMoveSource { outcome, state, from, .. } => (22, format!("{at} {} {} {}", quoted(outcome), quoted(state), listed("from", from))),
         other => unreachable!("no reference function gives {other}"),
     };
     (number, format!("(refused {number} {rest})"))

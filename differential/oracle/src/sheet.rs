@@ -47,10 +47,7 @@ impl Sheet {
                 entity: members.entity,
                 version: members.version,
                 schema: ObjectSchema::default(),
-                lifecycle: LifecycleDefinition {
-                    initial: String::new(),
-                    states: members.states,
-                },
+                lifecycle: LifecycleDefinition { initial: String::new(), states: members.states },
                 invariants: members.invariants,
                 create: CreateDefinition::default(),
                 operations: Default::default(),
