@@ -1,6 +1,9 @@
 """Conditions written by hand, and the sheet that they stand in: the paper's table, its slips, how open points are read, every form."""
 
-ARGS = '{"v":[3.61,3.58],"a":{"":5,"b":{"":{"c":7}}},"n":null,"t":"abc","o":{"b":2,"a":1},"e":[],"m":{},"x":1.0,"k":{"id":9},"nulls":[null,1],"args":3,"":8,"d.d":4,"$w":6,"deep":[[1,[2]]]}'
+ARGS = (
+    '{"v":[3.61,3.58],"a":{"":5,"b":{"":{"c":7}}},"n":null,"t":"abc","o":{"b":2,"a":1},"e":[],"m":{},"x":1.0,"k":{"id":9},'
+    '"nulls":[null,1],"args":3,"":8,"d.d":4,"$w":6,"deep":[[1,[2]]]}'
+)
 FIELDS = '{"v":2,"t":"$args.v","list":["$$a","$a",{"k":"$id"}]}'
 OLD_FIELDS = '{"v":[{"r":1},{"r":2},{"r":null},{}]}'
 

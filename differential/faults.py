@@ -25,7 +25,11 @@ BYTES = [bytes([byte]) for byte in b'{}[],:"\\0189-+.eEtfnux/ \t\n\r\0\x1f\x7f\x
     b"\\x",
 ]
 
-NAMES = "entity version args fields old_fields to_state id from_state state states preconditions invariants outcomes condition assert name message when in_state wrong_state effect moves to from all any not exists eq ne gt gte lt lte in contains starts_with ends_with for_all for_any before after compare truthy as that x".split() + [""]
+NAMES = """
+entity version args fields old_fields to_state id from_state state states preconditions invariants outcomes condition assert name message
+when in_state wrong_state effect moves to from all any not exists eq ne gt gte lt lte in contains starts_with ends_with for_all for_any
+before after compare truthy as that x
+""".split() + [""]
 
 FAULTY = [
     "null",
@@ -70,7 +74,10 @@ FAULTY = [
     '{"for_all":{"in":{"before":1},"as":"","that":false}}',
 ]
 
-VALUES = ["null", "true", "0", "-0", "1.0", "4294967295", "4294967296", '""', '"none"', '"moves"', '"creates"', "[]", "{}", "[null]", '["a"]', '{"moves":{"to":"a","from":"b"}}', '{"moves":{"to":"a"}}', '{"none":null}', '{"name":"n"}', '{"assert":true}']
+VALUES = [
+    "null", "true", "0", "-0", "1.0", "4294967295", "4294967296", '""', '"none"', '"moves"', '"creates"', "[]", "{}", "[null]", '["a"]',
+    '{"moves":{"to":"a","from":"b"}}', '{"moves":{"to":"a"}}', '{"none":null}', '{"name":"n"}', '{"assert":true}',
+]
 
 
 def bytes_changed(draw: random.Random, sheet: bytes) -> bytes:

@@ -12,6 +12,56 @@ from records import CALLS, OUTPUT, WORK
 
 ZEROS = b"[" + b"0," * 4095
 
+# short texts, JSON or not
+TEXTS = [
+    b"", b" ", b"x", b"\n", b"\x00", b"1 2", b"1,", b"[", b"[1", b"[1,", b"[1,]", b"[,1]", b"]", b"{", b"{}", b'{"a"', b'{"a":', b'{"a":1',
+    b'{"a":1,', b'{"a":1,}', b"{,}", b"{1:1}", b"{a:1}", b"t", b"tru", b"true", b"truex", b"True", b"nul", b"null", b"false", b"fals", b'"', b'"a',
+    b'"a"', b'"a"b', b"'a'", b'"\\', b'"\\x"', b'"\\u12"', b'"\\u12g4"', b'"\\u1234"', b'"\\ud800"', b'"\\udc00"', b'"\\ud800\\ud800"', b'"\\ud800x"',
+    b'"\\ud800\\n"', b'"\\ud800\\udc00"', b'"\\udbff\\udfff"', b'"\\ud7ff\\ue000"', b'"\\u0000"', b'"\x1f"', b'"\x7f"', b'"\t"', b'"\n"', b"/**/1",
+    b"[1]//", b"\xef\xbb\xbf1", b"\xef\xbb\xbf{}", b"\xfe\xff\x00[", b"[\x00]\x00", b"\x0c1", b"\xc2\xa01", b"\t\r\n 1\t\r\n ", b"[1]]", b"{}}",
+    b"[}", b"{]",
+]
+
+# bytes that are not UTF-8
+NOT_UTF8 = [
+    b"\x80", b"\xbf", b"\xc0\x80", b"\xc1\xbf", b"\xe0\x80\x80", b"\xe0\x9f\xbf", b"\xed\xa0\x80", b"\xed\xbf\xbf", b"\xf0\x80\x80\x80",
+    b"\xf0\x8f\xbf\xbf", b"\xf4\x90\x80\x80", b"\xf5\x80\x80\x80", b"\xf8\x88\x80\x80\x80", b"\xfe", b"\xff", b"\xc2", b"\xe1\x80", b"\xf1\x80\x80",
+    b"\xc2\x20", b"\xe1\x80\x20", b"\xf1\x80\x80\x20", b"\xe1\xc2\x80",
+]
+
+# the first and last characters of each length
+UTF8 = [
+    b"\x7f", b"\xc2\x80", b"\xdf\xbf", b"\xe0\xa0\x80", b"\xed\x9f\xbf", b"\xee\x80\x80", b"\xef\xbf\xbf", b"\xf0\x90\x80\x80", b"\xf4\x8f\xbf\xbf",
+]
+
+# rules, right and wrong
+RULES = [
+    "null", "1", "[]", "{}", '{"assert":null}', '{"assert":true,"name":null}', '{"assert":true,"message":1}', '{"assert":true,"x":1}', '{"name":"n"}',
+    '{"assert":true,"name":"","message":""}', '{"assert":5}', '{"assert":"x"}',
+]
+
+# effects, right and wrong
+EFFECTS = [
+    '"none"', '"creates"', '"updates"', '"moves"', '"None"', '""', "null", "true", "1", "[]", "{}", '{"none":null}', '{"moves":null}', '{"moves":{}}',
+    '{"moves":{"to":"a"}}', '{"moves":{"from":"a"}}', '{"moves":{"to":"a","from":"in"}}', '{"moves":{"to":"a","from":[]}}',
+    '{"moves":{"to":"a","from":["in","in"]}}', '{"moves":{"to":"a","from":["in",1]}}', '{"moves":{"to":"a","from":null}}',
+    '{"moves":{"to":null,"from":"a"}}', '{"moves":{"to":"a","from":{"a":1}}}', '{"moves":{"to":"a","from":"b","x":1}}',
+    '{"moves":{"to":"a","from":"b"},"x":1}', '{"\\u006doves":{"\\u0074o":"a","from":"in"}}', '"\\u006eone"', '{"moves":{"to":["a"],"from":"b"}}',
+]
+
+# outcomes, right and wrong
+OUTCOMES = [
+    "null", "[]", "{}", '{"name":null}', '{"name":1}', '{"name":"n","when":null}', '{"name":"n","in_state":null}', '{"name":"n","in_state":["in"]}',
+    '{"name":"n","wrong_state":null}', '{"name":"n","wrong_state":"true"}', '{"name":"n","wrong_state":1}', '{"name":"n","refuses":{}}',
+    '{"name":"n","when":5}', '{"name":"n","x":1}', '{"when":true}', '{"name":"n","effect":null}',
+]
+
+# members that hold a condition at fault
+AT_FAULT = [
+    ("preconditions", '[{"assert":{"before":1}}]'), ("invariants", '[{"assert":5}]'), ("condition", '{"all":[{"truthy":1}]}'),
+    ("outcomes", '[{"name":"n","when":{"eq":[1]}}]'),
+]
+
 
 def every(sheet, work=WORK, output=OUTPUT, place=0):
     for call in CALLS:
@@ -36,9 +86,9 @@ def plain(**members):
     return cases.sheet("true", **{**usual, **members}).encode()
 
 
-def padded(size, sheet=None):
+def padded(size):
     """A sheet of so many bytes, by spaces before its last brace."""
-    sheet = sheet or plain()
+    sheet = plain()
     return sheet[:-1] + b" " * (size - len(sheet)) + b"}"
 
 
@@ -140,18 +190,16 @@ def ties():
         b'{"a":1,"b":2,"a":3,',
     ):
         yield decided(text)
-    for text in (b"", b" ", b"x", b"\n", b"\x00", b"1 2", b"1,", b"[", b"[1", b"[1,", b"[1,]", b"[,1]", b"]", b"{", b"{}", b'{"a"', b'{"a":', b'{"a":1', b'{"a":1,', b'{"a":1,}', b"{,}", b"{1:1}", b"{a:1}", b"t", b"tru", b"true", b"truex", b"True", b"nul", b"null", b"false", b"fals", b'"', b'"a', b'"a"', b'"a"b', b"'a'", b'"\\', b'"\\x"', b'"\\u12"', b'"\\u12g4"', b'"\\u1234"', b'"\\ud800"', b'"\\udc00"', b'"\\ud800\\ud800"', b'"\\ud800x"', b'"\\ud800\\n"', b'"\\ud800\\udc00"', b'"\\udbff\\udfff"', b'"\\ud7ff\\ue000"', b'"\\u0000"', b'"\x1f"', b'"\x7f"', b'"\t"', b'"\n"', b"/**/1", b"[1]//", b"\xef\xbb\xbf1", b"\xef\xbb\xbf{}", b"\xfe\xff\x00[", b"[\x00]\x00", b"\x0c1", b"\xc2\xa01", b"\t\r\n 1\t\r\n ", b"[1]]", b"{}}", b"[}", b"{]"):
+    for text in TEXTS:
         yield decided(text)
 
 
 def encodings():
-    bad = [b"\x80", b"\xbf", b"\xc0\x80", b"\xc1\xbf", b"\xe0\x80\x80", b"\xe0\x9f\xbf", b"\xed\xa0\x80", b"\xed\xbf\xbf", b"\xf0\x80\x80\x80", b"\xf0\x8f\xbf\xbf", b"\xf4\x90\x80\x80", b"\xf5\x80\x80\x80", b"\xf8\x88\x80\x80\x80", b"\xfe", b"\xff", b"\xc2", b"\xe1\x80", b"\xf1\x80\x80", b"\xc2\x20", b"\xe1\x80\x20", b"\xf1\x80\x80\x20", b"\xe1\xc2\x80"]
-    good = [b"\x7f", b"\xc2\x80", b"\xdf\xbf", b"\xe0\xa0\x80", b"\xed\x9f\xbf", b"\xee\x80\x80", b"\xef\xbf\xbf", b"\xf0\x90\x80\x80", b"\xf4\x8f\xbf\xbf"]
-    for text in bad + good:
+    for text in NOT_UTF8 + UTF8:
         yield decided(b'"' + text + b'"')
         yield decided(b"x" + text)
         yield decided(plain(entity='"@"').replace(b"@", text))
-    for text in good:
+    for text in UTF8:
         condition = b'{"eq":["$args.@","$entity"]}'.replace(b"@", text)
         sheet = cases.sheet("@@", entity='"#"', args="{}").encode().replace(b"@@", condition).replace(b"#", text)
         yield "evaluate", 0, WORK, OUTPUT, sheet
@@ -173,14 +221,13 @@ def shapes():
         yield decided(written({**usual, "version": version}))
     for states in ('["in",1]', '["in",null]', '["in",["out"]]', '["","",""]', '[true]'):
         yield decided(written({**usual, "states": states}))
-    for rule in ("null", "1", "[]", "{}", '{"assert":null}', '{"assert":true,"name":null}', '{"assert":true,"message":1}', '{"assert":true,"x":1}', '{"name":"n"}', '{"assert":true,"name":"","message":""}', '{"assert":5}', '{"assert":"x"}'):
+    for rule in RULES:
         for name in ("preconditions", "invariants"):
             yield decided(written({**usual, name: f"[{rule}]"}))
             yield decided(written({**usual, name: f'[{{"assert":true}},{rule}]'}))
-    effects = ['"none"', '"creates"', '"updates"', '"moves"', '"None"', '""', "null", "true", "1", "[]", "{}", '{"none":null}', '{"moves":null}', '{"moves":{}}', '{"moves":{"to":"a"}}', '{"moves":{"from":"a"}}', '{"moves":{"to":"a","from":"in"}}', '{"moves":{"to":"a","from":[]}}', '{"moves":{"to":"a","from":["in","in"]}}', '{"moves":{"to":"a","from":["in",1]}}', '{"moves":{"to":"a","from":null}}', '{"moves":{"to":null,"from":"a"}}', '{"moves":{"to":"a","from":{"a":1}}}', '{"moves":{"to":"a","from":"b","x":1}}', '{"moves":{"to":"a","from":"b"},"x":1}', '{"\\u006doves":{"\\u0074o":"a","from":"in"}}', '"\\u006eone"', '{"moves":{"to":["a"],"from":"b"}}']
-    for effect in effects:
+    for effect in EFFECTS:
         yield decided(written({**usual, "outcomes": f'[{{"name":"n","effect":{effect}}}]'}))
-    for outcome in ("null", "[]", "{}", '{"name":null}', '{"name":1}', '{"name":"n","when":null}', '{"name":"n","in_state":null}', '{"name":"n","in_state":["in"]}', '{"name":"n","wrong_state":null}', '{"name":"n","wrong_state":"true"}', '{"name":"n","wrong_state":1}', '{"name":"n","refuses":{}}', '{"name":"n","when":5}', '{"name":"n","x":1}', '{"when":true}', '{"name":"n","effect":null}'):
+    for outcome in OUTCOMES:
         yield decided(written({**usual, "outcomes": f"[{outcome}]"}))
     # 9 anywhere comes before 10 and 11
     for name, value in itertools.product(("condition", "preconditions", "outcomes"), ('{"before":1}', "5")):
@@ -189,7 +236,7 @@ def shapes():
         yield decided(written({**usual, name: held, "x": "1"}))
         yield decided(written({name: held, **{key: other for key, other in usual.items() if key not in (name, "entity")}}))
     # order by byte: the first condition at fault
-    for first, second in itertools.permutations((("preconditions", '[{"assert":{"before":1}}]'), ("invariants", '[{"assert":5}]'), ("condition", '{"all":[{"truthy":1}]}'), ("outcomes", '[{"name":"n","when":{"eq":[1]}}]')), 2):
+    for first, second in itertools.permutations(AT_FAULT, 2):
         rest = {key: value for key, value in usual.items() if key not in (first[0], second[0])}
         yield decided(written({first[0]: first[1], **rest, second[0]: second[1]}))
 
@@ -280,7 +327,8 @@ def admissions():
 def selections():
     """Eligibility: `in_state`, `wrong_state`, the guard and the state."""
     guards = ["", ',"when":true', ',"when":false', ',"when":{"eq":["$args.z",1]}', ',"when":{"eq":["$foo",1]}']
-    for state, in_state, wrong, guard in itertools.product((None, '"in"', '"x"'), ("", ',"in_state":"in"'), ("", ',"wrong_state":true', ',"wrong_state":false'), guards):
+    marks = ["", ',"wrong_state":true', ',"wrong_state":false']
+    for state, in_state, wrong, guard in itertools.product((None, '"in"', '"x"'), ("", ',"in_state":"in"'), marks, guards):
         sheet = plain(state=state, outcomes=f'[{{"name":"one"{in_state}{wrong}{guard}}},{{"name":"two"}}]')
         yield "select", 0, WORK, OUTPUT, sheet
 
