@@ -215,3 +215,50 @@ def condition_changed(draw: random.Random, sheet: bytes) -> bytes:
 
 def changed(draw: random.Random, sheet: bytes) -> bytes:
     return draw.choice([bytes_changed, tree_changed, condition_changed])(draw, sheet)
+
+
+TOKENS = [bytes([byte]) for byte in b'{}[],:"\\ -0159.eEtfn\x1f\x7f'] + [
+    b'{"a":', b'"a"', b'"b"', b'"a":', b'"\\u0061":', b",", b",", b":", b"]", b"}", b"true", b"null", b"false", b"1", b"-0", b"1.5", b"1e+5", b"\n", b"\t", b"\r",
+    b'"\\ud83d\\ude00"', b'"\\ud83d', b"\\u00", b"\\n", b"\xc3\xa9", b"\xf0\x9f\x98\x80", b'""', b"[]", b"{}",
+]
+
+
+def tokens(draw: random.Random, most: int) -> bytes:
+    return b"".join(draw.choice(TOKENS) for _ in range(draw.randrange(most + 1)))
+
+
+def little(draw: random.Random, depth: int) -> bytes:
+    """A small JSON text; few names, so that they are often repeated."""
+    space = draw.choice([b"", b"", b"", b" ", b"\n\t"])
+    way = draw.randrange(4 if depth else 2)
+    if way < 2:
+        return space + draw.choice([b"1", b"-0.5e+7", b"true", b"null", b'"a"', b'"\\u00e9"', b'"\\ud83d\\ude00"', b'""']) + space
+    parts = [little(draw, depth - 1) for _ in range(draw.randrange(4))]
+    if way == 2:
+        return b"[" + b",".join(parts) + space + b"]"
+    return b"{" + b",".join(space + draw.choice(NAMED) + space + b":" + part for part in parts) + space + b"}"
+
+
+NAMED = [b'"a"', b'"\\u0061"', b'"b"', b'""', b'"\\ud83d\\ude00"', b'"\xf0\x9f\x98\x80"', b'"c"', b'"aa"', b'"A"']
+
+
+def opened(draw: random.Random, brackets: int) -> bytes:
+    """So many open brackets."""
+    return b"".join(draw.choice([b"[", b"[", b'{"a":', b'[1,', b'{"b":0,"":']) for _ in range(brackets))
+
+
+def edge(draw: random.Random) -> bytes:
+    """A text that is short, or that stands right before a limit, and then some tokens."""
+    way = draw.randrange(20)
+    if way < 3:
+        return tokens(draw, 8)
+    if way < 10:
+        text = little(draw, 3)
+        return bytes_changed(draw, text) if draw.randrange(2) else text
+    if way < 14:
+        return draw.choice([b"", b"[", b"-"]) + draw.choice([b"1", b"0.", b"1e", b"1e+", b"12.5e-"]) + b"1" * draw.randrange(248, 257) + tokens(draw, 4)
+    if way < 18:
+        return opened(draw, draw.randrange(61, 67)) + tokens(draw, 4)
+    nodes = draw.randrange(4092, 4097)
+    start, used = draw.choice([(b"[", 1), (b'{"a":[', 3), (b'{"a":1,"b":[', 5), (b"[" * 63, 63), (b"[" * 64, 64)])
+    return start + b"0," * (nodes - used) + draw.choice([b"", b"0,", b"0,0,", b'"x', b"tru", b"[", b"{", b"-", b'{"a"', b"[0,"]) + tokens(draw, 4)

@@ -20,7 +20,15 @@ def faulty(seed, sheets):
             yield call, 0, records.WORK, records.OUTPUT, sheet
 
 
+def edges(seed, count):
+    draw = random.Random(seed)
+    for _ in range(count):
+        yield "decide", 0, records.WORK, records.OUTPUT, faults.edge(draw)
+
+
 def asked(seed, count, shape):
+    if shape == "edge":
+        return list(edges(seed, count))
     if shape == "faulty":
         return list(faulty(seed, records.generated(seed, count, "mixed")))
     calls = records.CALLS if shape == "mixed" else ["evaluate"]
