@@ -65,7 +65,7 @@ def write(path, records) -> None:
 
 
 def write_conditions(path, records) -> None:
-    """Records of Evaluate in two fields, the sheet and the line."""
+    """Records of Evaluate on accepted sheets in two fields, the sheet and the line."""
     pathlib.Path(path).write_bytes(b"".join(record.sheet + b"\t" + record.line + b"\n" for record in records))
 
 

@@ -32,7 +32,7 @@ const ODD: &[&str] = &[
 
 fn long(random: &mut Random) -> String {
     let mut digits = String::from("1");
-    let length = random.between(200, 250);
+    let length = random.between(200, 249);
     while digits.len() < length {
         digits.push(char::from(b'0' + random.below(10) as u8));
     }
