@@ -1,15 +1,15 @@
 -- An array's loop over the table: what holds at each separator, and a law for each turn.
 -- Assumes nothing.
 use mathlib.Core.Bool.{Bool}
-use mathlib.Core.List.{List, [], _∷_}
+use mathlib.Core.List.{List}
 use mathlib.Core.Path.{ap, refl, subst, sym, _∙_, _≡_}
 use Prim.Native.Nat.{suc, ℕ, _*_, _+_, _-_, _<_, _≤_}
 use native.Mathlib.Omega.{arith}
-use lib.ListN.{drop, getD, length}
+use lib.ListN.{drop, length}
 use lib.Seq.{length-sets, sets}
 use Rattle.reader.proofs.Agree.{ValueAgrees, read-facts}
 use Rattle.reader.proofs.Decoded.{length-rowsIn}
-use Rattle.reader.proofs.Loops.{Reading, array-full, array-opens, array-shut, item-ends, item-fails, item-on, item-refused, joined, past-end, sizeIn-more}
+use Rattle.reader.proofs.Loops.{Reading, array-opens, array-shut, item-ends, item-fails, item-on, item-refused, joined, past-end, sizeIn-more}
 use Rattle.reader.proofs.Values.{told-bad}
 use Rattle.reader.proofs.Words.{drop-sets, words-arr, words-item}
 use Rattle.reader.specs.Answers.{refusalOf}
@@ -17,12 +17,12 @@ use Rattle.reader.specs.Bytes.{Bytes}
 use Rattle.reader.specs.Laid.{Continues, Opens, ParsedTold, RowLaid, Rows}
 use Rattle.reader.specs.Limits.{maxNodes}
 use Rattle.reader.specs.Naming.{Grown}
-use Rattle.reader.specs.Placing.{Placed, Placer, arrAt, readAt, skipAt}
+use Rattle.reader.specs.Placing.{Placed, arrAt, readAt}
 use Rattle.reader.specs.Json.{Value}
 use Rattle.reader.specs.Reader.{Parsed}
-use Rattle.reader.specs.Refusal.{Refusal, Result, notJson, ok, refused}
-use Rattle.reader.specs.Spans.{Node, Nodes, arr, noNode, node, size, sizeIn}
-use Rattle.reader.specs.Table.{rows, rowsIn}
+use Rattle.reader.specs.Refusal.{Result, notJson, ok, refused}
+use Rattle.reader.specs.Spans.{Node, Nodes, arr, noNode, node, sizeIn}
+use Rattle.reader.specs.Table.{rowsIn}
 use Rattle.reader.specs.declared.answer.Parsed.{Parsed as Answer}
 use Rattle.reader.specs.declared.answer.Parsed.the-variants as parseds
 use Rattle.reader.specs.declared.answer.Place.{Place}

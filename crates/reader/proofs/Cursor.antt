@@ -3,14 +3,14 @@
 use mathlib.Core.Bool.{false, true}
 use mathlib.Core.List.{[], _++_, _∷_}
 use mathlib.Core.Path.{ap, refl, subst, sym, _∙_, _≡_}
-use Prim.Native.Nat.{Ordering, Ordering·eq, Ordering·gt, Ordering·lt, compare, suc, zero, ℕ, _%_, _*_, _+_, _-_, _/_, _<_, _≤_}
+use Prim.Native.Nat.{Ordering, Ordering·eq, Ordering·gt, Ordering·lt, compare, suc, ℕ, _%_, _+_, _-_, _/_, _<_, _≤_}
 use native.Mathlib.Omega.{arith}
 use lib.Dec.{isEq, isLe}
 use lib.ListN.{drop, getD, length, length-drop}
 use Rattle.reader.proofs.Laws.{ok-injective}
 use Rattle.reader.proofs.Texts.{TextView, ended, raw, text-view, written}
 use Rattle.reader.specs.Bytes.{Bytes, begins, orderBytes, sameBytes}
-use Rattle.reader.specs.Cursor.{OnText, Took, before, tails, weight}
+use Rattle.reader.specs.Cursor.{OnText, Took, before, tails}
 use Rattle.reader.specs.Escapes.{escaped}
 use Rattle.reader.specs.Fits.{Text}
 use Rattle.reader.specs.Refusal.{Refusal, ok, refused}

@@ -11,7 +11,7 @@ use Rattle.reader.specs.Bytes.{Bytes}
 use Rattle.reader.specs.Fits.{Fits, FitsIn, FitsLeaf, FitsOf, Text, fitsArr, fitsField, fitsLeaf, fitsNode, fitsObj}
 use Rattle.reader.specs.Held.{FieldsAt, NodeAt, NodesAt}
 use Rattle.reader.specs.Json.{array, object}
-use Rattle.reader.specs.Spans.{Fields, Node, Nodes, Plain, arr, deep, deepIn, deepOf, erase, eraseIn, eraseOf, field, isFalse, isNull, isNumber, isText, isTrue, leaf, noField, noNode, node, obj, plain, size, sizeIn, sizeOf}
+use Rattle.reader.specs.Spans.{Fields, Node, Nodes, Plain, arr, deep, erase, eraseIn, eraseOf, field, isFalse, isNull, isNumber, isText, isTrue, leaf, noField, noNode, node, obj, plain, size, sizeIn, sizeOf}
 use Rattle.reader.specs.Table.{afterAt, code, endAt, kind, kindAt, membersBy, plainKind, rows, rowsIn, rowsOf, shaped, startAt, valueBy, valuesBy}
 use borrow.Author.Tests.{le-ltb, lt-ltb}
 

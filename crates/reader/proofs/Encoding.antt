@@ -12,9 +12,9 @@ use lib.Seq.{drop-cons}
 use Rattle.reader.proofs.Sound.{between-of, between-out}
 use Rattle.reader.specs.Answers.{Follows, Leads, expectOf, expecting}
 use Rattle.reader.specs.Bytes.{Bytes, choose}
-use Rattle.reader.specs.Utf8.{Expect, after, lead, never, scalar, tail, utf8}
+use Rattle.reader.specs.Utf8.{Expect, after, lead, never, scalar, utf8}
 use Rattle.reader.specs.declared.utf8.Expect.{Expect as Expected}
-use borrow.Author.Tests.{eq-eqb, le-ltb, lt-ltb, ne-eqb}
+use borrow.Author.Tests.{le-ltb, lt-ltb, ne-eqb}
 
 -- ---- a first byte
 lead-ascii : (c : ℕ) → c < 128 → lead c ≡ expecting 128 191 0

@@ -1,16 +1,16 @@
 -- The scans, turn by turn: hexadecimal digits, escapes, texts and spaces by place, and two cursors compared.
 -- Assumes nothing.
 use mathlib.Core.Path.{_≡_, refl, sym, _∙_, ap, subst}
-use mathlib.Core.List.{List, [], _∷_, _++_}
+use mathlib.Core.List.{[], _∷_}
 use mathlib.Core.Option.{Option, none, some}
 use mathlib.Core.Bool.{Bool, true, false}
 use Prim.Native.Nat.{ℕ, zero, suc, _+_, _-_, _*_, _≤_, _<_}
 use native.Mathlib.Nat.{zero-add}
 use native.Mathlib.Numerals.{add-one}
 use native.Mathlib.Omega.{arith}
-use lib.Dec.{eqb, leb, ltb}
+use lib.Dec.{eqb}
 use lib.ListN.{length, getD, drop, length-drop, drop-of-length-le}
-use lib.Seq.{drop-cons, drop-drop}
+use lib.Seq.{drop-cons}
 use borrow.Author.Tests.{eq-eqb, ne-eqb, lt-ltb, le-ltb}
 use Rattle.reader.specs.declared.text.Cursor.{Cursor}
 use Rattle.reader.specs.declared.text.Taken.{Taken}
@@ -24,14 +24,14 @@ use Rattle.reader.specs.declared.escape.Escaped.the-variants as escapes
 use Rattle.reader.proofs.Cursor.{order-on}
 use Rattle.reader.proofs.Sound.{between-of, between-out}
 use Rattle.reader.specs.Answers.{EscapedIn, EscapedTold, FirstOf, HexIn, HexTold, Stepped, digitOf, escapedOf, hexOf, simpleOf}
-use Rattle.reader.specs.Bytes.{Bytes, ascii, between, choose, orderBytes}
+use Rattle.reader.specs.Bytes.{Bytes, choose, orderBytes}
 use Rattle.reader.specs.Cursor.{OnText, Took, before}
 use Rattle.reader.specs.Escapes.{escaped, highScalar, lowScalar, unitScalar}
 use Rattle.reader.specs.Placing.{charsAt, placeOf, skipAt, wordAt}
-use Rattle.reader.specs.Refusal.{Refusal, Result, _>>=_, notJson, ok, refused}
+use Rattle.reader.specs.Refusal.{Result, _>>=_, notJson, ok, refused}
 use Rattle.reader.specs.Scan.{Read, isSpace, word}
 use Rattle.reader.specs.Spans.{textAt}
-use Rattle.reader.specs.Strings.{hex, hexDigit, highUnit, lowUnit, plainUnit, simpleEscape, unit16}
+use Rattle.reader.specs.Strings.{hex, hexDigit, simpleEscape}
 
 pub decimal-is : (c : ℕ) → 48 ≤ c → c ≤ 57 → hexDigit c ≡ digitOf (c - 48)
 decimal-is c p q = let h : c - 48 < 16 = omega arith in rw (between-of 48 57 c p q, lt-ltb _ _ h, choose)

@@ -1,20 +1,17 @@
 -- Marks of names: the number of a name, byte by byte, and what a mark says of the earlier names.
 -- Assumes nothing.
 use mathlib.Core.Bool.{Bool, false, true}
-use mathlib.Core.List.{List, [], _++_, _∷_}
-use mathlib.Core.Option.{Option, none, some}
-use mathlib.Core.Path.{ap, refl, subst, sym, _∙_, _≡_}
+use mathlib.Core.List.{List, []}
+use mathlib.Core.Option.{none, some}
+use mathlib.Core.Path.{refl, sym, _∙_, _≡_}
 use Prim.Native.Nat.{ℕ, _%_, _*_, _+_, _<_}
 use native.Mathlib.Omega.{arith}
-use lib.ListN.{getD, set}
-use lib.Seq.{getD-set-other, getD-set-same}
-use Rattle.reader.proofs.Laws.{sameBytes-true}
-use Rattle.reader.proofs.Leaves.{beforeOf, was-byte}
-use Rattle.reader.specs.Answers.{Stepped}
+use lib.ListN.{getD}
+use Rattle.reader.proofs.Leaves.{beforeOf}
 use Rattle.reader.specs.Bytes.{Bytes, find, isOneOf, sameBytes}
 use Rattle.reader.specs.Cursor.{OnText, Took, before}
 use Rattle.reader.specs.Json.{Members, Value, empty, entries, keys, member}
-use Rattle.reader.specs.Naming.{Grown, Noted, hashed}
+use Rattle.reader.specs.Naming.{Noted, hashed}
 use Rattle.reader.specs.Spans.{textAt}
 use Rattle.reader.specs.declared.text.Cursor.{Cursor}
 use Rattle.reader.specs.declared.text.Taken.{Taken}

@@ -1,27 +1,25 @@
 -- A member's name, by what is known of its bytes, and what is known once it is read.
 -- Assumes nothing.
 use mathlib.Core.Bool.{Bool, false, true}
-use mathlib.Core.List.{List, [], _∷_}
-use mathlib.Core.Path.{ap, refl, subst, sym, _∙_, _≡_}
-use Prim.Native.Nat.{ℕ, _*_, _+_, _-_, _<_, _≤_}
+use mathlib.Core.List.{List, []}
+use mathlib.Core.Path.{ap, refl, _∙_, _≡_}
+use Prim.Native.Nat.{ℕ, _+_, _-_, _<_, _≤_}
 use native.Mathlib.Omega.{arith}
 use lib.Dec.{eqb, ltb}
 use lib.ListN.{List·getD-eq-default, getD, length, set}
-use lib.Seq.{getD-set-other, getD-set-same, sets}
+use lib.Seq.{getD-set-other, getD-set-same}
 use Rattle.reader.proofs.Agree.{skip-at}
-use Rattle.reader.proofs.Laws.{bind-ok, ok-injective}
+use Rattle.reader.proofs.Laws.{bind-ok}
 use Rattle.reader.proofs.Loops.{bind-refused, byte-is, byte-not, none-left, not-new}
-use Rattle.reader.proofs.Sound.{bind-inv}
 use Rattle.reader.specs.Bytes.{Bytes, isOneOf}
 use Rattle.reader.proofs.Texts.{text-read}
 use Rattle.reader.specs.Cursor.{OnText}
 use Rattle.reader.specs.Fits.{Text}
-use Rattle.reader.specs.Laid.{NameLaid, NameReady, NameTold, earlier}
 use Rattle.reader.specs.Limits.{maxNodes}
-use Rattle.reader.specs.Naming.{Grown, NameSpan, hashed, nameAt}
-use Rattle.reader.specs.Placing.{byteAt, charsAt, skipAt}
+use Rattle.reader.specs.Naming.{Grown, nameAt}
+use Rattle.reader.specs.Placing.{charsAt, skipAt}
 use Rattle.reader.specs.Reader.{newName, oneNode}
-use Rattle.reader.specs.Refusal.{Refusal, Result, notJson, ok, refused, repeatedName, tooManyNodes, _>>=_}
+use Rattle.reader.specs.Refusal.{Refusal, notJson, ok, refused, repeatedName, tooManyNodes}
 use Rattle.reader.specs.Spans.{textAt}
 use borrow.Author.Tests.{eqb-false, eqb-true, lt-ltb, ltb-false, ltb-true}
 

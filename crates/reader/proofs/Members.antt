@@ -1,24 +1,23 @@
 -- A search among members, turn by turn.
 -- Assumes nothing.
 use mathlib.Core.Path.{_≡_, refl, sym, _∙_, ap, subst}
-use mathlib.Core.List.{List, [], _∷_}
-use mathlib.Core.Option.{Option, none, some}
+use mathlib.Core.List.{List}
+use mathlib.Core.Option.{Option}
 use mathlib.Core.Bool.{Bool, true, false}
-use Prim.Native.Nat.{ℕ, _+_, _*_, _≤_, _<_, Ordering, Ordering·lt, Ordering·eq, Ordering·gt}
+use Prim.Native.Nat.{ℕ, _+_, _*_, _≤_, _<_, Ordering, Ordering·eq}
 use native.Mathlib.Omega.{arith}
 use lib.ListN.{length}
-use Rattle.reader.specs.declared.rows.Found.{Found}
 use Rattle.reader.specs.declared.rows.Found.the-variants as founds
 use Rattle.reader.proofs.Laws.{orderBytes-eq, sameBytes-refl, sameBytes-true}
 use Rattle.reader.proofs.Sorted.{same-order}
-use Rattle.reader.proofs.Walk.{MoreMembers, find-done, find-here, find-on, inside, members-done, members-more}
+use Rattle.reader.proofs.Walk.{MoreMembers, find-done, find-here, find-on, inside, members-more}
 use Rattle.reader.specs.Answers.{FoundIn, FoundTold, foundOf}
 use Rattle.reader.specs.Bytes.{Bytes, find, orderBytes, sameBytes}
 use Rattle.reader.specs.Cursor.{OnText}
-use Rattle.reader.specs.Held.{AreMembers, HasMembers, HasNode, IsNode}
+use Rattle.reader.specs.Held.{HasMembers}
 use Rattle.reader.specs.Json.{Value, entries}
 use Rattle.reader.specs.Spans.{textAt}
-use Rattle.reader.specs.Table.{afterAt, endAt, membersAt, startAt, valueAt}
+use Rattle.reader.specs.Table.{afterAt, endAt, membersAt, startAt}
 
 -- equal texts, by their order
 pub apart : (s t : Bytes) (o : Ordering) → orderBytes s t ≡ o → (o ≡ Ordering·eq → ⊥) → false ≡ sameBytes s t

@@ -13,12 +13,11 @@ use Rattle.reader.proofs.TableRule.{at}
 use Rattle.reader.proofs.Sound.{between-of, between-out}
 use Rattle.reader.specs.Answers.{classOf, placeBy}
 use Rattle.reader.specs.Bytes.{Bytes, choose}
-use Rattle.reader.specs.Limits.{maxNumber}
 use Rattle.reader.specs.Numerals.{Place, complete, digit, digits, expDigits, expSign, exponent, first, fraction, isStop, onward, point, sign, stop, whole, zeroed}
 use Rattle.reader.specs.Placing.{digitsAt, placeOf}
 use Rattle.reader.specs.Refusal.{Result, notJson, numberTooLong, ok, refused, _>>=_}
 use Rattle.reader.specs.Scan.{Read}
-use borrow.Author.Tests.{eq-eqb, le-ltb, lt-ltb, ne-eqb}
+use borrow.Author.Tests.{ne-eqb}
 
 -- ---- the classes
 pub nonzero-is : (c : ℕ) → 49 ≤ c → c ≤ 57 → digit c ≡ classOf 1

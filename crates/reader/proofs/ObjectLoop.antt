@@ -3,16 +3,16 @@
 use mathlib.Core.Bool.{Bool, false, true}
 use mathlib.Core.List.{List, append-assoc, [], _++_, _∷_}
 use mathlib.Core.Path.{ap, refl, subst, sym, _∙_, _≡_}
-use Prim.Native.Nat.{max, suc, zero, ℕ, _*_, _+_, _-_, _<_, _≤_}
+use Prim.Native.Nat.{suc, zero, ℕ, _*_, _+_, _-_, _<_, _≤_}
 use native.Mathlib.Omega.{arith}
-use lib.Dec.{eqb, ltb}
+use lib.Dec.{eqb}
 use lib.ListN.{List·getD-eq-default, drop, getD, length, take}
 use lib.Seq.{drop-at, length-sets, length-take-le, sets, sets-eq}
 use Rattle.reader.proofs.Agree.{ValueAgrees, read-facts}
 use Rattle.reader.proofs.ArrayLoop.{past-rows}
 use Rattle.reader.proofs.Decoded.{length-rowsOf}
 use Rattle.reader.proofs.Laws.{ok-injective, sameBytes-true}
-use Rattle.reader.proofs.Loops.{Naming, closesOf, joinedOf, keys-more, member-ends, member-fails, member-on, no-name, object-opens, object-shut, one-more, sizeOf-more, value-refused}
+use Rattle.reader.proofs.Loops.{Naming, closesOf, joinedOf, keys-more, member-ends, member-fails, member-on, object-opens, object-shut, one-more, sizeOf-more, value-refused}
 use Rattle.reader.proofs.MemberName.{byte-inside, no-quote, skip-past}
 use Rattle.reader.proofs.Sound.{bind-inv, newName-sound, oneNode-sound}
 use Rattle.reader.proofs.Texts.{text-read}
@@ -31,7 +31,7 @@ use Rattle.reader.specs.Placing.{Placed, Placer, byteAt, charsAt, fields
 use Rattle.reader.specs.Reader.{Parsed, newName, oneNode}
 use Rattle.reader.specs.Refusal.{Refusal, Result, notJson, ok, refused, _>>=_}
 use Rattle.reader.specs.Spans.{Fields, Node, deep, deepOf, eraseOf, field, noField, obj, sizeOf, textAt}
-use Rattle.reader.specs.Table.{rows, rowsOf}
+use Rattle.reader.specs.Table.{rowsOf}
 use Rattle.reader.specs.declared.answer.Parsed.{Parsed as Answer}
 use Rattle.reader.specs.declared.answer.Parsed.the-variants as parseds
 use Rattle.reader.specs.declared.answer.Place.{Place}
@@ -42,7 +42,7 @@ use Rattle.reader.specs.declared.names.Named.the-variants as nameds
 use Rattle.reader.specs.declared.names.Spelt.{Spelt}
 use Rattle.reader.specs.declared.bracket.Sep.{Sep}
 use Rattle.reader.specs.declared.bracket.Sep.the-variants as seps
-use borrow.Author.Tests.{eqb-true, ltb-true}
+use borrow.Author.Tests.{eqb-true}
 
 -- ---- a name that was refused, and one that was read
 both-refuse : {A B C : Type 0} (x : Result A) (f : A → Result B) (g : A → Result C) (r : Refusal) → (x >>= f) ≡ refused r → ((a : A) → f a ≡ refused r → g a ≡ refused r) → (x >>= g) ≡ refused r

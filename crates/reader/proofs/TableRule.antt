@@ -2,7 +2,7 @@
 -- Assumes nothing.
 use mathlib.Core.Bool.{Bool, false, true}
 use mathlib.Core.List.{List, [], _∷_}
-use mathlib.Core.Path.{subst, sym, _∙_, _≡_}
+use mathlib.Core.Path.{subst, sym, _∙_}
 use Prim.Native.Nat.{suc, zero, ℕ, _+_, _<_}
 use native.Mathlib.Nat.{add-suc, add-zero, le-of-suc-le-suc, not-suc-le-zero, suc-add, zero-add}
 use lib.Dec.{T}

@@ -4,7 +4,7 @@ use mathlib.Core.Bool.{Bool, false, true}
 use mathlib.Core.List.{[], _++_, _∷_}
 use mathlib.Core.Option.{Option, none, some}
 use mathlib.Core.Path.{ap, refl, subst, sym, _∙_, _≡_}
-use Prim.Native.Nat.{ℕ, _*_, _+_, _-_, _<_, _≤_}
+use Prim.Native.Nat.{ℕ, _+_, _-_, _<_, _≤_}
 use native.Mathlib.Nat.{add-zero}
 use native.Mathlib.Omega.{arith}
 use lib.Dec.{eqb}
@@ -19,7 +19,7 @@ use Rattle.reader.specs.Escapes.{escaped, highScalar, lowScalar, unitSca
 use Rattle.reader.specs.Fits.{Text}
 use Rattle.reader.specs.Grammar.{Chars, close, unescaped}
 use Rattle.reader.specs.Placing.{charsAt, placeOf}
-use Rattle.reader.specs.Refusal.{Result, notJson, ok, refused, _>>=_}
+use Rattle.reader.specs.Refusal.{Result, ok, refused, _>>=_}
 use Rattle.reader.specs.Scan.{Read, word}
 use Rattle.reader.specs.Spans.{textAt}
 use Rattle.reader.specs.Strings

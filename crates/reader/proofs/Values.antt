@@ -2,20 +2,20 @@
 -- Assumes nothing.
 use mathlib.Core.Bool.{Bool, false, true}
 use mathlib.Core.List.{List, [], _∷_}
-use mathlib.Core.Path.{ap, refl, subst, sym, _∙_, _≡_}
+use mathlib.Core.Path.{ap, refl, sym, _∙_, _≡_}
 use Prim.Native.Nat.{suc, zero, ℕ, _*_, _+_, _-_, _<_, _≤_}
 use native.Mathlib.Omega.{arith}
 use lib.Dec.{eqb}
 use lib.ListN.{drop, getD, length}
 use lib.Seq.{sets}
-use Rattle.reader.proofs.Agree.{ValueAgrees, read-facts}
+use Rattle.reader.proofs.Agree.{read-facts}
 use Rattle.reader.proofs.Laws.{bind-ok}
 use Rattle.reader.proofs.Loops.{bind-refused, none-left}
 use Rattle.reader.proofs.MemberName.{byte-inside, skip-past}
 use Rattle.reader.proofs.Sound.{between-of, between-out}
-use Rattle.reader.specs.Answers.{RowFits, refusalOf}
+use Rattle.reader.specs.Answers.{refusalOf}
 use Rattle.reader.specs.Bytes.{Bytes, between, choose}
-use Rattle.reader.specs.Laid.{Continues, Opens, ParsedTold, Ready, RowLaid, Rows, plainBy, scanBy, startBy}
+use Rattle.reader.specs.Laid.{Continues, Opens, ParsedTold, RowLaid, plainBy, scanBy, startBy}
 use Rattle.reader.specs.Limits.{maxNodes}
 use Rattle.reader.specs.Placing.{Placed, arrAt, leafAt, objAt, readAt, readWith, skipAt, stringAt}
 use Rattle.reader.specs.Reader.{Start, oneNode, start, startArray, startFalse, startNothing, startNull, startNumber, startObject, startText, startTrue}
@@ -25,7 +25,6 @@ use Rattle.reader.specs.Table.{code, rows}
 use Rattle.reader.specs.declared.answer.Parsed.{Parsed}
 use Rattle.reader.specs.declared.answer.Parsed.the-variants as parseds
 use Rattle.reader.specs.declared.answer.Refusal.{Refusal as Why}
-use Rattle.reader.specs.declared.bracket.Sep.{Sep}
 use Rattle.reader.specs.declared.bracket.Sep.the-variants as seps
 use borrow.Author.Tests.{lt-ltb, ne-eqb}
 

@@ -2,12 +2,12 @@
 -- Assumes nothing.
 use mathlib.Core.Bool.{Bool, false, true}
 use mathlib.Core.List.{List}
-use mathlib.Core.Path.{ap, refl, subst, sym, _∙_, _≡_}
-use Prim.Native.Nat.{ℕ, _*_, _+_, _-_, _<_, _≤_}
+use mathlib.Core.Path.{ap, refl, sym, _∙_, _≡_}
+use Prim.Native.Nat.{ℕ, _+_, _-_, _<_, _≤_}
 use native.Mathlib.Omega.{arith}
 use lib.Dec.{eqb, leb}
 use lib.ListN.{drop, getD, length, length-set, set}
-use lib.Seq.{drop-drop, drop-set-lt, getD-drop, getD-set-other, getD-set-same, length-sets, sets}
+use lib.Seq.{drop-drop, drop-set-lt, getD-drop, getD-set-other, getD-set-same}
 use Rattle.reader.proofs.Agree.{erased, json-erased, read-facts}
 use Rattle.reader.proofs.ArrayLoop.{past-rows}
 use Rattle.reader.proofs.Decoded.{length-rows, node-after}
@@ -17,13 +17,13 @@ use Rattle.reader.proofs.MemberName.{skip-past}
 use Rattle.reader.proofs.Walk.{accepted, value-is}
 use Rattle.reader.specs.Answers.{refusalOf}
 use Rattle.reader.specs.Bytes.{Bytes}
-use Rattle.reader.specs.Json.{Value, array, bool, cons, empty, member, nil, null, number, object, text}
+use Rattle.reader.specs.Json.{Value}
 use Rattle.reader.specs.Laid.{ParsedTold, Rows}
-use Rattle.reader.specs.Limits.{maxBytes, maxDepth, maxNodes, nodes, nodesIn, nodesOf}
+use Rattle.reader.specs.Limits.{maxBytes, maxDepth, nodes, nodesIn, nodesOf}
 use Rattle.reader.specs.Placing.{Placed, readAt, skipAt, spanned, wholeAt}
 use Rattle.reader.specs.Reader.{json}
-use Rattle.reader.specs.Reads.{Cleared, Holds, HoldsOf, ReadTold, readOf, reading}
-use Rattle.reader.specs.Refusal.{Refusal, Result, notJson, notUtf8, ok, refused, tooLong, workTooSmall, _>>=_}
+use Rattle.reader.specs.Reads.{Cleared, HoldsOf, ReadTold, readOf, reading}
+use Rattle.reader.specs.Refusal.{Refusal, Result, notJson, notUtf8, ok, refused, tooLong, _>>=_}
 use Rattle.reader.specs.Spans.{Fields, Node, Nodes, Plain, arr, erase, eraseIn, eraseOf, field, isFalse, isNull, isNumber, isText, isTrue, leaf, noField, noNode, node, obj, plain, size, sizeIn, sizeOf}
 use Rattle.reader.specs.Table.{rows, valueAt}
 use Rattle.reader.specs.Utf8.{scalar, utf8}

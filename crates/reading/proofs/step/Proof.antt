@@ -1,6 +1,6 @@
 -- `reading::step` is safe and ends: the part that is lent is as long as the text.
 -- Assumes nothing.
-use lib.ListN.{length, length-take}
+use lib.ListN.{length-take}
 use native.Mathlib.Omega.{arith}
 use borrow.Author.Needs.{needs}
 use Rattle.reading.proofs.step.Statement.{statement}

@@ -1,6 +1,6 @@
 -- `reader::names::name` meets its contract: step by step as `nameAt`.
 -- Assumes nothing.
-use Rattle.reader.proofs.MemberName.{Quoted, again, bad-text, byte-inside, marks-grow, no-colon, no-quote, no-room, on-text, quoted, skip-past, spelt}
+use Rattle.reader.proofs.MemberName.{Quoted, again, bad-text, byte-inside, marks-grow, no-colon, no-quote, no-room, on-text, quoted, spelt}
 use Rattle.reader.proofs.Marks.{unmarked}
 use Rattle.reader.specs.Spans.{textAt}
 use Rattle.reader.specs.Refusal.{Result, ok}

@@ -1,8 +1,7 @@
 -- `reader::text::compare` meets its contract: the loop says that what the two cursors have before them is in the order of the two texts.
 -- Assumes nothing.
-use native.Mathlib.Omega.{arith}
 use borrow.Author.Needs.{needs}
-use mathlib.Core.Path.{refl, _∙_}
+use mathlib.Core.Path.{_∙_}
 use Rattle.reader.proofs.Leaves.{Comparing, comparing, was-end, was-byte, on}
 use Rattle.reader.proofs.Cursor.{order-less, order-long, order-more, order-none, order-short}
 use Rattle.reader.specs.Answers.{orderOf}

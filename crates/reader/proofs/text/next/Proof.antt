@@ -1,7 +1,6 @@
 -- `reader::text::next` meets its contract: by the cursor's state, a law for each.
 -- Assumes nothing.
 use native.Mathlib.Omega.{arith}
-use mathlib.Core.Path.{refl}
 use Rattle.reader.proofs.Leaves.{escape-was, escape-was-bad, first-taken}
 use Rattle.reader.proofs.Cursor.{turn-1, turn-2, turn-3, turn-bad, turn-end, turn-escape, turn-raw}
 use Rattle.reader.specs.Answers.{Stepped}
