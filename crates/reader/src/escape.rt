@@ -77,6 +77,15 @@ pub fn hex4(s: &[u8], at: usize) -> Hex
     Hex::Unit(((a * 16 + b) * 16 + c) * 16 + d)
 }
 
+fn stands_for(unit: u32, next: usize) -> Escaped
+    ensures { λ r. ⌜ r ≡ Escaped.Is (record { unit = unit; next = next }) ⌝ }
+{
+    Escaped::Is(Scalar {
+        unit: unit,
+        next: next,
+    })
+}
+
 // The second half of a surrogate pair.
 pub fn low_half(s: &[u8], at: usize, high: u32) -> Escaped
     requires { ⌜ (at ≤ length (now s)) × (55296 ≤ high) × (high < 56320) ⌝ }
@@ -119,10 +128,7 @@ pub fn escape(s: &[u8], at: usize) -> Escaped
     let c = s[at];
     let d = simple(c);
     if d != 0 {
-        return Escaped::Is(Scalar {
-            unit: d,
-            next: at + 1,
-        });
+        return stands_for(d, at + 1);
     }
     if c != b'u' {
         return Escaped::Bad;
@@ -131,16 +137,10 @@ pub fn escape(s: &[u8], at: usize) -> Escaped
         Hex::Bad => Escaped::Bad,
         Hex::Unit(u) => {
             if u < 55296 {
-                return Escaped::Is(Scalar {
-                    unit: u,
-                    next: at + 5,
-                });
+                return stands_for(u, at + 5);
             }
             if 57343 < u {
-                return Escaped::Is(Scalar {
-                    unit: u,
-                    next: at + 5,
-                });
+                return stands_for(u, at + 5);
             }
             if 56320 <= u {
                 return Escaped::Bad;

@@ -16,11 +16,14 @@ shared-slice-read-c c = search needs
 simple-requires : tie.Need-simple-requires
 simple-requires c κs = search needs
 
-add-t10 : tie.Need-add-t10
-add-t10 c = search needs
+add-stands-for : tie.Need-add-stands-for
+add-stands-for c = search needs
+
+stands-for-requires : tie.Need-stands-for-requires
+stands-for-requires c κs = search needs
 
 returns-2 : tie.Need-returns-2
-returns-2 c = escape-is _ _ (escape-simple (c .before .before .before .before .before .args .s .now) (c .before .before .before .before .before .args .at) (omega arith) _ (c .before .simple .ensures .0) (c .if2 .taken)) (omega arith) (omega arith) (omega arith)
+returns-2 c = rw (c .stands-for .ensures) (escape-is _ _ (escape-simple (c .before .before .before .before .before .before .args .s .now) (c .before .before .before .before .before .before .args .at) (omega arith) _ (c .before .before .simple .ensures .0) (c .before .if2 .taken)) (omega arith) (omega arith) (omega arith))
 
 returns-3 : tie.Need-returns-3
 returns-3 c = escape-bad (escape-other (c .before .before .before .before .before .before .args .s .now) (c .before .before .before .before .before .before .args .at) (omega arith) _ (c .before .before .simple .ensures .0) (c .before .if2 .left) (c .if3 .taken))
@@ -37,21 +40,27 @@ enum-told c = search needs
 enum-known-u : tie.Need-enum-known-u
 enum-known-u c = search needs
 
-add-t15 : tie.Need-add-t15
-add-t15 c = search needs
+add-stands-for-2 : tie.Need-add-stands-for-2
+add-stands-for-2 c = search needs
+
+stands-for-requires-2 : tie.Need-stands-for-requires-2
+stands-for-requires-2 c κs = search needs
 
 returns-4 : tie.Need-returns-4
 returns-4 c =
-    let w = hex-was (c .before .before .u .given .0 .0) (c .before .before .before .before .before .before .before .before .before .before .before .args .at + 5) (c .before .before .before .before .hex4 .ensures) (c .before .before .u .given .1) (omega arith) in
-    escape-is _ _ (plain-unit (c .before .before .before .before .before .before .before .before .before .before .before .args .s .now) (c .before .before .before .before .before .before .before .before .before .before .before .args .at) (omega arith) _ (c .before .before .before .before .before .before .before .simple .ensures .0) (c .before .before .before .before .before .before .if2 .left) (c .before .before .before .before .before .if3 .left) _ _ (w .0) (λ p q. omega arith)) (omega arith) (omega arith) (w .2)
+    let w = hex-was (c .before .before .before .u .given .0 .0) (c .before .before .before .before .before .before .before .before .before .before .before .before .args .at + 5) (c .before .before .before .before .before .hex4 .ensures) (c .before .before .before .u .given .1) (omega arith) in
+    rw (c .stands-for2 .ensures) (escape-is _ _ (plain-unit (c .before .before .before .before .before .before .before .before .before .before .before .before .args .s .now) (c .before .before .before .before .before .before .before .before .before .before .before .before .args .at) (omega arith) _ (c .before .before .before .before .before .before .before .before .simple .ensures .0) (c .before .before .before .before .before .before .before .if2 .left) (c .before .before .before .before .before .before .if3 .left) _ _ (w .0) (λ p q. omega arith)) (omega arith) (omega arith) (w .2))
 
-add-t17 : tie.Need-add-t17
-add-t17 c = search needs
+add-stands-for-3 : tie.Need-add-stands-for-3
+add-stands-for-3 c = search needs
+
+stands-for-requires-3 : tie.Need-stands-for-requires-3
+stands-for-requires-3 c κs = search needs
 
 returns-5 : tie.Need-returns-5
 returns-5 c =
-    let w = hex-was (c .before .before .before .u .given .0 .0) (c .before .before .before .before .before .before .before .before .before .before .before .before .args .at + 5) (c .before .before .before .before .before .hex4 .ensures) (c .before .before .before .u .given .1) (omega arith) in
-    escape-is _ _ (plain-unit (c .before .before .before .before .before .before .before .before .before .before .before .before .args .s .now) (c .before .before .before .before .before .before .before .before .before .before .before .before .args .at) (omega arith) _ (c .before .before .before .before .before .before .before .before .simple .ensures .0) (c .before .before .before .before .before .before .before .if2 .left) (c .before .before .before .before .before .before .if3 .left) _ _ (w .0) (λ p q. omega arith)) (omega arith) (omega arith) (w .2)
+    let w = hex-was (c .before .before .before .before .u .given .0 .0) (c .before .before .before .before .before .before .before .before .before .before .before .before .before .args .at + 5) (c .before .before .before .before .before .before .hex4 .ensures) (c .before .before .before .before .u .given .1) (omega arith) in
+    rw (c .stands-for3 .ensures) (escape-is _ _ (plain-unit (c .before .before .before .before .before .before .before .before .before .before .before .before .before .args .s .now) (c .before .before .before .before .before .before .before .before .before .before .before .before .before .args .at) (omega arith) _ (c .before .before .before .before .before .before .before .before .before .simple .ensures .0) (c .before .before .before .before .before .before .before .before .if2 .left) (c .before .before .before .before .before .before .before .if3 .left) _ _ (w .0) (λ p q. omega arith)) (omega arith) (omega arith) (w .2))
 
 returns-6 : tie.Need-returns-6
 returns-6 c =
@@ -81,16 +90,19 @@ escape-spec =
     returns
     shared-slice-read-c
     simple-requires
-    add-t10
+    add-stands-for
+    stands-for-requires
     returns-2
     returns-3
     add-hex4
     hex4-requires
     enum-told
     enum-known-u
-    add-t15
+    add-stands-for-2
+    stands-for-requires-2
     returns-4
-    add-t17
+    add-stands-for-3
+    stands-for-requires-3
     returns-5
     returns-6
     add-low-half
