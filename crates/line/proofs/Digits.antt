@@ -3,12 +3,12 @@
 use mathlib.Core.Bool.{Bool, false, true}
 use mathlib.Core.List.{[], _++_, _∷_}
 use mathlib.Core.Path.{ap, refl, sym, _∙_, _≡_}
-use Prim.Native.Nat.{suc, zero, ℕ, _%_, _*_, _+_, _/_, _<_, _≤_}
+use Prim.Native.Nat.{suc, zero, ℕ, _%_, _*_, _+_, _-_, _/_, _<_, _≤_}
 use native.Mathlib.Omega.{arith}
 use borrow.Author.Tests.{eq-eqb, le-ltb, lt-ltb, ne-eqb}
 use lib.Dec.{ltb}
 use Rattle.line.specs.Line.{decimalDigits, digitsOf, hexOf, quotedByte}
-use Rattle.reader.specs.Bytes.{Bytes, ascii}
+use Rattle.reader.specs.Bytes.{Bytes, ascii, natural}
 
 digits-before : (f n : ℕ) (s : Bytes) → digitsOf f n s ≡ digitsOf f n [] ++ s
 unfolding digitsOf
@@ -42,6 +42,20 @@ unfolding digitsOf tens
 more-digits n h k =
     let e : digitsOf 20 n [] ≡ digitsOf 19 (n / 10) ((48 + n % 10) ∷ []) = rw (le-ltb n 10 h, digitsOf) in
     e ∙ digits-before 19 (n / 10) ((48 + n % 10) ∷ []) ∙ ap (λ (l : Bytes). l ++ ((48 + n % 10) ∷ [])) (sym (digits-enough 18 (n / 10) [] (omega arith)))
+
+-- the digits spell the number
+digits-spell : (f n : ℕ) (s : Bytes) → n < tens f → natural 0 (digitsOf (suc f) n s) ≡ natural n s
+unfolding digitsOf tens natural
+digits-spell zero n s h = rw (lt-ltb n 10 h, digitsOf) (ap (λ (k : ℕ). natural k s) (let e : 0 * 10 + (48 + n - 48) ≡ n = omega arith in e))
+digits-spell (suc f) n s h = go (digits-spell f (n / 10) ((48 + n % 10) ∷ s) (omega arith)) (ltb n 10) refl
+  where
+    go : natural 0 (digitsOf (suc f) (n / 10) ((48 + n % 10) ∷ s)) ≡ natural (n / 10) ((48 + n % 10) ∷ s) → (b : Bool) → ltb n 10 ≡ b → natural 0 (digitsOf (suc (suc f)) n s) ≡ natural n s
+    go below true e = rw (e, digitsOf) (ap (λ (k : ℕ). natural k s) (let e : 0 * 10 + (48 + n - 48) ≡ n = omega arith in e))
+    go below false e = rw (e, digitsOf) (below ∙ ap (λ (k : ℕ). natural k s) (let e : n / 10 * 10 + (48 + n % 10 - 48) ≡ n = omega arith in e))
+
+pub reads-back : (n : ℕ) → n < 18446744073709551616 → natural 0 (decimalDigits n) ≡ n
+unfolding tens natural
+reads-back n h = digits-spell 19 n [] (omega arith)
 
 pub low-hex : (n : ℕ) → n < 10 → hexOf n ≡ 48 + n
 low-hex n h = rw (lt-ltb n 10 h)
