@@ -9,3 +9,4 @@ pub mod Sourcing
 pub mod Forms
 pub mod Answers
 pub mod Samples
+pub mod Decodes
