@@ -3,6 +3,7 @@ pub mod Conditions
 pub mod Counts
 pub mod Digits
 pub mod Elements
+pub mod Examples
 pub mod Faults
 pub mod Names
 pub mod Nine

@@ -1,4 +1,5 @@
--- Kleene's strong truth tables. Assumes nothing.
+-- A condition (document 01, "Condition"): true, false, or an object with exactly one member, which names its operator; and its refusals, 10 and 11.
+-- Assumes nothing.
 use mathlib.Core.Bool.{Bool, false, true}
 use mathlib.Core.List.{List, [], _∷_}
 use mathlib.Core.Option.{Option, none, some}
@@ -12,10 +13,11 @@ use Rattle.reader.specs.Refusal.{Result, notCarried, ok, orElse, refused, wrong
 pub data Mode : Type 0 where
   every any : Mode
 
--- Conditions. A pair form takes two operands; a quantifier an operand, a binder and a body.
+-- the pair forms
 pub data Form : Type 0 where
   eq ne gt gte lt lte isIn contains startsWith endsWith : Form
 
+-- A condition as evaluation takes it: a junction is `all` or `any`, an operand is a value as written, a quantifier has what it goes over, its binder (`as`) and its body (`that`).
 mutual
   pub data Condition : Type 0 where
     literal : Bool → Condition
@@ -29,7 +31,7 @@ mutual
     noMore : Conditions
     also : Condition → Conditions → Conditions
 
--- the one member's name
+-- What the one member's name asks for. Those that are known but not carried are one operator.
 pub data Operator : Type 0 where
   opJunction : Mode → Operator
   opNegation opExists : Operator
@@ -37,6 +39,7 @@ pub data Operator : Type 0 where
   opQuantified : Mode → Operator
   opNotCarried : Operator
 
+-- every name of the paper, with its operator; no other name is known
 abbrev pub operators : List (Bytes × Operator)
 operators =
     (ascii "all", opJunction every) ∷
@@ -61,7 +64,7 @@ operators =
     (ascii "truthy", opNotCarried) ∷
     []
 
--- exactly two operands
+-- what a pair form holds: an array of exactly two operands
 abbrev pub twoOf : Form → Value → Result Condition
 twoOf f null = refused wrongShape
 twoOf f (bool b) = refused wrongShape
@@ -73,7 +76,7 @@ twoOf f (array (cons v nil)) = refused wrongShape
 twoOf f (array (cons v (cons w nil))) = ok (pair f v w)
 twoOf f (array (cons v (cons w (cons x vs)))) = refused wrongShape
 
--- exactly `in`, `as` and `that`, the second a text; each member stands here with what it is as a condition
+-- What a quantifier holds: exactly `in`, `as` and `that`, the second a text. Each member stands here with what it is as a condition; a fault of the quantifier itself comes before one of its body.
 unfoldable pub quantifier : Mode → List (Bytes × (Value × Result Condition)) → Result Condition
 unfolding find
 quantifier m ps =
@@ -107,7 +110,7 @@ formed v one several parts (some (opQuantified m)) = do
   quantifier m ps
 formed v one several parts (some opNotCarried) = refused notCarried
 
--- A value as a condition, or the fault of the condition at fault that begins first: a condition's own fault comes before those inside.
+-- A value as a condition, or the fault of the condition at fault in itself that begins first: 10 for its shape, 11 where its one member is not carried, whatever that holds. A condition begins before those inside, so its own fault comes first.
 unfoldable mutual
   unfolding find quantifier
 
@@ -119,10 +122,12 @@ unfoldable mutual
   condition (array vs) = refused wrongShape
   condition (object ms) = oneMember ms
 
+  -- an object as a condition: exactly one member
   pub oneMember : Members → Result Condition
   oneMember empty = refused wrongShape
   oneMember (member k v ms) = elim ms [ member l w more ↦ refused wrongShape | empty ↦ formed v (condition v) (conditionArray v) (conditionObject v) (find k operators) ]
 
+  -- what `all` and `any` hold: an array of conditions, the first fault of which counts
   pub conditionArray : Value → Result Conditions
   conditionArray null = refused wrongShape
   conditionArray (bool b) = refused wrongShape
@@ -138,6 +143,7 @@ unfoldable mutual
     cs ← conditionsIn vs
     ok (also c cs)
 
+  -- what a quantifier holds, as an object
   pub conditionObject : Value → Result (List (Bytes × (Value × Result Condition)))
   conditionObject null = refused wrongShape
   conditionObject (bool b) = refused wrongShape

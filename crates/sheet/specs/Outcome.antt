@@ -1,4 +1,4 @@
--- The sheet: its conditions, rules and outcomes, and the refusals 9, 10 and 11.
+-- An outcome and its effect (document 01, "Rule and outcome").
 -- Assumes nothing.
 use mathlib.Core.Bool.{Bool, false}
 use mathlib.Core.List.{List, [], _∷_}
@@ -8,10 +8,12 @@ use Rattle.reader.specs.Json.{Value, asText, keys}
 use Rattle.reader.specs.Refusal.{Result, ok, orElse, wrongSheet, _>>=_}
 use Rattle.sheet.specs.Kinds.{aBool, aText, anObject, eachOf, only, optional, required, someTexts}
 
+-- What an effect does to the state: "none", "creates" and "updates" leave it, `moves` has where it goes and where it may come from, in written order.
 pub data Effect : Type 0 where
   stays : Effect
   moves : Bytes → List Bytes → Effect
 
+-- an outcome, over what a condition is read as; `when` is its guard
 pub record Outcome (C : Type 0) : Type 0 where
   pub name : Bytes
   pub when : Option C
@@ -19,6 +21,7 @@ pub record Outcome (C : Type 0) : Type 0 where
   pub wrongState : Bool
   pub effect : Effect
 
+-- the effects that are one word
 abbrev pub effectWords : List (Bytes × Effect)
 effectWords = (ascii "none", stays) ∷ (ascii "creates", stays) ∷ (ascii "updates", stays) ∷ []
 
@@ -32,6 +35,7 @@ aMove v = do
   from ← required someTexts (ascii "from") ms
   ok (moves to from)
 
+-- a value as an effect, or 9: a known word, or an object whose one member is `moves`
 unfoldable pub anEffect : Value → Result Effect
 unfolding find only aMove
 anEffect v =
@@ -46,6 +50,7 @@ anEffect v =
             required aMove (ascii "moves") ms)
     ]
 
+-- a missing effect leaves the state; a missing `wrong_state` is false
 abbrev pub orStays : Option Effect → Effect
 orStays none = stays
 orStays (some e) = e
@@ -55,6 +60,7 @@ orFalse none = false
 orFalse (some b) = b
 
 module _ {C : Type 0} (kind : Value → Result C) where
+  -- a value as an outcome, or 9
   unfoldable pub anOutcome : Value → Result (Outcome C)
   unfolding find only anEffect
   anOutcome v = do

@@ -1,4 +1,4 @@
--- The sheet: its conditions, rules and outcomes, and the refusals 9, 10 and 11.
+-- A rule (document 01, "Rule and outcome"): `assert`, and the texts `name` and `message`, which may be missing.
 -- Assumes nothing.
 use mathlib.Core.List.{[], _∷_}
 use mathlib.Core.Option.{Option}
@@ -7,13 +7,14 @@ use Rattle.reader.specs.Json.{Value, keys}
 use Rattle.reader.specs.Refusal.{Result, ok, _>>=_}
 use Rattle.sheet.specs.Kinds.{aText, anObject, only, optional, required}
 
--- Rules and outcomes, over what a condition is read as.
+-- a rule, over what a condition is read as: a value that is not null while 9 is judged, then a condition
 pub record Rule (C : Type 0) : Type 0 where
   pub name : Option Bytes
   pub message : Option Bytes
   pub assert : C
 
 module _ {C : Type 0} (kind : Value → Result C) where
+  -- a value as a rule, or 9
   unfoldable pub aRule : Value → Result (Rule C)
   unfolding find only
   aRule v = do

@@ -1,4 +1,4 @@
--- The sheet: its conditions, rules and outcomes, and the refusals 9, 10 and 11.
+-- A sheet (document 01, "Sheet" and "Numbers by call"): its members, 9, then 10 and 11 for the condition at fault that begins first.
 -- Assumes nothing.
 use mathlib.Core.Bool.{Bool, true}
 use mathlib.Core.List.{List, [], _++_, _∷_}
@@ -14,6 +14,7 @@ use Rattle.sheet.specs.Kinds.{aText, aVersion, anArrayOf, anObject, each
 use Rattle.sheet.specs.Outcome.{Outcome, anOutcome}
 use Rattle.sheet.specs.Rule.{Rule, aRule}
 
+-- the fourteen members, over what a condition is read as; a member that may be missing is an Option
 pub record Sheet (C : Type 0) : Type 0 where
   pub id : Option Bytes
   pub entity : Bytes
@@ -30,7 +31,7 @@ pub record Sheet (C : Type 0) : Type 0 where
   pub invariants : List (Rule C)
   pub outcomes : List (Outcome C)
 
--- the fourteen members
+-- the names of the members; there are no others
 abbrev pub sheetNames : List Bytes
 sheetNames =
     ascii "entity" ∷
@@ -50,6 +51,7 @@ sheetNames =
     []
 
 module _ {C : Type 0} (kind : Value → Result C) where
+  -- a value as a sheet, or 9
   unfoldable pub aSheet : Value → Result (Sheet C)
   unfolding find only eachOf aVersion aRule anOutcome
   aSheet v = do
@@ -87,10 +89,12 @@ module _ {C : Type 0} (kind : Value → Result C) where
           outcomes = os;
         })
 
--- The conditions of an accepted sheet's text, in the order in which they begin.
+-- The conditions of a sheet's text, in the order in which they begin: those that a member holds, member by member as written.
+-- the value that an element has under a name
 abbrev pub memberOf : Bytes → Value → List Value
 memberOf k v = elim (asObject v) [ none ↦ [] | some ms ↦ elim (find k (entries ms)) [ none ↦ [] | some w ↦ w ∷ [] ] ]
 
+-- what the elements have under a name, and the same of an array
 unfoldable pub memberOfEach : Bytes → List Value → List Value
 unfolding find
 memberOfEach k [] = []
@@ -99,6 +103,7 @@ memberOfEach k (v ∷ vs) = memberOf k v ++ memberOfEach k vs
 abbrev pub inArray : Bytes → Value → List Value
 inArray k v = elim (asArray v) [ none ↦ [] | some vs ↦ memberOfEach k (elements vs) ]
 
+-- where a member of the sheet has conditions: it is one, or each of its elements has one under a name
 pub data Holds : Type 0 where
   itself : Holds
   eachUnder : Bytes → Holds
@@ -117,11 +122,13 @@ heldBy none v = []
 heldBy (some itself) v = v ∷ []
 heldBy (some (eachUnder k)) v = inArray k v
 
+-- all of them, by the order of the members in the text
 unfoldable pub written : List (Bytes × Value) → List Value
 unfolding find memberOfEach
 written [] = []
 written (e ∷ es) = heldBy (find (e .0) holders) (e .1) ++ written es
 
+-- the fault of the first condition that has one
 unfoldable pub sound : List Value → Result Bool
 unfolding condition
 sound [] = ok true
