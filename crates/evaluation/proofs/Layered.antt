@@ -74,7 +74,7 @@ module _ (sheet : Sheet Condition) (s : Bytes) (t : List ℕ) where
   alike-layers m fs a b = rw (shape-kind fs (a .node) (a .depth) (a .kind), shape-kind fs (b .node) (b .depth) (b .kind))
 
 -- layers of different classes
-pub shapeClass : Shape lazy.Operand → ℕ
+abbrev pub shapeClass : Shape lazy.Operand → ℕ
 shapeClass nothing = 0
 shapeClass (truth false) = 1
 shapeClass (truth true) = 2
@@ -84,7 +84,7 @@ shapeClass (items x) = 5
 shapeClass (fields x) = 6
 
 pub apart : (f : lazy.Operand → lazy.Operand → Bool) (p q : Shape lazy.Operand) → (shapeClass p ≡ shapeClass q → ⊥) → alikeShapes f p q ≡ false
-unfolding shapeClass alikeShapes
+unfolding alikeShapes
 apart f nothing nothing h = absurd (h refl)
 apart f nothing (truth false) h = refl
 apart f nothing (truth true) h = refl
@@ -137,7 +137,7 @@ apart f (fields x) (fields y) h = absurd (h refl)
 
 module _ (sheet : Sheet Condition) (s : Bytes) (t : List ℕ) (fs : lazy.Frames) (n d : ℕ) where
   pub class-is : (x : Kind) → shapeClass (shapeBy sheet s t fs n d x) ≡ classOf x
-  unfolding shapeClass shapeBy
+  unfolding shapeBy
   class-is kinds.Null = refl
   class-is kinds.False = refl
   class-is kinds.True = refl

@@ -23,3 +23,5 @@ pub mod Alike
 pub mod Marking
 pub mod Gathering
 pub mod Wholes
+pub mod Searching
+pub mod Pairs

@@ -5,14 +5,18 @@ use mathlib.Core.Option.{none, some}
 use mathlib.Core.Path.{_≡_}
 use Prim.Native.Nat.{ℕ, _<_, _≤_}
 use lib.ListN.{length}
-use Rattle.reader.specs.Bytes.{Bytes}
-use Rattle.reader.specs.Cursor.{OnText}
+use mathlib.Core.Bool.{false, true}
+use Rattle.reader.specs.Bytes.{Bytes, begins}
+use Rattle.reader.specs.Cursor.{OnText, before, weight}
+use Rattle.reader.specs.declared.text.Cursor.{Cursor}
 use Rattle.reader.specs.Spans.{textAt}
 use Rattle.evaluation.specs.Operand.{escaped, expression, plain, readText}
 use Rattle.evaluation.specs.Path.{further}
 use Rattle.evaluation.specs.Truth.{False, True, Truth, Unknown}
 use Rattle.evaluation.specs.declared.path.Rest.{Rest}
 use Rattle.evaluation.specs.declared.path.Rest.the-variants as rests
+use Rattle.evaluation.specs.declared.search.Turn as turns
+use Rattle.evaluation.specs.declared.search.Turn.the-variants as turn
 use Rattle.evaluation.specs.declared.truth.Truth as code
 use Rattle.evaluation.specs.declared.truth.Truth.the-variants as truths
 use Rattle.evaluation.specs.declared.written.Unit as units
@@ -60,3 +64,15 @@ WrittenTold s at (written.Expression p) = (readText (textAt s at) ≡ expression
 unfoldable pub RestTold : Bytes → Rest → Type 0
 RestTold path rests.Nothing = further (textAt path 0) ≡ none
 RestTold path (rests.At p) = (further (textAt path 0) ≡ some (textAt path p)) × OnText path p 0 × (0 < p) × (p ≤ length path)
+
+-- a turn of a search
+pub record Onward (s : Bytes) (p t p′ t′ : Cursor) : Type 0 where
+  pub same : begins (before s (p .at) (p .unit) (p .left)) (before s (t .at) (t .unit) (t .left)) ≡ begins (before s (p′ .at) (p′ .unit) (p′ .left)) (before s (t′ .at) (t′ .unit) (t′ .left))
+  pub onPart : OnText s (p′ .at) (p′ .left)
+  pub onText : OnText s (t′ .at) (t′ .left)
+  pub falls : weight s (p′ .at) (p′ .left) < weight s (p .at) (p .left)
+
+unfoldable pub TurnTold : Bytes → Cursor → Cursor → turns.Turn → Type 0
+TurnTold s p t turn.Ended = begins (before s (p .at) (p .unit) (p .left)) (before s (t .at) (t .unit) (t .left)) ≡ true
+TurnTold s p t turn.Apart = begins (before s (p .at) (p .unit) (p .left)) (before s (t .at) (t .unit) (t .left)) ≡ false
+TurnTold s p t (turn.On b) = Onward s p t (b .part) (b .text)

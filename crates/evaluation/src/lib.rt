@@ -2,6 +2,7 @@
 pub mod children;
 pub mod equal;
 pub mod frames;
+pub mod holds;
 pub mod layer;
 pub mod member;
 pub mod operand;
@@ -10,5 +11,6 @@ pub mod reach;
 pub mod resolve;
 pub mod roots;
 pub mod rows;
+pub mod search;
 pub mod truth;
 pub mod written;
