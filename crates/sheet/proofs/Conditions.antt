@@ -97,7 +97,7 @@ abbrev pub withCondition : Option Value → Option (Value × Result Condition)
 withCondition none = none
 withCondition (some v) = some (v, condition v)
 
-find-conditions : (k : Bytes) (ms : Members) → find k (conditionsOf ms) ≡ withCondition (find k (entries ms))
+pub find-conditions : (k : Bytes) (ms : Members) → find k (conditionsOf ms) ≡ withCondition (find k (entries ms))
 unfolding find conditionsOf
 find-conditions k empty = refl
 find-conditions k (member l v ms) = go (sameBytes k l) refl (find-conditions k ms)
@@ -130,7 +130,7 @@ module _ (m : Mode) (ms : Members) where
   several h = let q : eqb (length (conditionsOf ms)) 3 ≡ false = ne-eqb (length (conditionsOf ms)) 3 (λ z. h (sym (length-conditions ms) ∙ z)) in rw (q, quantifier)
 
   module _ (three : length (entries ms) ≡ 3) where
-    exactly : eqb (length (conditionsOf ms)) 3 ≡ true
+    pub exactly : eqb (length (conditionsOf ms)) 3 ≡ true
     exactly = eq-eqb (length (conditionsOf ms)) 3 (length-conditions ms ∙ three)
 
     pub no-in : find (ascii "in") (entries ms) ≡ none → faultOf (quantifier m (conditionsOf ms)) ≡ some wrongShape

@@ -111,7 +111,7 @@ module _ {s : Bytes} {w : List ℕ} {left n : ℕ} (h : IsNode s w left n) (k : 
             pub inner-name : OnText s a 0
             inner-name = subst (λ (x : ℕ). OnText s x 0) (sym g) (record { stop = endAt w (n + 1); text = the-one .name; few = omega arith })
 
-            alone : valueAt s w n ≡ object (member (textAt s a) (valueAt s w (n + 1 + 1)) empty)
+            pub alone : valueAt s w n ≡ object (member (textAt s a) (valueAt s w (n + 1 + 1)) empty)
             alone =
                 let r : length (entries (membersAt s w (afterAt w (n + 1 + 1)) e)) ≡ 0 = omega (arith, ap (λ (ms : Members). length (entries ms)) (the-one .value)) in
                 object-is ∙ ap object (the-one .value ∙ ap (λ (x : ℕ). member (textAt s x) (valueAt s w (n + 1 + 1)) (membersAt s w (afterAt w (n + 1 + 1)) e)) (sym g) ∙ ap (member (textAt s a) (valueAt s w (n + 1 + 1))) (no-entries (membersAt s w (afterAt w (n + 1 + 1)) e) r))

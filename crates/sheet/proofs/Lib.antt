@@ -5,6 +5,8 @@ pub mod Digits
 pub mod Elements
 pub mod Examples
 pub mod Faults
+pub mod Given
+pub mod GivenConditions
 pub mod Names
 pub mod Nine
 pub mod Operators

@@ -2,24 +2,27 @@
 -- Assumes nothing.
 use mathlib.Core.List.{List}
 use mathlib.Core.Option.{Option, none, some}
-use mathlib.Core.Bool.{true}
+use mathlib.Core.Bool.{Bool, true}
 use mathlib.Core.Path.{_≡_}
 use Prim.Native.Nat.{ℕ}
 use Rattle.reader.specs.Bytes.{Bytes}
-use Rattle.reader.specs.Held.{IsNode}
-use Rattle.reader.specs.Json.{Value}
-use Rattle.reader.specs.Limits.{maxNumber, tidy}
+use Rattle.reader.specs.Held.{AreNodes, IsNode}
+use Rattle.reader.specs.Json.{Value, elements}
+use Rattle.reader.specs.Limits.{maxNumber, tidy, tidyIn}
 use Rattle.reader.specs.Reader.{json}
 use Rattle.reader.specs.Refusal.{Result, notCarried, ok, refused, wrongShape, wrongSheet}
-use Rattle.reader.specs.Sorted.{sorted}
-use Rattle.reader.specs.Table.{valueAt}
+use Rattle.reader.specs.Sorted.{sorted, sortedIn}
+use Rattle.reader.specs.Table.{valueAt, valuesAt}
 use Rattle.reader.specs.declared.rows.Found.{Found}
 use Rattle.reader.specs.declared.rows.Found.the-variants as founds
 use Rattle.sheet.specs.Condition.{Condition, condition}
-use Rattle.sheet.specs.Kinds.{aText, aVersion, anArrayOf, anObject}
-use Rattle.sheet.specs.Outcome.{anOutcome}
-use Rattle.sheet.specs.Rule.{aRule}
+use Rattle.sheet.specs.Kinds.{aBool, aText, aVersion, anArrayOf, anObject, eachOf, someTexts}
+use Rattle.sheet.specs.Outcome.{Effect, Outcome, anEffect, anOutcome, orFalse, orStays}
+use Rattle.sheet.specs.Rule.{Rule, aRule}
 use Rattle.sheet.specs.Sheet.{Sheet, readSheet}
+use Rattle.sheet.specs.declared.outcome.MoveMembers.{MoveMembers}
+use Rattle.sheet.specs.declared.outcome.OutcomeMembers.{OutcomeMembers}
+use Rattle.sheet.specs.declared.rule.RuleMembers.{RuleMembers}
 use Rattle.sheet.specs.declared.shape.Members.{Members}
 use Rattle.sheet.specs.declared.shape.Shape.{Shape}
 use Rattle.sheet.specs.declared.shape.Shape.the-variants as shapes
@@ -90,3 +93,37 @@ Shaped s w shapes.WrongSheet = readSheet s ≡ refused wrongSheet
 Shaped s w shapes.WrongShape = readSheet s ≡ refused wrongShape
 Shaped s w shapes.NotCarried = readSheet s ≡ refused notCarried
 Shaped s w (shapes.Is m) = (sheet : Sheet Condition) × Accepted s w m sheet
+
+-- ---- further down: what a list, a rule, an outcome and a move are, node by node
+-- the nodes from k up to e give the elements of a list
+pub record EachGives {A : Type 0} (kind : Value → Result A) (s : Bytes) (w : List ℕ) (k e : ℕ) (xs : List A) : Type 0 where
+  pub nodes : AreNodes s w 64 k e
+  pub isTidy : tidyIn maxNumber (valuesAt s w k e) ≡ true
+  pub is : eachOf kind (elements (sortedIn (valuesAt s w k e))) ≡ ok xs
+
+-- a member that must be there
+pub record Given {A : Type 0} (kind : Value → Result A) (s : Bytes) (w : List ℕ) (f : Found) (a : A) : Type 0 where
+  pub node : ℕ
+  pub found : f ≡ founds.At node
+  pub gives : Gives kind s w node a
+
+pub record RuleGives (s : Bytes) (w : List ℕ) (m : RuleMembers) (r : Rule Condition) : Type 0 where
+  pub assert : Given condition s w (m .assert) (r .assert)
+  pub name : MayGive aText s w (m .name) (r .name)
+  pub message : MayGive aText s w (m .message) (r .message)
+
+-- a missing `wrong_state` is false and a missing effect leaves the state
+pub record OutcomeGives (s : Bytes) (w : List ℕ) (m : OutcomeMembers) (o : Outcome Condition) : Type 0 where
+  pub name : Given aText s w (m .name) (o .name)
+  pub when : MayGive condition s w (m .when) (o .when)
+  pub inState : MayGive aText s w (m .«in_state») (o .inState)
+  pub wrong : Option Bool
+  pub isWrong : o .wrongState ≡ orFalse wrong
+  pub wrongState : MayGive aBool s w (m .«wrong_state») wrong
+  pub does : Option Effect
+  pub isEffect : o .effect ≡ orStays does
+  pub effect : MayGive anEffect s w (m .effect) does
+
+pub record MoveGives (s : Bytes) (w : List ℕ) (m : MoveMembers) (to : Bytes) (from : List Bytes) : Type 0 where
+  pub goes : Given aText s w (m .to) to
+  pub comes : Given someTexts s w (m .from) from
