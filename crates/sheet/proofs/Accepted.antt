@@ -4,16 +4,14 @@ use mathlib.Core.Bool.{Bool, false, true}
 use mathlib.Core.List.{List}
 use mathlib.Core.Option.{Option, none, some}
 use mathlib.Core.Path.{ap, refl, subst, sym, _∙_, _≡_}
-use Prim.Native.Nat.{ℕ, _+_}
+use Prim.Native.Nat.{ℕ}
 use native.Mathlib.Omega.{arith}
 use Rattle.reader.proofs.Complete.{read-exactly}
 use Rattle.reader.proofs.Laws.{bind-ok}
 use Rattle.reader.specs.Answers.{FoundIn, FoundTold, foundOf}
 use Rattle.reader.specs.Bytes.{Bytes, ascii, find}
-use Rattle.reader.specs.Held.{IsNode}
 use Rattle.reader.specs.Json.{Members, Value, entries, object}
 use Rattle.reader.specs.Limits.{maxNumber, tidy, tidyOf}
-use Rattle.reader.specs.Reader.{json}
 use Rattle.reader.specs.Refusal.{Refusal, Result, ok, orElse, refused, wrongSheet, _>>=_}
 use Rattle.reader.specs.Sorted.{sorted, sortedOf}
 use Rattle.reader.specs.Table.{afterAt, kindAt, membersAt, valueAt}
@@ -27,6 +25,7 @@ use Rattle.sheet.proofs.SortedMembers.{find-sorted, find-tidy, mapped}
 use Rattle.sheet.proofs.SortedSheet.{SheetParts, sheet-sorted}
 use Rattle.sheet.proofs.Soundness.{soundnessOf}
 use Rattle.sheet.proofs.Walks.{full}
+use Rattle.sheet.proofs.Verdicts.{never}
 use Rattle.sheet.specs.Accepted.{Accepted, Gives, MayGive, Shaped, Stored, membersOf, nodeOf}
 use Rattle.sheet.specs.Condition.{Condition, condition}
 use Rattle.sheet.specs.Kinds.{aText, aVersion, anArrayOf, anObject, notNull, optional, required}
@@ -38,9 +37,6 @@ use Rattle.sheet.specs.Verdicts.{faultOf, isOk}
 use Rattle.sheet.specs.declared.shape.Members.{Members as SheetPlaces}
 use Rattle.sheet.specs.declared.shape.Shape.the-variants as shapes
 use Rattle.sheet.specs.declared.sheet.SheetMembers.{SheetMembers}
-
-never : {A : Type 0} {B : Type 0} (r : Refusal) (a : A) → _≡_ {A = Result A} (refused r) (ok a) → B
-never r a e = let z : _≡_ {A = ℕ} 0 1 = cc in absurd (omega arith)
 
 -- ---- a member's node gives what is read under its name
 module _ {A : Type 0} (kind : Value → Result A) {s : Bytes} {w : List ℕ} (ms : Members) (t : tidyOf maxNumber ms ≡ true) (k : Bytes) (r : Found) (f : FoundTold s w (find k (entries ms)) r) where

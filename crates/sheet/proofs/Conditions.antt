@@ -1,19 +1,18 @@
 -- The fault of a condition by its kind, its one member and what that holds.
 -- Assumes nothing.
 use mathlib.Core.Bool.{Bool, false, true, _||_}
-use mathlib.Core.List.{List, [], _∷_}
 use mathlib.Core.Option.{Option, none, some}
 use mathlib.Core.Path.{ap, refl, sym, _∙_, _≡_}
-use Prim.Native.Nat.{suc, zero, ℕ}
+use Prim.Native.Nat.{suc, ℕ}
 use native.Mathlib.Omega.{arith}
 use lib.Dec.{eqb}
 use lib.ListN.{length}
 use borrow.Author.Tests.{eq-eqb, ne-eqb}
 use Rattle.reader.specs.Bytes.{Bytes, ascii, find, sameBytes}
 use Rattle.reader.specs.Json.{Members, Value, Values, array, asText, bool, cons, elements, empty, entries, member, nil, null, number, object, text}
-use Rattle.reader.specs.Refusal.{Refusal, Result, notCarried, ok, orElse, refused, wrongShape, _>>=_}
+use Rattle.reader.specs.Refusal.{Refusal, Result, ok, orElse, refused, wrongShape, _>>=_}
 use Rattle.sheet.proofs.Shapes.{tag}
-use Rattle.sheet.specs.Condition.{Condition, Conditions, Form, Mode, Operator, condition, conditionArray, conditionObject, conditionsIn, conditionsOf, every, formed, oneMember, opExists, opJunction, opNegation, opNotCarried, opPair, opQuantified, operators, quantified, quantifier, twoOf}
+use Rattle.sheet.specs.Condition.{Condition, Form, Mode, Operator, condition, conditionArray, conditionObject, conditionsIn, conditionsOf, every, formed, oneMember, opJunction, opNegation, opPair, opQuantified, operators, quantified, quantifier, twoOf}
 use Rattle.sheet.specs.Faults.{pairFault, quantifierFault}
 use Rattle.sheet.specs.Verdicts.{faultOf}
 

@@ -1,13 +1,13 @@
 -- Members and elements counted, turn by turn.
 -- Assumes nothing.
 use mathlib.Core.List.{List}
-use mathlib.Core.Path.{refl, _∙_, _≡_}
+use mathlib.Core.Path.{refl, _≡_}
 use Prim.Native.Nat.{ℕ, _+_, _<_, _≤_}
 use native.Mathlib.Omega.{arith}
 use lib.ListN.{length}
 use Rattle.reader.specs.Bytes.{Bytes}
 use Rattle.reader.specs.Held.{AreMembers, AreNodes}
-use Rattle.reader.specs.Json.{Members, Values, elements, entries}
+use Rattle.reader.specs.Json.{elements, entries}
 use Rattle.reader.specs.Table.{afterAt, membersAt, startAt, valuesAt}
 use Rattle.sheet.proofs.Walks.{OverMembers, OverNodes, a-member, an-element, element-falls, element-on, falls, no-element, no-member, on}
 

@@ -14,7 +14,7 @@ use Rattle.reader.specs.Answers.{foundOf}
 use Rattle.reader.specs.Bytes.{Bytes, ascii, find}
 use Rattle.reader.specs.Cursor.{OnText}
 use Rattle.reader.specs.Held.{AreMembers, AreNodes, IsNode}
-use Rattle.reader.specs.Json.{Members, Value, Values, array, asText, bool, cons, elements, empty, entries, member, nil, null, number, object, text}
+use Rattle.reader.specs.Json.{Members, Value, array, asText, bool, elements, empty, entries, member, null, number, object, text}
 use Rattle.reader.specs.Refusal.{Refusal, notCarried, wrongShape}
 use Rattle.reader.specs.Spans.{textAt}
 use Rattle.reader.specs.Table.{afterAt, endAt, kindAt, membersAt, startAt, valueAt, valuesAt}
@@ -23,7 +23,7 @@ use Rattle.reader.specs.declared.rows.Found.the-variants as founds
 use Rattle.sheet.proofs.Conditions.{a-boolean, by-operator, conditions-array, conditions-first, conditions-none, faultsIn, firstOf, made, made-junction, made-negation, made-pair, made-quantified, no-as, no-condition, no-conditions, no-in, no-name, no-pair, no-quantifier, no-that, not-one, not-two, quantifier-of, several, the-body, two}
 use Rattle.sheet.proofs.Shapes.{array-at, object-at, tag, tagged, text-at}
 use Rattle.sheet.proofs.Walks.{OverNodes, an-element, element-on, full-members, no-element}
-use Rattle.sheet.specs.Answers.{FoundLeft, Located, faultIs, formOf, modeOf, operatorOf}
+use Rattle.sheet.specs.Answers.{FoundLeft, Located, formOf, modeOf, operatorOf}
 use Rattle.sheet.specs.Condition.{condition, conditionArray, conditionsOf, every, operators, quantifier}
 use Rattle.sheet.specs.Faults.{pairFault, quantifierFault}
 use Rattle.sheet.specs.Verdicts.{faultOf}

@@ -9,13 +9,13 @@ use native.Mathlib.Omega.{arith}
 use lib.Seq.{slice}
 use Rattle.reader.proofs.Laws.{bind-ok}
 use Rattle.reader.proofs.Walk.{values-done, values-more}
-use Rattle.reader.specs.Answers.{FoundIn, FoundTold, foundOf}
+use Rattle.reader.specs.Answers.{FoundTold, foundOf}
 use Rattle.reader.specs.Bytes.{Bytes, ascii, find, sameBytes}
 use Rattle.reader.specs.Cursor.{OnText}
-use Rattle.reader.specs.Held.{AreMembers, AreNodes, IsNode}
-use Rattle.reader.specs.Json.{Members, Value, Values, array, asText, bool, cons, elements, empty, entries, keys, member, nil, null, number, object, text}
+use Rattle.reader.specs.Held.{AreMembers, IsNode}
+use Rattle.reader.specs.Json.{Members, Value, Values, array, bool, cons, elements, entries, keys, null, number, object, text}
 use Rattle.reader.specs.Limits.{maxNumber, tidy, tidyIn, tidyOf}
-use Rattle.reader.specs.Refusal.{Refusal, Result, ok, orElse, refused, wrongSheet, _>>=_}
+use Rattle.reader.specs.Refusal.{Result, ok, orElse, refused, wrongSheet, _>>=_}
 use Rattle.reader.specs.Sorted.{sorted, sortedIn, sortedOf}
 use Rattle.reader.specs.Spans.{textAt}
 use Rattle.reader.specs.Table.{afterAt, endAt, kindAt, membersAt, startAt, valueAt, valuesAt}
@@ -26,7 +26,8 @@ use Rattle.sheet.proofs.Shapes.{array-at, number-at, object-at, tag, ta
 use Rattle.sheet.proofs.SortedKinds.{Okay, aText-sorted, aVersion-sorted, bind-inv}
 use Rattle.sheet.proofs.SortedMembers.{and-first, and-second, find-sorted, mapped}
 use Rattle.sheet.proofs.Walks.{full-members, full-nodes}
-use Rattle.sheet.specs.Accepted.{EachGives, Given, Gives, MayGive, MoveGives, OutcomeGives, RuleGives, nodeOf}
+use Rattle.sheet.proofs.Verdicts.{never}
+use Rattle.sheet.specs.Accepted.{EachGives, Given, Gives, MoveGives, OutcomeGives, RuleGives, nodeOf}
 use Rattle.sheet.specs.Condition.{Condition, condition}
 use Rattle.sheet.specs.Kinds.{aBool, aText, aVersion, anArrayOf, anObject, eachOf, isVersion, only, optional, required, someTexts}
 use Rattle.sheet.specs.Named.{MoveNamed, OutcomeNamed, RuleNamed}
@@ -35,9 +36,6 @@ use Rattle.sheet.specs.Rule.{Rule, aRule}
 use Rattle.sheet.specs.declared.outcome.MoveMembers.{MoveMembers}
 use Rattle.sheet.specs.declared.outcome.OutcomeMembers.{OutcomeMembers}
 use Rattle.sheet.specs.declared.rule.RuleMembers.{RuleMembers}
-
-pub never : {A : Type 0} {B : Type 0} (r : Refusal) (a : A) → _≡_ {A = Result A} (refused r) (ok a) → B
-never r a e = let z : _≡_ {A = ℕ} 0 1 = cc in absurd (omega arith)
 
 -- ---- what a value is, once a kind gives something
 is-text : (v : Value) (t : Bytes) → aText v ≡ ok t → v ≡ text t

@@ -1,21 +1,21 @@
 -- A condition of an accepted sheet, node by node: what it is by its kind, its operator and what that holds.
 -- Assumes nothing.
-use mathlib.Core.Bool.{Bool, false, true, _&&_, _||_}
-use mathlib.Core.List.{List, [], _∷_}
-use mathlib.Core.Option.{Option, none, some}
+use mathlib.Core.Bool.{Bool, false, true, _&&_}
+use mathlib.Core.List.{List}
+use mathlib.Core.Option.{Option, some}
 use mathlib.Core.Path.{ap, refl, subst, sym, _∙_, _≡_}
 use Prim.Native.Nat.{ℕ, _*_, _+_, _-_, _<_, _≤_}
 use native.Mathlib.Omega.{arith}
 use lib.Dec.{eqb, ltb}
 use lib.ListN.{length}
-use borrow.Author.Tests.{eq-eqb, ltb-false, ltb-true}
+use borrow.Author.Tests.{ltb-false, ltb-true}
 use Rattle.reader.proofs.Laws.{bind-ok, eqb-no, eqb-true}
 use Rattle.reader.proofs.Walk.{values-done, values-more}
 use Rattle.reader.specs.Answers.{FoundIn, FoundTold, foundOf}
 use Rattle.reader.specs.Bytes.{Bytes, ascii, find, orderBytes}
 use Rattle.reader.specs.Cursor.{OnText}
-use Rattle.reader.specs.Held.{AreMembers, AreNodes, IsNode}
-use Rattle.reader.specs.Json.{Members, Value, Values, array, asText, bool, cons, elements, empty, entries, member, nil, null, number, object, text}
+use Rattle.reader.specs.Held.{AreNodes, IsNode}
+use Rattle.reader.specs.Json.{Members, Value, Values, array, bool, cons, empty, entries, member, nil, null, number, object, text}
 use Rattle.reader.specs.Limits.{maxNumber, tidy, tidyIn, tidyOf}
 use Rattle.reader.specs.Refusal.{Refusal, Result, notCarried, ok, orElse, refused, wrongSheet, wrongShape, _>>=_}
 use Rattle.reader.specs.Sorted.{sorted, sortedIn, sortedOf}
@@ -23,17 +23,18 @@ use Rattle.reader.specs.Spans.{textAt}
 use Rattle.reader.specs.Table.{afterAt, kindAt, membersAt, startAt, valueAt, valuesAt}
 use Rattle.reader.specs.declared.rows.Found.{Found}
 use Rattle.reader.specs.declared.rows.Found.the-variants as founds
-use Rattle.sheet.proofs.Conditions.{exactly, find-conditions, not-one, withCondition}
+use Rattle.sheet.proofs.Conditions.{exactly, find-conditions, not-one}
 use Rattle.sheet.proofs.Faults.{alone, inner-name, inner-node, name-place}
-use Rattle.sheet.proofs.Given.{ObjectHere, never, object-here}
+use Rattle.sheet.proofs.Given.{ObjectHere, object-here}
 use Rattle.sheet.proofs.Shapes.{array-at, tag, tag-at}
 use Rattle.sheet.proofs.SortedConditions.{Parts, parts}
-use Rattle.sheet.proofs.SortedKinds.{Okay, bind-inv}
+use Rattle.sheet.proofs.SortedKinds.{bind-inv}
 use Rattle.sheet.proofs.SortedMembers.{and-first, and-second, find-sorted, find-tidy, length-sorted, mapped, unrepeated}
+use Rattle.sheet.proofs.Verdicts.{never}
 use Rattle.sheet.proofs.Walks.{full, full-nodes}
 use Rattle.sheet.specs.Accepted.{Gives}
 use Rattle.sheet.specs.Answers.{formOf, modeOf, operatorOf}
-use Rattle.sheet.specs.Condition.{Condition, Conditions, Form, Mode, Operator, also, condition, conditionArray, conditionObject, conditionsIn, conditionsOf, exists, formed, junction, literal, negation, noMore, oneMember, opJunction, opPair, opQuantified, operators, pair, quantified, quantifier, twoOf}
+use Rattle.sheet.specs.Condition.{Condition, Conditions, Form, Mode, Operator, also, condition, conditionArray, conditionObject, conditionsIn, conditionsOf, exists, formed, junction, literal, negation, noMore, oneMember, operators, pair, quantified, quantifier, twoOf}
 use Rattle.sheet.specs.Kinds.{aText}
 use Rattle.sheet.specs.Verdicts.{faultOf}
 use Rattle.sheet.specs.declared.condition.Form.{Form as CodeForm}

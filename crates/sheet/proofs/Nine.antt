@@ -5,7 +5,7 @@ use mathlib.Core.List.{List, [], _∷_}
 use mathlib.Core.Option.{Option, none, some}
 use mathlib.Core.Path.{ap, refl, _≡_}
 use Rattle.reader.specs.Bytes.{Bytes, ascii, find, isOneOf}
-use Rattle.reader.specs.Json.{Members, Value, Values, asArray, asBool, asNumber, asObject, asText, elements, entries, isNull, keys}
+use Rattle.reader.specs.Json.{Members, Value, asArray, asBool, asNumber, asObject, asText, elements, entries, isNull, keys}
 use Rattle.reader.specs.Refusal.{Result, ok, orElse, refused, wrongSheet, _>>=_}
 use Rattle.sheet.specs.Kinds.{aBool, aText, aVersion, anArrayOf, anObject, eachOf, isVersion, notNull, only, optional, required, someTexts}
 use Rattle.sheet.specs.Outcome.{Effect, aMove, anEffect, anOutcome, effectWords}

@@ -3,7 +3,7 @@
 use mathlib.Core.Bool.{Bool, false, true}
 use mathlib.Core.List.{List, [], _∷_}
 use mathlib.Core.Option.{Option, none, some}
-use mathlib.Core.Path.{ap, refl, sym, _∙_, _≡_}
+use mathlib.Core.Path.{ap, refl, _∙_, _≡_}
 use Prim.Native.Nat.{suc, zero, ℕ, _+_, _-_, _<_, _≤_}
 use native.Mathlib.Omega.{arith}
 use lib.ListN.{length}
@@ -13,7 +13,7 @@ use Rattle.reader.specs.declared.rows.Found.{Found}
 use Rattle.reader.specs.declared.rows.Found.the-variants as founds
 use Rattle.sheet.proofs.Names.{unlisted}
 use Rattle.sheet.specs.Answers.{placeOf}
-use Rattle.sheet.specs.Condition.{Operator, opNotCarried, operators}
+use Rattle.sheet.specs.Condition.{opNotCarried, operators}
 use Rattle.sheet.specs.Words.{position}
 
 -- what stands at a place of a table

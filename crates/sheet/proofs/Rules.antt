@@ -2,18 +2,17 @@
 -- Assumes nothing.
 use mathlib.Core.Bool.{Bool, false, true, _&&_}
 use mathlib.Core.List.{List, [], _∷_}
-use mathlib.Core.Option.{Option, none, some}
+use mathlib.Core.Option.{Option}
 use mathlib.Core.Path.{ap, refl, subst, sym, _∙_, _≡_}
 use Prim.Native.Nat.{ℕ, _+_}
 use native.Mathlib.Omega.{arith}
-use lib.Dec.{eqb}
 use Rattle.reader.proofs.Laws.{find-none, find-some}
 use Rattle.reader.specs.Answers.{foundOf}
-use Rattle.reader.specs.Bytes.{Bytes, ascii, find, isOneOf, sameBytes}
+use Rattle.reader.specs.Bytes.{Bytes, ascii, find}
 use Rattle.reader.specs.Cursor.{OnText}
 use Rattle.reader.specs.Held.{AreMembers, IsNode}
 use Rattle.reader.specs.Json.{Members, Value, array, bool, entries, keys, null, number, object, text}
-use Rattle.reader.specs.Refusal.{Result, ok, orElse, refused, wrongSheet, _>>=_}
+use Rattle.reader.specs.Refusal.{Result, orElse, wrongSheet, _>>=_}
 use Rattle.reader.specs.Spans.{textAt}
 use Rattle.reader.specs.Table.{afterAt, endAt, kindAt, membersAt, startAt, valueAt}
 use Rattle.reader.specs.declared.rows.Found.{Found}

@@ -1,15 +1,15 @@
 -- What a node is by its kind's number, and what that says of its value as a member.
 -- Assumes nothing.
 use mathlib.Core.Bool.{Bool, false, not, true, _||_}
-use mathlib.Core.List.{List}
-use mathlib.Core.Path.{ap, refl, sym, _∙_, _≡_}
+use mathlib.Core.List.{List, [], _∷_}
+use mathlib.Core.Path.{ap, refl, subst, sym, _∙_, _≡_}
 use Prim.Native.Nat.{ℕ, _+_, _-_, _<_, _≤_}
 use native.Mathlib.Omega.{arith}
 use lib.Dec.{eqb}
 use lib.Seq.{slice}
 use borrow.Author.Tests.{eq-eqb, ne-eqb}
 use Rattle.reader.proofs.Walk.{View, isArray, isObject, isPlain, view}
-use Rattle.reader.specs.Bytes.{Bytes}
+use Rattle.reader.specs.Bytes.{Bytes, choose}
 use Rattle.reader.specs.Fits.{FitsLeaf, Numeral, Text}
 use Rattle.reader.specs.Held.{AreMembers, AreNodes, IsNode}
 use Rattle.reader.specs.Json.{Value, Values, array, bool, null, number, object, text}
@@ -39,6 +39,21 @@ code-low Plain.isFalse = omega arith
 code-low Plain.isNumber = omega arith
 code-low Plain.isText = omega arith
 
+-- the kind of a code
+unfoldable uncode : ℕ → Plain
+uncode c = choose ((eqb c 0, Plain.isNull) ∷ (eqb c 1, Plain.isTrue) ∷ (eqb c 2, Plain.isFalse) ∷ (eqb c 3, Plain.isNumber) ∷ []) Plain.isText
+
+coded : (k : Plain) → uncode (code k) ≡ k
+unfolding uncode
+coded Plain.isNull = refl
+coded Plain.isTrue = refl
+coded Plain.isFalse = refl
+coded Plain.isNumber = refl
+coded Plain.isText = refl
+
+same-code : (k j : Plain) → code k ≡ code j → k ≡ j
+same-code k j e = sym (coded k) ∙ ap uncode e ∙ coded j
+
 plain-tag : (s : Bytes) (k : Plain) (a e : ℕ) → code k ≡ tag (plain s k a e)
 unfolding plain
 plain-tag s Plain.isNull a e = refl
@@ -56,37 +71,22 @@ module _ {s : Bytes} {w : List ℕ} {left n : ℕ} (h : IsNode s w left n) where
       go (isArray p q v m) = p ∙ ap tag (sym v)
       go (isObject p q v m) = p ∙ ap tag (sym v)
 
+  -- a node without brackets is what its kind says
+  plain-at : (j : Plain) → kindAt w n ≡ code j → (valueAt s w n ≡ plain s j (startAt w n) (endAt w n)) × FitsLeaf s j (startAt w n) (endAt w n)
+  plain-at j e = go (view s w h)
+    where
+      go : View s w left n → (valueAt s w n ≡ plain s j (startAt w n) (endAt w n)) × FitsLeaf s j (startAt w n) (endAt w n)
+      go (isPlain k p a v f) = subst (λ (x : Plain). (valueAt s w n ≡ plain s x (startAt w n) (endAt w n)) × FitsLeaf s x (startAt w n) (endAt w n)) (same-code k j (sym p ∙ e)) (v, f)
+      go (isArray p q v m) = absurd (omega (arith, code-low j))
+      go (isObject p q v m) = absurd (omega (arith, code-low j))
+
   pub number-at : kindAt w n ≡ 3 → (valueAt s w n ≡ number (slice (startAt w n) (endAt w n) s)) × Numeral s (startAt w n) (endAt w n)
   unfolding plain
-  number-at e = go (view s w h)
-    where
-      plainly : (k : Plain) → code k ≡ 3 → valueAt s w n ≡ plain s k (startAt w n) (endAt w n) → FitsLeaf s k (startAt w n) (endAt w n) → (valueAt s w n ≡ number (slice (startAt w n) (endAt w n) s)) × Numeral s (startAt w n) (endAt w n)
-      plainly Plain.isNull q v f = absurd (omega arith)
-      plainly Plain.isTrue q v f = absurd (omega arith)
-      plainly Plain.isFalse q v f = absurd (omega arith)
-      plainly Plain.isNumber q v f = (v, f)
-      plainly Plain.isText q v f = absurd (omega arith)
-
-      go : View s w left n → (valueAt s w n ≡ number (slice (startAt w n) (endAt w n) s)) × Numeral s (startAt w n) (endAt w n)
-      go (isPlain k p a v f) = plainly k (sym p ∙ e) v f
-      go (isArray p q v m) = absurd (omega arith)
-      go (isObject p q v m) = absurd (omega arith)
+  number-at e = plain-at Plain.isNumber e
 
   pub text-at : kindAt w n ≡ 4 → (valueAt s w n ≡ text (textAt s (startAt w n))) × Text s (startAt w n) (endAt w n)
   unfolding plain
-  text-at e = go (view s w h)
-    where
-      plainly : (k : Plain) → code k ≡ 4 → valueAt s w n ≡ plain s k (startAt w n) (endAt w n) → FitsLeaf s k (startAt w n) (endAt w n) → (valueAt s w n ≡ text (textAt s (startAt w n))) × Text s (startAt w n) (endAt w n)
-      plainly Plain.isNull q v f = absurd (omega arith)
-      plainly Plain.isTrue q v f = absurd (omega arith)
-      plainly Plain.isFalse q v f = absurd (omega arith)
-      plainly Plain.isNumber q v f = absurd (omega arith)
-      plainly Plain.isText q v f = (v, f)
-
-      go : View s w left n → (valueAt s w n ≡ text (textAt s (startAt w n))) × Text s (startAt w n) (endAt w n)
-      go (isPlain k p a v f) = plainly k (sym p ∙ e) v f
-      go (isArray p q v m) = absurd (omega arith)
-      go (isObject p q v m) = absurd (omega arith)
+  text-at e = plain-at Plain.isText e
 
   pub array-at : kindAt w n ≡ 5 → (valueAt s w n ≡ array (valuesAt s w (n + 1) (afterAt w n))) × AreNodes s w (left - 1) (n + 1) (afterAt w n) × (1 ≤ left)
   array-at e = go (view s w h)

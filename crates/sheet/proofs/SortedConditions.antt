@@ -1,22 +1,21 @@
 -- A condition without a fault has none when its members are sorted.
 -- Assumes nothing.
-use mathlib.Core.Bool.{Bool, false, true, _&&_}
-use mathlib.Core.List.{List, [], _∷_}
+use mathlib.Core.Bool.{Bool, false, true}
 use mathlib.Core.Option.{Option, none, some}
 use mathlib.Core.Path.{ap, refl, subst, sym, _∙_, _≡_}
 use Prim.Native.Nat.{ℕ}
 use native.Mathlib.Omega.{arith}
 use lib.Dec.{eqb}
 use lib.ListN.{length}
-use Rattle.reader.proofs.Laws.{eqb-true, eqb-no, sameBytes-true}
+use Rattle.reader.proofs.Laws.{eqb-true, eqb-no}
 use Rattle.reader.specs.Bytes.{Bytes, ascii, find, orderBytes, sameBytes}
 use Rattle.reader.specs.Json.{Members, Value, Values, array, asText, bool, cons, empty, entries, member, nil, null, number, object, text}
 use Rattle.reader.specs.Limits.{maxNumber, tidy, tidyIn, tidyOf}
-use Rattle.reader.specs.Refusal.{Refusal, Result, ok, orElse, refused, _>>=_}
-use Rattle.reader.specs.Sorted.{insert, sorted, sortedIn, sortedOf}
-use Rattle.sheet.proofs.Conditions.{conditions-first, faultsIn, firstOf, made, made-junction, made-negation, made-pair, made-quantified, by-operator, no-as, no-in, no-name, no-that, several, the-body, quantifier-of}
-use Rattle.sheet.proofs.SortedMembers.{Unrepeated, and-first, and-second, find-sorted, find-tidy, length-sorted, mapped, unrepeated}
-use Rattle.sheet.specs.Condition.{Condition, Form, Mode, Operator, condition, conditionArray, conditionObject, conditionsIn, conditionsOf, every, formed, oneMember, opExists, opJunction, opNegation, opNotCarried, opPair, opQuantified, operators, quantifier, twoOf}
+use Rattle.reader.specs.Refusal.{Refusal}
+use Rattle.reader.specs.Sorted.{sorted, sortedIn, sortedOf}
+use Rattle.sheet.proofs.Conditions.{conditions-first, faultsIn, firstOf, made, made-junction, made-negation, made-pair, made-quantified, no-as, no-in, no-name, no-that, several, the-body, quantifier-of}
+use Rattle.sheet.proofs.SortedMembers.{Unrepeated, and-first, and-second, find-sorted, length-sorted, mapped, unrepeated}
+use Rattle.sheet.specs.Condition.{Mode, Operator, condition, conditionArray, conditionObject, conditionsIn, conditionsOf, every, oneMember, opExists, opJunction, opNegation, opNotCarried, opPair, opQuantified, operators, quantifier}
 use Rattle.sheet.specs.Faults.{pairFault, quantifierFault}
 use Rattle.sheet.specs.Verdicts.{faultOf}
 

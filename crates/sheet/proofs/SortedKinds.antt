@@ -1,29 +1,27 @@
 -- What a member is read as from the sorted tree, where it could be read from the tree as written.
 -- Assumes nothing.
-use mathlib.Core.Bool.{Bool, false, true, _&&_}
-use mathlib.Core.List.{List, [], _++_, _∷_}
+use mathlib.Core.Bool.{true}
+use mathlib.Core.List.{List, [], _∷_}
 use mathlib.Core.Option.{Option, none, some}
 use mathlib.Core.Path.{ap, refl, subst, sym, _∙_, _≡_}
 use Prim.Native.Nat.{ℕ}
 use native.Mathlib.Omega.{arith}
 use Rattle.reader.proofs.Laws.{bind-ok}
 use Rattle.reader.specs.Bytes.{Bytes, ascii, find}
-use Rattle.reader.specs.Json.{Members, Value, Values, array, asArray, asBool, asNumber, asObject, asText, bool, cons, elements, empty, entries, keys, member, nil, null, number, object, text}
-use Rattle.reader.specs.Limits.{maxNumber, tidy, tidyIn, tidyOf}
-use Rattle.reader.specs.Refusal.{Refusal, Result, ok, orElse, refused, wrongSheet, _>>=_}
+use Rattle.reader.specs.Json.{Members, Value, Values, array, bool, cons, elements, entries, keys, nil, null, number, object, text}
+use Rattle.reader.specs.Limits.{maxNumber, tidy, tidyOf}
+use Rattle.reader.specs.Refusal.{Result, ok, orElse, refused, wrongSheet, _>>=_}
 use Rattle.reader.specs.Sorted.{sorted, sortedIn, sortedOf}
 use Rattle.sheet.proofs.SortedConditions.{text-sorted}
-use Rattle.sheet.proofs.SortedMembers.{and-first, and-second, find-sorted, find-tidy, mapped, only-sorted}
-use Rattle.sheet.specs.Kinds.{aBool, aText, aVersion, anArrayOf, anObject, eachOf, isVersion, only, optional, required, someTexts}
-use Rattle.sheet.specs.Outcome.{Effect, aMove, anEffect, effectWords}
+use Rattle.sheet.proofs.SortedMembers.{find-sorted, find-tidy, mapped, only-sorted}
+use Rattle.sheet.proofs.Verdicts.{never}
+use Rattle.sheet.specs.Kinds.{aBool, aText, aVersion, anArrayOf, anObject, eachOf, only, optional, required, someTexts}
+use Rattle.sheet.specs.Outcome.{aMove, anEffect}
 use Rattle.sheet.specs.Verdicts.{isOk}
 
 -- it gives a value
 abbrev pub Okay : {A : Type 0} → Result A → Type 0
 Okay {A} x = (a : A) × (x ≡ ok a)
-
-refused-never : {A B : Type 0} (r : Refusal) (a : A) → _≡_ {A = Result A} (refused r) (ok a) → B
-refused-never r a e = let z : _≡_ {A = ℕ} 0 1 = cc in absurd (omega arith)
 
 pub okay : {A : Type 0} (x : Result A) → isOk x ≡ true → Okay x
 okay (ok a) e = (a, refl)
@@ -35,17 +33,17 @@ okay-is x e = ap isOk (e .1)
 -- what came before gave a value, and so does what follows
 pub bind-inv : {A B : Type 0} (x : Result A) (f : A → Result B) → Okay (x >>= f) → (a : A) × (x ≡ ok a) × Okay (f a)
 bind-inv (ok a) f e = (a, refl, e)
-bind-inv (refused r) f e = refused-never r (e .0) (e .1)
+bind-inv (refused r) f e = never r (e .0) (e .1)
 
 pub bind-okay : {A B : Type 0} {x : Result A} (f : A → Result B) (a : A) → x ≡ ok a → Okay (f a) → Okay (x >>= f)
 bind-okay f a e o = (o .0, bind-ok f e ∙ o .1)
 
 pub as-object : {B : Type 0} (v : Value) (f : Members → Result B) → Okay (anObject v >>= f) → (ms : Members) × (v ≡ object ms)
-as-object null f e = refused-never wrongSheet (e .0) (e .1)
-as-object (bool b) f e = refused-never wrongSheet (e .0) (e .1)
-as-object (number s) f e = refused-never wrongSheet (e .0) (e .1)
-as-object (text s) f e = refused-never wrongSheet (e .0) (e .1)
-as-object (array vs) f e = refused-never wrongSheet (e .0) (e .1)
+as-object null f e = never wrongSheet (e .0) (e .1)
+as-object (bool b) f e = never wrongSheet (e .0) (e .1)
+as-object (number s) f e = never wrongSheet (e .0) (e .1)
+as-object (text s) f e = never wrongSheet (e .0) (e .1)
+as-object (array vs) f e = never wrongSheet (e .0) (e .1)
 as-object (object ms) f e = (ms, refl)
 
 -- ---- kinds that sorting leaves as they are
@@ -103,11 +101,11 @@ kept kind h ms k v t e o = (o .0, h v ∙ o .1)
 
 pub object-kept : (ms : Members) (k : Bytes) → Kept ms k anObject anObject
 unfolding sorted
-object-kept ms k null t e o = refused-never wrongSheet (o .0) (o .1)
-object-kept ms k (bool b) t e o = refused-never wrongSheet (o .0) (o .1)
-object-kept ms k (number s) t e o = refused-never wrongSheet (o .0) (o .1)
-object-kept ms k (text s) t e o = refused-never wrongSheet (o .0) (o .1)
-object-kept ms k (array vs) t e o = refused-never wrongSheet (o .0) (o .1)
+object-kept ms k null t e o = never wrongSheet (o .0) (o .1)
+object-kept ms k (bool b) t e o = never wrongSheet (o .0) (o .1)
+object-kept ms k (number s) t e o = never wrongSheet (o .0) (o .1)
+object-kept ms k (text s) t e o = never wrongSheet (o .0) (o .1)
+object-kept ms k (array vs) t e o = never wrongSheet (o .0) (o .1)
 object-kept ms k (object xs) t e o = (sortedOf xs, refl)
 
 module _ {A B : Type 0} (kind : Value → Result A) (kind′ : Value → Result B) (ms : Members) (t : tidyOf maxNumber ms ≡ true) (k : Bytes) (h : Kept ms k kind kind′) where
@@ -115,7 +113,7 @@ module _ {A B : Type 0} (kind : Value → Result A) (kind′ : Value → Result 
   required-sorted o = go (find k (entries ms)) refl o
     where
       go : (f : Option Value) → find k (entries ms) ≡ f → Okay (orElse f wrongSheet >>= kind) → Okay (required kind′ k (sortedOf ms))
-      go none e x = refused-never wrongSheet (x .0) (x .1)
+      go none e x = never wrongSheet (x .0) (x .1)
       go (some v) e x = let r = h v (find-tidy k ms v t e) e x in (r .0, ap {B = Result B} (λ f. orElse f wrongSheet >>= kind′) (find-sorted k ms t ∙ ap (mapped sorted) e) ∙ r .1)
 
   pub optional-sorted : Okay (optional kind k ms) → Okay (optional kind′ k (sortedOf ms))

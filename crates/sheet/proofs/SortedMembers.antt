@@ -1,7 +1,7 @@
 -- Sorted members: the same names, and under each name the sorted value, where no name is repeated.
 -- Assumes nothing.
 use mathlib.Core.Bool.{Bool, false, not, true, _&&_}
-use mathlib.Core.List.{List, [], _∷_}
+use mathlib.Core.List.{List, _∷_}
 use mathlib.Core.Option.{Option, none, some}
 use mathlib.Core.Path.{ap, refl, subst, sym, _∙_, _≡_}
 use Prim.Native.Nat.{Ordering, Ordering·eq, Ordering·gt, Ordering·lt, suc, ℕ}
@@ -22,9 +22,6 @@ and-first false b e = e
 pub and-second : (a b : Bool) → (a && b) ≡ true → b ≡ true
 and-second true b e = e
 and-second false b e = let z : _≡_ {A = ℕ} 0 1 = cc in absurd (omega arith)
-
-pub and-both : (a b : Bool) → a ≡ true → b ≡ true → (a && b) ≡ true
-and-both a b p q = rw (p, q)
 
 not-true : (b : Bool) → not b ≡ true → b ≡ false
 not-true true e = let z : _≡_ {A = ℕ} 0 1 = cc in absurd (omega arith)

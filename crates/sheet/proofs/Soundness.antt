@@ -1,30 +1,29 @@
 -- The first fault among the sheet's conditions, turn by turn.
 -- Assumes nothing.
-use mathlib.Core.Bool.{Bool, false, true}
+use mathlib.Core.Bool.{false, true}
 use mathlib.Core.List.{List, [], _++_, _∷_}
 use mathlib.Core.Option.{Option, none, some}
 use mathlib.Core.Path.{ap, refl, subst, sym, _∙_, _≡_}
-use Prim.Native.Nat.{suc, zero, ℕ, _+_, _-_, _<_, _≤_}
+use Prim.Native.Nat.{ℕ, _+_, _-_, _<_, _≤_}
 use native.Mathlib.Omega.{arith}
-use lib.ListN.{length}
 use Rattle.reader.proofs.Laws.{find-none, namesOf}
 use Rattle.reader.specs.Answers.{foundOf}
 use Rattle.reader.specs.Bytes.{Bytes, ascii, find}
 use Rattle.reader.specs.Held.{AreNodes, IsNode}
-use Rattle.reader.specs.Json.{Members, Value, Values, array, bool, cons, elements, empty, entries, member, nil, null, number, object, text}
+use Rattle.reader.specs.Json.{Members, Value, array, bool, elements, entries, null, number, object, text}
 use Rattle.reader.specs.Refusal.{Refusal, Result, ok, refused, _>>=_}
 use Rattle.reader.specs.Spans.{textAt}
 use Rattle.reader.specs.Table.{afterAt, kindAt, membersAt, startAt, valueAt, valuesAt}
 use Rattle.reader.specs.declared.rows.Found.{Found}
 use Rattle.reader.specs.declared.rows.Found.the-variants as founds
-use Rattle.sheet.proofs.Conditions.{fault-bind, firstOf}
+use Rattle.sheet.proofs.Conditions.{firstOf}
 use Rattle.sheet.proofs.Names.{unlisted}
 use Rattle.sheet.proofs.Operators.{Placed, nth, placed}
 use Rattle.sheet.proofs.Shapes.{array-at, object-at, tag, tagged}
 use Rattle.sheet.proofs.Walks.{OverMembers, OverNodes, a-member, an-element, element-on, full-nodes, no-element, no-member, on}
 use Rattle.sheet.specs.Answers.{placeOf}
 use Rattle.sheet.specs.Condition.{Condition, condition}
-use Rattle.sheet.specs.Sheet.{Holds, eachUnder, heldBy, holders, inArray, itself, memberOf, memberOfEach, sound, written}
+use Rattle.sheet.specs.Sheet.{Holds, heldBy, holders, inArray, memberOf, memberOfEach, sound, written}
 use Rattle.sheet.specs.Verdicts.{faultOf}
 use Rattle.sheet.specs.Words.{position}
 

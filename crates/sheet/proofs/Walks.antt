@@ -9,7 +9,7 @@ use Rattle.reader.proofs.Walk.{More, MoreMembers, after-node, inside, members-d
 use Rattle.reader.specs.Bytes.{Bytes}
 use Rattle.reader.specs.Cursor.{OnText}
 use Rattle.reader.specs.Held.{AreMembers, AreNodes, HasNode, IsNode}
-use Rattle.reader.specs.Json.{Members, Value, Values, cons, empty, member, nil}
+use Rattle.reader.specs.Json.{Members, Values, cons, empty, member, nil}
 use Rattle.reader.specs.Spans.{textAt}
 use Rattle.reader.specs.Table.{afterAt, endAt, membersAt, startAt, valueAt, valuesAt}
 

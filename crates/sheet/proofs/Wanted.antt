@@ -2,8 +2,7 @@
 -- Assumes nothing.
 use mathlib.Core.Bool.{Bool, false, not, true, _||_}
 use mathlib.Core.List.{List}
-use mathlib.Core.Option.{none, some}
-use mathlib.Core.Path.{ap, refl, subst, sym, _∙_, _≡_}
+use mathlib.Core.Path.{ap, subst, sym, _∙_, _≡_}
 use Prim.Native.Nat.{ℕ, _+_, _≤_}
 use native.Mathlib.Omega.{arith}
 use lib.Dec.{eqb}
@@ -11,12 +10,12 @@ use lib.ListN.{length}
 use lib.Seq.{slice}
 use Rattle.reader.specs.Answers.{FoundIn, foundOf}
 use Rattle.reader.specs.Bytes.{Bytes}
-use Rattle.reader.specs.Held.{AreNodes, HasNode, IsNode}
-use Rattle.reader.specs.Json.{Value, array, number, text}
+use Rattle.reader.specs.Held.{AreNodes, IsNode}
+use Rattle.reader.specs.Json.{Value}
 use Rattle.reader.specs.Table.{afterAt, endAt, kindAt, startAt, valueAt, valuesAt}
 use Rattle.reader.specs.declared.rows.Found.{Found}
 use Rattle.reader.specs.declared.rows.Found.the-variants as founds
-use Rattle.sheet.proofs.Shapes.{array-at, bool-tag, no-text-or-texts, no-texts, no-version, number-at, object-tag, present-tag, tag, tagged, text-alone, text-at, text-or-texts-of, text-tag, texts-of, version-of}
+use Rattle.sheet.proofs.Shapes.{array-at, bool-tag, no-text-or-texts, no-texts, no-version, number-at, object-tag, present-tag, tagged, text-alone, text-at, text-or-texts-of, text-tag, texts-of, version-of}
 use Rattle.sheet.proofs.Walks.{full, full-nodes}
 use Rattle.sheet.specs.Kinds.{isVersion}
 use Rattle.sheet.specs.Verdicts.{allOf}

@@ -108,6 +108,8 @@ pub fn are_sheet(s: &[u8], work: &[u32], from: usize, end: usize, m: SheetMember
     requires { ⌜ AreMembers (now s) (now work) 64 from end × SheetNamed (now s) (now work) (membersAt (now s) (now work) from end) m ⌝ }
     ensures { λ r. ⌜ r ≡ isOk (aSheet notNull (object (membersAt (now (s .entry)) (now (work .entry)) from end))) ⌝ }
 {
+    let names =
+        b"entity,to_state,version,args,fields,old_fields,states,preconditions,invariants,outcomes,id,from_state,state,condition,";
     let id = m.id;
     let entity = m.entity;
     let version = m.version;
@@ -122,13 +124,7 @@ pub fn are_sheet(s: &[u8], work: &[u32], from: usize, end: usize, m: SheetMember
     let preconditions = m.preconditions;
     let invariants = m.invariants;
     let outcomes = m.outcomes;
-    crate::member::only(
-        s,
-        work,
-        from,
-        end,
-        b"entity,to_state,version,args,fields,old_fields,states,preconditions,invariants,outcomes,id,from_state,state,condition,",
-    )
+    crate::member::only(s, work, from, end, names)
         & crate::kinds::allows(s, work, id, Want::Text)
         & crate::kinds::needs(s, work, entity, Want::Text)
         & crate::kinds::needs(s, work, version, Want::Version)

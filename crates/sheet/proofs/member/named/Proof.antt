@@ -1,7 +1,6 @@
 -- `sheet::member::named` meets its contract: the loop says that the search from here on is the whole search.
 -- Assumes nothing.
 use native.Mathlib.Omega.{arith}
-use borrow.Author.Needs.{needs}
 use Prim.Native.Nat.{_-_}
 use Rattle.sheet.proofs.Walks.{falls, name-room, on-name, value-room}
 use Rattle.reader.specs.Table.{membersAt}

@@ -4,7 +4,7 @@ use native.Mathlib.Omega.{arith}
 use Prim.Native.Nat.{_-_}
 use lib.ListN.{length}
 use mathlib.Core.Logic.{⊎-elim}
-use mathlib.Core.Path.{subst, sym, _∙_}
+use mathlib.Core.Path.{sym, _∙_}
 use Rattle.reader.specs.Spans.{textAt}
 use Rattle.sheet.proofs.Words.{Listing, list-ended, listed, listing, listing-at, next-word, same-word}
 use Rattle.sheet.specs.Answers.{placeOf}
