@@ -25,3 +25,4 @@ pub mod Gathering
 pub mod Wholes
 pub mod Searching
 pub mod Pairs
+pub mod Judging

@@ -21,3 +21,4 @@ pub mod Ready
 pub mod Layered
 pub mod Matched
 pub mod Marks
+pub mod Answers

@@ -1,5 +1,6 @@
 // Evaluation of conditions over the reader's table. The definitions stand in specs/, the laws in proofs/.
 pub mod children;
+pub mod comparison;
 pub mod equal;
 pub mod frames;
 pub mod holds;
