@@ -3,7 +3,7 @@
 use mathlib.Core.Bool.{Bool, false, not, true, _&&_}
 use mathlib.Core.List.{List, [], _∷_}
 use mathlib.Core.Path.{ap, refl, subst, sym, _∙_, _≡_}
-use Prim.Native.Nat.{suc, zero, ℕ, _+_, _-_, _<_, _≤_}
+use Prim.Native.Nat.{suc, ℕ, _+_, _-_, _<_, _≤_}
 use native.Mathlib.Omega.{arith}
 use lib.Dec.{eqb}
 use lib.ListN.{length}
@@ -14,13 +14,13 @@ use Rattle.reader.specs.Spans.{textAt}
 use Rattle.reader.specs.Table.{afterAt, startAt}
 use Rattle.sheet.specs.Condition.{Condition}
 use Rattle.sheet.specs.Sheet.{Sheet}
-use Rattle.evaluation.specs.Children.{ChildAt, ChildTold, Given, Named, WalkAt, begun, childrenBy, childrenOf}
+use Rattle.evaluation.specs.Children.{ChildAt, ChildTold, Given, Named, WalkAt, begun, childrenOf}
 use Rattle.evaluation.specs.Judge.{alike}
-use Rattle.evaluation.specs.Layered.{LeavesAlike, alikeNodes, classOf, eachName, eachNode, kids, namesAgree, partAt, partBy, shapeOf, valueNode}
+use Rattle.evaluation.specs.Layered.{LeavesAlike, alikeNodes, classOf, eachName, eachNode, kids, namesAgree, partAt, shapeOf, valueNode}
 use Rattle.evaluation.specs.Lazy as lazy
-use Rattle.evaluation.specs.Matched.{Holds, Paired, holderCode}
-use Rattle.evaluation.specs.Shape.{alikeIn, alikeOf, alikeShapes, fields, items}
-use Rattle.evaluation.specs.Stored.{Fits, HasKind, Means, Room, operandOf, table}
+use Rattle.evaluation.specs.Matched.{Holds, Paired}
+use Rattle.evaluation.specs.Shape.{alikeIn, alikeOf, alikeShapes}
+use Rattle.evaluation.specs.Stored.{Fits, Room, operandOf, table}
 use Rattle.evaluation.specs.declared.children.Child.{Child}
 use Rattle.evaluation.specs.declared.children.Child.the-variants as child
 use Rattle.evaluation.specs.declared.children.Children.{Children}

@@ -1,49 +1,41 @@
 -- Operands over the table: a text by what it is written as, an array or object part by part.
 -- Assumes nothing.
-use mathlib.Core.Bool.{Bool, false, true, _&&_}
-use mathlib.Core.List.{List, [], _++_, _∷_, append-assoc, append-nil}
-use mathlib.Core.Logic.{_⊎_, inl, inr}
-use mathlib.Core.Option.{Option, none, some}
-use mathlib.Core.Path.{ap, refl, subst, sym, _∙_, _≡_}
-use Prim.Native.Nat.{max, suc, zero, ℕ, _*_, _+_, _-_, _<_, _≤_}
-use native.Mathlib.Omega.{arith}
+use mathlib.Core.Bool.{Bool}
+use mathlib.Core.List.{List, [], _∷_}
+use mathlib.Core.Logic.{inl, inr}
+use mathlib.Core.Option.{some}
+use mathlib.Core.Path.{ap, refl, subst, _∙_, _≡_}
+use Prim.Native.Nat.{ℕ, _-_, _<_, _≤_}
 use denote.Enum.Declared.{tagOf}
 use lib.ListN.{length}
 use types.Run.{OneOf, miss}
 use Rattle.reader.specs.Bytes.{Bytes}
 use Rattle.reader.specs.Held.{HasNode}
-use Rattle.reader.specs.Json.{Members, Value, Values, array, bool, isNull, null, number, object, text}
-use Rattle.reader.specs.Limits.{depth, depthIn, depthOf}
-use Rattle.reader.specs.Refusal.{Refusal, Result, noId, ok, refused, unknownExpression, _>>=_}
+use Rattle.reader.specs.Json.{text}
+use Rattle.reader.specs.Limits.{depth}
+use Rattle.reader.specs.Refusal.{Result, ok, refused, unknownExpression, _>>=_}
 use Rattle.reader.specs.Spans.{textAt}
 use Rattle.reader.specs.Table.{kindAt, startAt}
 use Rattle.sheet.specs.Condition.{Condition}
 use Rattle.sheet.specs.Sheet.{Sheet}
-use Rattle.evaluation.specs.Children.{ChildAt, Given, WalkAt, begun, childrenBy, childrenOf}
-use Rattle.evaluation.specs.Layered.{kids, valueNode}
 use Rattle.evaluation.specs.Lazy as lazy
-use Rattle.evaluation.specs.Lazy.{given, look, lookup, observe, operand, operandIn, operandOf, operandText, touch}
-use Rattle.evaluation.specs.Marks.{Heard, Left, Observed, ResolvedAs, gatheredOf, heard, missed, resolvedOf, seenOf}
-use Rattle.evaluation.specs.Matched.{Holds}
-use Rattle.evaluation.specs.Names.{Names}
-use Rattle.evaluation.specs.Operand.{Resolved, both, escaped, expression, missing, plain, present, readText, same}
+use Rattle.evaluation.specs.Lazy.{given, look, observe, operand, operandText, touch}
+use Rattle.evaluation.specs.Marks.{Observed, ResolvedAs, heard, missed}
+use Rattle.evaluation.specs.Operand.{Resolved, escaped, expression, plain, present, readText}
 use Rattle.evaluation.specs.Reached.{LookedAs, LookedFits, lookedOf, valueKind}
 use Rattle.evaluation.specs.Stored as stored
-use Rattle.evaluation.specs.Stored.{Fits, HasKind, Means, fieldsOf, itemsOf, lessOne, meant, table, tree}
+use Rattle.evaluation.specs.Stored.{Fits, HasKind, lessOne, meant, table, tree}
 use Rattle.evaluation.specs.Told.{Behind}
-use Rattle.evaluation.specs.declared.children.Children.{Children}
 use Rattle.evaluation.specs.declared.operand.Kind.{Kind}
 use Rattle.evaluation.specs.declared.operand.Kind.the-variants as kinds
 use Rattle.evaluation.specs.declared.operand.Looked.{Looked}
 use Rattle.evaluation.specs.declared.operand.Looked.the-variants as lookeds
 use Rattle.evaluation.specs.declared.operand.Operand.{Operand}
-use Rattle.evaluation.specs.declared.resolve.Part.the-variants as parts
 use Rattle.evaluation.specs.declared.resolve.Resolved as code
 use Rattle.evaluation.specs.declared.resolve.Resolved.the-variants as answers
-use Rattle.evaluation.proofs.Alike.{value-there}
-use Rattle.evaluation.proofs.Marking.{heard-none, heard-then, left-missed, left-none, left-then}
+use Rattle.evaluation.proofs.Marking.{left-missed, left-none}
 use Rattle.evaluation.proofs.Stands.{impossible}
-use Rattle.evaluation.proofs.Trees.{Layer, aFalse, aNull, aNumber, aText, aTrue, anArray, anObject, array-row, fields-are, fromNames, fromNodes, items-are, layer, object-row, text-row}
+use Rattle.evaluation.proofs.Trees.{Layer, aFalse, aNull, aNumber, aText, aTrue, anArray, anObject, layer, text-row}
 use Rattle.evaluation.proofs.operand.Kind as KindT
 
 -- an operand that is present leaves no mark

@@ -1,27 +1,27 @@
 -- Evaluation without copies agrees with the definition.
 -- Assumes nothing.
-use mathlib.Core.Path.{_≡_, refl, sym, _∙_, ap, subst}
-use mathlib.Core.List.{List, [], _∷_, _++_}
-use mathlib.Core.Option.{Option, none, some}
+use mathlib.Core.Path.{_≡_, refl, _∙_, ap}
+use mathlib.Core.List.{List, [], _∷_}
+use mathlib.Core.Option.{none, some}
 use mathlib.Core.Bool.{Bool, true, false}
-use Prim.Native.Nat.{ℕ, zero, suc, _+_, _*_, _≤_, _<_, max}
+use Prim.Native.Nat.{ℕ, _+_, _*_, _≤_, _<_}
 use native.Mathlib.Omega.{arith}
 use lib.ListN.{length}
-use Rattle.evaluation.specs.Judge.{comparedOf, holdsOf, inTurn, judge, judgeAll, nesting, overOf, shape}
-use Rattle.evaluation.specs.Lazy.{Frames, Operand, operand}
-use Rattle.evaluation.specs.Shape.{Shape, collected, digits, fields, items, nothing, seconds, truth, words}
+use Rattle.evaluation.specs.Judge.{comparedOf, inTurn, judge, judgeAll, nesting, overOf}
+use Rattle.evaluation.specs.Lazy.{Frames, Operand}
+use Rattle.evaluation.specs.Shape.{Shape, collected, seconds}
 use Rattle.evaluation.proofs.Stands.{Agree, refusing, lacking, standing, Stands, Standing, noFrame, frame, standing-length, operand-agrees}
 use Rattle.evaluation.proofs.Layers.{FitsIn, noItem, oneItem, FitsOf, noField, oneField, Fits, isNothing, isTruth, isDigits, isWords, isItems, isFields, shape-fits, holds-agrees}
 use Rattle.evaluation.proofs.Nesting.{LowSheet, Low, LowAll, LowEnv, resolve-low}
 use Rattle.evaluation.specs.Evaluate.{Answer, each, certain, collection, compared, evaluate, evaluateAll, isPresent, joined, over, unknown, valuesOf}
 use Rattle.evaluation.specs.Expression.{Env}
-use Rattle.evaluation.specs.Operand.{Resolved, missing, present, resolve}
+use Rattle.evaluation.specs.Operand.{Resolved, present, resolve}
 use Rattle.evaluation.specs.Semantics.{kernel}
-use Rattle.evaluation.specs.Truth.{negate, settles}
+use Rattle.evaluation.specs.Truth.{settles}
 use Rattle.reader.specs.Bytes.{Bytes}
-use Rattle.reader.specs.Json.{Members, Value, Values, array, bool, cons, elements, empty, member, nil, null, number, object, text}
+use Rattle.reader.specs.Json.{Members, Value, Values, elements}
 use Rattle.reader.specs.Limits.{depth, depthIn, depthOf}
-use Rattle.reader.specs.Refusal.{Result, _>>=_, ok, refused}
+use Rattle.reader.specs.Refusal.{Result, _>>=_, ok}
 use Rattle.sheet.specs.Condition.{Condition, Conditions, Form, Mode, also, exists, junction, literal, negation, noMore, pair, quantified}
 use Rattle.sheet.specs.Sheet.{Sheet}
 

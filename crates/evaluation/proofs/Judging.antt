@@ -2,7 +2,7 @@
 -- Assumes nothing.
 use mathlib.Core.Bool.{Bool, false, true}
 use mathlib.Core.List.{List, [], _++_, append-nil}
-use mathlib.Core.Path.{ap, refl, subst, sym, _∙_, _≡_}
+use mathlib.Core.Path.{ap, subst, sym, _∙_, _≡_}
 use Prim.Native.Nat.{ℕ}
 use Rattle.reader.specs.Bytes.{Bytes}
 use Rattle.reader.specs.Json.{Value}
@@ -10,11 +10,11 @@ use Rattle.reader.specs.Refusal.{Refusal, Result, ok, refused, _>>=_}
 use Rattle.sheet.specs.Condition.{Condition, Form, exists, pair}
 use Rattle.sheet.specs.Sheet.{Sheet}
 use Rattle.evaluation.specs.Answers.{EvaluatedAs, Marks, outcomeOf}
-use Rattle.evaluation.specs.Evaluate.{Answer, certain, isPresent, unknown}
+use Rattle.evaluation.specs.Evaluate.{Answer, certain, isPresent}
 use Rattle.evaluation.specs.Judge.{comparedOf, holdsOf, judge}
 use Rattle.evaluation.specs.Lazy as lazy
 use Rattle.evaluation.specs.Lazy.{operand}
-use Rattle.evaluation.specs.Marks.{Heard, Left, ResolvedAs, heard, resolvedOf}
+use Rattle.evaluation.specs.Marks.{Heard, ResolvedAs, heard, resolvedOf}
 use Rattle.evaluation.specs.Names.{Names}
 use Rattle.evaluation.specs.Operand.{Resolved, missing, present}
 use Rattle.evaluation.specs.Stored.{Fits, HasKind, operandOf, table}

@@ -1,10 +1,9 @@
 -- One layer of an operand over the table is the layer that the definitions see; two layers compare by their classes and parts.
 -- Assumes nothing.
-use mathlib.Core.Bool.{Bool, false, true, _&&_}
+use mathlib.Core.Bool.{Bool, false, true}
 use mathlib.Core.List.{List, [], _++_, _∷_}
-use mathlib.Core.Option.{Option, none, some}
 use mathlib.Core.Path.{ap, refl, subst, sym, _∙_, _≡_}
-use Prim.Native.Nat.{Ordering, suc, zero, ℕ, _*_, _+_, _-_, _<_, _≤_}
+use Prim.Native.Nat.{Ordering, suc, zero, ℕ, _+_, _-_, _<_, _≤_}
 use native.Mathlib.Numerals.{add-one}
 use native.Mathlib.Omega.{arith}
 use denote.Enum.Declared.{tagOf}
@@ -20,22 +19,21 @@ use Rattle.reader.proofs.Sound.{bind-inv, digits-sound}
 use Rattle.reader.specs.Bytes.{Bytes, sameBytes}
 use Rattle.reader.specs.Cursor.{OnText}
 use Rattle.reader.specs.Fits.{Numeral}
-use Rattle.reader.specs.Held.{HasNode}
 use Rattle.reader.specs.Json.{Members, Value, Values}
 use Rattle.reader.specs.Numerals as numerals
 use Rattle.reader.specs.Placing.{digitsAt, placeOf}
 use Rattle.reader.specs.Spans.{textAt}
-use Rattle.reader.specs.Table.{afterAt, endAt, startAt}
+use Rattle.reader.specs.Table.{endAt, startAt}
 use Rattle.sheet.specs.Condition.{Condition}
 use Rattle.sheet.specs.Sheet.{Sheet}
 use Rattle.evaluation.specs.Judge.{alike, shape}
-use Rattle.evaluation.specs.Layered.{LeavesAlike, TextPlace, alikeNodes, classOf, digitsOf, eachName, eachNode, kids, namesAgree, partAt, partBy, shapeBy, shapeOf, valueNode, wordsOf}
+use Rattle.evaluation.specs.Layered.{LeavesAlike, TextPlace, classOf, digitsOf, eachName, eachNode, kids, partAt, partBy, shapeBy, shapeOf, wordsOf}
 use Rattle.evaluation.specs.Lazy as lazy
 use Rattle.evaluation.specs.Lazy.{given, outer, partOf, touch}
 use Rattle.evaluation.specs.Semantics.{isSame}
 use Rattle.evaluation.specs.Shape as layers
-use Rattle.evaluation.specs.Shape.{Shape, alikeIn, alikeOf, alikeShapes, digits, fields, items, nothing, partsIn, partsOf, truth, words}
-use Rattle.evaluation.specs.Stored.{Fits, HasKind, Means, fieldsOf, itemsOf, lessOne, meant, operandOf, tree}
+use Rattle.evaluation.specs.Shape.{Shape, alikeShapes, digits, fields, items, nothing, partsIn, partsOf, truth, words}
+use Rattle.evaluation.specs.Stored.{Fits, HasKind, Means, lessOne, meant, operandOf, tree}
 use Rattle.evaluation.specs.Told.{UnitIs}
 use Rattle.evaluation.specs.declared.operand.Kind.{Kind}
 use Rattle.evaluation.specs.declared.operand.Kind.the-variants as kinds

@@ -1,26 +1,26 @@
 -- Layer by layer an operand has the shape of the value that it stands for; so equality and the pair forms agree with the definitions.
 -- Assumes nothing.
-use mathlib.Core.Path.{_≡_, refl, sym, _∙_, ap, subst}
-use mathlib.Core.List.{List, [], _∷_, _++_}
+use mathlib.Core.Path.{_≡_, refl, _∙_, ap}
+use mathlib.Core.List.{List, [], _∷_}
 use mathlib.Core.Option.{Option, none, some}
-use mathlib.Core.Bool.{Bool, true, false, _&&_, _||_, not}
-use Prim.Native.Nat.{ℕ, zero, suc, _+_, _*_, _≤_, _<_, max, Ordering}
+use mathlib.Core.Bool.{Bool, true, false, _||_, not}
+use Prim.Native.Nat.{ℕ, zero, suc, _≤_, _<_, Ordering}
 use native.Mathlib.Omega.{arith}
 use lib.ListN.{length}
 use Rattle.evaluation.specs.Judge.{alike, holdsOf, nesting, shape}
-use Rattle.evaluation.specs.Lazy.{Frames, Operand, given, listed, named, outer, partOf, touch}
-use Rattle.evaluation.specs.Shape.{Shape, alikeIn, alikeOf, alikeShapes, asDigits, asFields, asItems, asNothing, asTruth, asWords, containedIn, digits, fields, holdsShapes, items, keysOf, nothing, oneAlike, partsIn, partsOf, seconds, shapeOf, truth, twoNumbers, twoTexts, words}
-use Rattle.evaluation.proofs.Stands.{Maybe, neither, each, EachIn, noPart, onePart, EachOf, noMember, oneMember, Stands, itself, inArray, inObject, Standing, standing-length, touch-stands, touched-outer, outer-length}
-use Rattle.evaluation.specs.Equality.{equal, equalBy, equalIn, equalOf}
+use Rattle.evaluation.specs.Lazy.{Frames, Operand, given, outer, partOf}
+use Rattle.evaluation.specs.Shape.{Shape, alikeIn, alikeOf, alikeShapes, asDigits, asItems, asWords, containedIn, digits, fields, holdsShapes, items, keysOf, nothing, oneAlike, partsIn, partsOf, shapeOf, truth, twoNumbers, twoTexts, words}
+use Rattle.evaluation.proofs.Stands.{EachIn, noPart, onePart, EachOf, noMember, oneMember, Stands, itself, inArray, inObject, Standing, standing-length, touch-stands, touched-outer, outer-length}
+use Rattle.evaluation.specs.Equality.{equal, equalIn, equalOf}
 use Rattle.evaluation.specs.Expression.{Env}
-use Rattle.evaluation.specs.Forms.{contained, ends, hasKey, holds, isElement, isGreater, isLess, isPart, memberOf, numbers, texts}
+use Rattle.evaluation.specs.Forms.{contained, ends, holds, isElement, isGreater, isLess, isPart, memberOf, numbers, texts}
 use Rattle.evaluation.specs.Operand.{present, resolve}
 use Rattle.evaluation.specs.Semantics.{isSame, kernel}
 use Rattle.number.specs.Compare.{numberOrder}
-use Rattle.reader.specs.Bytes.{Bytes, begins, isOneOf, sameBytes}
-use Rattle.reader.specs.Json.{Members, Value, Values, array, asArray, asBool, asNumber, asObject, asText, bool, cons, empty, isNull, keys, member, nil, null, number, object, text}
+use Rattle.reader.specs.Bytes.{Bytes, begins, isOneOf}
+use Rattle.reader.specs.Json.{Members, Value, Values, array, asNumber, asText, bool, cons, empty, keys, member, nil, null, number, object, text}
 use Rattle.reader.specs.Limits.{depth, depthIn, depthOf}
-use Rattle.reader.specs.Refusal.{Result, ok}
+use Rattle.reader.specs.Refusal.{ok}
 use Rattle.sheet.specs.Condition.{Form, contains, endsWith, eq, gt, gte, isIn, lt, lte, ne, startsWith}
 use Rattle.sheet.specs.Sheet.{Sheet}
 

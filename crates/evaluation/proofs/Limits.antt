@@ -1,26 +1,24 @@
 -- A sheet that was read keeps within the limits that evaluation rests on.
 -- Assumes nothing.
-use mathlib.Core.Path.{_≡_, refl, sym, _∙_, ap, subst}
-use mathlib.Core.List.{List, [], _∷_, _++_}
+use mathlib.Core.Path.{_≡_, refl, _∙_, ap, subst}
+use mathlib.Core.List.{List, [], _∷_}
 use mathlib.Core.Option.{Option, none, some}
 use mathlib.Core.Bool.{Bool, true, false}
-use Prim.Native.Nat.{ℕ, zero, suc, _+_, _*_, _≤_, _<_, max, Ordering, Ordering·lt, Ordering·eq, Ordering·gt}
+use Prim.Native.Nat.{ℕ, _≤_, max, Ordering, Ordering·lt, Ordering·eq, Ordering·gt}
 use native.Mathlib.Omega.{arith}
 use lib.Dec.{eqb}
 use lib.ListN.{length}
-use mathlib.Core.List.{List·Memᴰ, List·Memᴰ·head, List·Memᴰ·tail}
 use Rattle.evaluation.proofs.Stands.{impossible}
 use Rattle.evaluation.proofs.Nesting.{LowSheet, Low, LowAll, Entries, find-entry}
 use Rattle.evaluation.specs.Semantics.{kernel}
 use Rattle.reader.proofs.Complete.{read-exactly}
 use Rattle.reader.specs.Bytes.{Bytes, ascii, find, orderBytes}
-use Rattle.reader.specs.Grammar.{Within}
-use Rattle.reader.specs.Json.{Members, Value, Values, array, asArray, asObject, asText, bool, cons, elements, empty, entries, keys, member, nil, null, number, object, text}
+use Rattle.reader.specs.Json.{Members, Value, Values, array, asText, bool, cons, elements, empty, entries, keys, member, nil, null, number, object, text}
 use Rattle.reader.specs.Limits.{depth, depthIn, depthOf}
 use Rattle.reader.specs.Reader.{json}
 use Rattle.reader.specs.Refusal.{Refusal, Result, _>>=_, ok, orElse, refused, wrongShape, wrongSheet}
 use Rattle.reader.specs.Sorted.{insert, sorted, sortedIn, sortedOf}
-use Rattle.sheet.specs.Condition.{Condition, Conditions, Form, Mode, Operator, also, condition, conditionArray, conditionObject, conditionsIn, conditionsOf, exists, junction, literal, negation, noMore, oneMember, opExists, opJunction, opNegation, opNotCarried, opPair, opQuantified, operators, pair, quantified, quantifier, twoOf}
+use Rattle.sheet.specs.Condition.{Condition, Conditions, Form, Mode, Operator, also, condition, conditionArray, conditionObject, conditionsIn, conditionsOf, exists, junction, literal, negation, noMore, oneMember, opExists, opJunction, opNegation, opNotCarried, opPair, opQuantified, operators, pair, quantifier, twoOf}
 use Rattle.sheet.specs.Kinds.{aBool, aText, aVersion, anArrayOf, anObject, eachOf, notNull, only, optional, required}
 use Rattle.sheet.specs.Outcome.{Outcome, anEffect, anOutcome}
 use Rattle.sheet.specs.Rule.{Rule, aRule}

@@ -1,13 +1,13 @@
 -- What marking leaves: nothing, one mark, and one step after another; and what stays ready.
 -- Assumes nothing.
 use mathlib.Core.Bool.{Bool, false, true}
-use mathlib.Core.List.{List, List·Memᴰ, List·Memᴰ·append-cases, List·Memᴰ·eq-of-singleton, List·Memᴰ·head, List·Memᴰ·not-nil, Memᴰ·append-left, Memᴰ·append-right, [], _++_, _∷_}
+use mathlib.Core.List.{List, List·Memᴰ·append-cases, List·Memᴰ·eq-of-singleton, List·Memᴰ·head, List·Memᴰ·not-nil, Memᴰ·append-left, Memᴰ·append-right, [], _++_, _∷_}
 use mathlib.Core.Logic.{_⊎_, _≢_, inl, inr}
 use mathlib.Core.Path.{ap, refl, subst, sym, _∙_, _≡_}
-use Prim.Native.Nat.{ℕ, _*_, _+_, _<_, _≤_}
+use Prim.Native.Nat.{ℕ, _+_, _<_, _≤_}
 use native.Mathlib.Omega.{arith}
 use lib.Dec.{eqb}
-use lib.ListN.{drop, getD, length, length-set, set, take}
+use lib.ListN.{getD, length, length-set, set}
 use lib.Seq.{drop-set-lt, getD-set-other, getD-set-same, take-set-le}
 use borrow.Author.Tests.{eqb-false, eqb-true}
 use Rattle.reader.specs.Bytes.{Bytes}

@@ -1,20 +1,20 @@
 -- How deep resolved values nest: at most 64 brackets for each frame and 128 more.
 -- Assumes nothing.
-use mathlib.Core.Path.{_≡_, refl, sym, _∙_, ap, subst}
-use mathlib.Core.List.{List, [], _∷_, _++_}
+use mathlib.Core.Path.{_≡_, refl, subst}
+use mathlib.Core.List.{List, [], _∷_}
 use mathlib.Core.Option.{Option, none, some}
 use mathlib.Core.Bool.{Bool, true, false}
-use Prim.Native.Nat.{ℕ, zero, suc, _+_, _*_, _≤_, _<_, max}
+use Prim.Native.Nat.{ℕ, suc, _+_, _*_, _≤_, max}
 use native.Mathlib.Omega.{arith}
 use lib.ListN.{length}
 use Rattle.evaluation.proofs.Stands.{impossible, both-inv, same-inv, observed-inv}
 use Rattle.evaluation.specs.Expression.{Env, bases, below, gives, givesParts, idOf, ifAny, parts, roots, unbound, walk}
-use Rattle.evaluation.specs.Operand.{Resolved, Written, escaped, expression, missing, observed, plain, present, readText, resolve, resolveIn, resolveOf, resolveText}
+use Rattle.evaluation.specs.Operand.{Written, escaped, expression, plain, present, readText, resolve, resolveIn, resolveOf, resolveText}
 use Rattle.evaluation.specs.Semantics.{kernel, memberStep}
 use Rattle.reader.specs.Bytes.{Bytes, find, sameBytes}
-use Rattle.reader.specs.Json.{Members, Value, Values, array, bool, cons, empty, entries, isNull, member, nil, null, number, object, text}
+use Rattle.reader.specs.Json.{Members, Value, Values, array, bool, cons, empty, entries, member, nil, null, number, object, text}
 use Rattle.reader.specs.Limits.{depth, depthIn, depthOf}
-use Rattle.reader.specs.Refusal.{Result, _>>=_, ok, refused, unknownExpression}
+use Rattle.reader.specs.Refusal.{Result, ok, refused, unknownExpression}
 use Rattle.sheet.specs.Condition.{Condition, Conditions, also, exists, junction, literal, negation, noMore, pair, quantified}
 use Rattle.sheet.specs.Sheet.{Sheet}
 

@@ -4,25 +4,24 @@ use mathlib.Core.Bool.{Bool, cond, false, true}
 use mathlib.Core.List.{List, [], _∷_}
 use mathlib.Core.Option.{Option, none, some}
 use mathlib.Core.Path.{ap, refl, subst, sym, _∙_, _≡_}
-use Prim.Native.Nat.{Ordering, Ordering·eq, Ordering·gt, Ordering·lt, suc, zero, ℕ, _*_, _+_, _-_, _<_, _≤_}
+use Prim.Native.Nat.{Ordering, Ordering·eq, Ordering·gt, Ordering·lt, suc, zero, ℕ, _+_, _-_, _<_, _≤_}
 use native.Mathlib.Omega.{arith}
 use lib.Dec.{ltb}
 use lib.ListN.{length}
-use borrow.Author.Tests.{le-ltb, lt-ltb, ltb-false, ltb-true}
+use borrow.Author.Tests.{le-ltb, lt-ltb, ltb-true}
 use Rattle.reader.proofs.KeyOrder.{namesAt, namesBy}
 use Rattle.reader.proofs.Sorted.{OrderView, after, best-changes, best-stays, better, chain, isEq′, isGt, isLess, isLt, least, less-order, more-order, order-view, same-order, step}
 use Rattle.reader.proofs.Decoded.{size-pos}
-use Rattle.reader.proofs.Walk.{More, MoreMembers, inside, members-more, values-more}
+use Rattle.reader.proofs.Walk.{More, MoreMembers, members-more, values-more}
 use Rattle.reader.specs.Bytes.{Bytes, orderBytes}
 use Rattle.reader.specs.Cursor.{OnText}
-use Rattle.reader.specs.Held.{AreMembers, AreNodes, HasMembers, HasNode}
+use Rattle.reader.specs.Held.{AreMembers, HasMembers, HasNode}
 use Rattle.reader.specs.Spans.{textAt}
 use Rattle.reader.specs.Table.{afterAt, endAt, startAt}
-use Rattle.evaluation.specs.Children.{Best, ChildAt, ChildTold, Given, NameAt, Named, WalkAt, childrenBy, childrenOf, improved, itemsBy, lastOf, lesserOf, nameOf, nodesOf}
+use Rattle.evaluation.specs.Children.{Best, ChildAt, ChildTold, NameAt, Named, WalkAt, childrenBy, improved, itemsBy, lastOf, lesserOf, nameOf, nodesOf}
 use Rattle.evaluation.specs.Stored.{HasNodes, Room, table}
 use Rattle.evaluation.specs.declared.children.Child.the-variants as child
 use Rattle.evaluation.specs.declared.children.Children.{Children}
-use Rattle.evaluation.proofs.Stands.{impossible}
 
 pub node-below : (s : Bytes) (t : List ℕ) {n : ℕ} → HasNode s t n → n < 4096
 node-below s t h = omega (arith, h .isNode .most, size-pos (h .isNode .tree))

@@ -2,13 +2,11 @@
 -- Assumes nothing.
 use mathlib.Core.Bool.{Bool, false, not, true, _||_}
 use mathlib.Core.List.{List, [], _∷_}
-use mathlib.Core.Option.{Option, none, some}
 use mathlib.Core.Path.{ap, refl, subst, sym, _∙_, _≡_}
-use Prim.Native.Nat.{Ordering, Ordering·eq, Ordering·gt, Ordering·lt, ℕ, _+_, _<_, _≤_}
-use native.Mathlib.Omega.{arith}
+use Prim.Native.Nat.{Ordering, Ordering·eq, Ordering·gt, Ordering·lt, ℕ}
 use lib.ListN.{length}
 use Rattle.number.specs.Compare.{numberOrder}
-use Rattle.reader.specs.Bytes.{Bytes, begins, isOneOf, sameBytes}
+use Rattle.reader.specs.Bytes.{Bytes, isOneOf, sameBytes}
 use Rattle.reader.specs.Held.{HasNode}
 use Rattle.reader.specs.Spans.{textAt}
 use Rattle.reader.specs.Table.{startAt}
@@ -16,13 +14,13 @@ use Rattle.sheet.specs.Condition as condition
 use Rattle.sheet.specs.Condition.{Condition}
 use Rattle.sheet.specs.Sheet.{Sheet}
 use Rattle.evaluation.specs.Children.{ChildAt, Given, Named, WalkAt, childrenOf}
-use Rattle.evaluation.specs.Forms.{ends, isGreater, isLess, isPart}
-use Rattle.evaluation.specs.Judge.{alike, holdsOf, nesting, shape}
+use Rattle.evaluation.specs.Forms.{isGreater, isLess}
+use Rattle.evaluation.specs.Judge.{alike, holdsOf, nesting}
 use Rattle.evaluation.specs.Layered.{TextPlace, classOf, digitsOf, eachName, eachNode, kids, partAt, shapeOf, wordsOf}
 use Rattle.evaluation.specs.Lazy as lazy
 use Rattle.evaluation.specs.Matched.{NumbersTold, TextsTold, found, inOrder, namesOf}
 use Rattle.evaluation.specs.Semantics.{isSame}
-use Rattle.evaluation.specs.Shape.{Shape, asDigits, asItems, asWords, containedIn, digits, fields, holdsShapes, items, keysOf, nothing, oneAlike, truth, twoNumbers, twoTexts, words}
+use Rattle.evaluation.specs.Shape.{Shape, containedIn, digits, fields, holdsShapes, items, keysOf, nothing, oneAlike, truth, twoNumbers, twoTexts, words}
 use Rattle.evaluation.specs.Stored.{operandOf}
 use Rattle.evaluation.specs.declared.children.Children.{Children}
 use Rattle.evaluation.specs.declared.holds.Where.{Where}

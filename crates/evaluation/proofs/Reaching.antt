@@ -1,19 +1,19 @@
 -- Touching, looking up and walking on over the table, step by step as the code takes them.
 -- Assumes nothing.
-use mathlib.Core.Bool.{Bool, false, true}
+use mathlib.Core.Bool.{false, true}
 use mathlib.Core.List.{List, [], _∷_}
 use mathlib.Core.Option.{Option, none, some}
 use mathlib.Core.Path.{ap, refl, subst, sym, _∙_, _≡_}
-use Prim.Native.Nat.{suc, zero, ℕ, _*_, _+_, _-_, _<_, _≤_}
+use Prim.Native.Nat.{suc, zero, ℕ, _-_}
 use native.Mathlib.Omega.{arith}
 use denote.Enum.Declared.{tagOf}
-use lib.ListN.{drop, length, take}
+use lib.ListN.{length}
 use types.Run.{OneOf, miss}
 use Rattle.reader.proofs.Laws.{sameBytes-true}
 use Rattle.reader.specs.Bytes.{Bytes, find, sameBytes}
 use Rattle.reader.specs.Held.{HasNode}
-use Rattle.reader.specs.Json.{Members, Value, array, bool, entries, null, number, object, text}
-use Rattle.reader.specs.Refusal.{Result, ok, refused, unknownExpression, _>>=_}
+use Rattle.reader.specs.Json.{Members, Value, entries, null, object, text}
+use Rattle.reader.specs.Refusal.{ok, refused, unknownExpression, _>>=_}
 use Rattle.reader.specs.Spans.{textAt}
 use Rattle.reader.specs.Table.{kindAt, startAt}
 use Rattle.sheet.specs.Condition.{Condition}
@@ -23,10 +23,10 @@ use Rattle.evaluation.specs.Lazy as lazy
 use Rattle.evaluation.specs.Lazy.{given, look, lookParts, mapSome, orNull, outer, readPart, stepFrom, touch, walkFrom}
 use Rattle.evaluation.specs.Operand.{escaped, expression, plain, readText}
 use Rattle.evaluation.specs.Path.{further, part}
-use Rattle.evaluation.specs.Reached.{BoundAs, BoundFits, FoundNode, LookedAs, LookedFits, MemberTold, NullTold, ValueTold, boundOf, foundAs, foundTree, lookedOf, valueKind, writtenKind}
+use Rattle.evaluation.specs.Reached.{BoundAs, BoundFits, FoundNode, LookedAs, LookedFits, MemberTold, NullTold, boundOf, foundAs, foundTree, lookedOf, writtenKind}
 use Rattle.evaluation.specs.Rooted.{baseGives, baseMembers, rootGives, rootOf}
 use Rattle.evaluation.specs.Semantics.{kernel, memberStep}
-use Rattle.evaluation.specs.Stored.{Fits, HasKind, Means, fieldsOf, itemsOf, lessOne, meant, operandOf, tree}
+use Rattle.evaluation.specs.Stored.{Fits, HasKind, Means, fieldsOf, lessOne, meant, operandOf, tree}
 use Rattle.evaluation.specs.Told.{Behind}
 use Rattle.evaluation.specs.declared.operand.Bound.{Bound}
 use Rattle.evaluation.specs.declared.operand.Bound.the-variants as bounds

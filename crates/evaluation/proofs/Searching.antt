@@ -1,11 +1,11 @@
 -- A part looked for in a text, turn by turn.
 -- Assumes nothing.
-use mathlib.Core.Bool.{Bool, false, true}
+use mathlib.Core.Bool.{false, true}
 use mathlib.Core.List.{[], _∷_}
-use mathlib.Core.Path.{ap, refl, subst, sym, _∙_, _≡_}
-use Prim.Native.Nat.{ℕ, _<_}
+use mathlib.Core.Path.{subst, _≡_}
+use Prim.Native.Nat.{ℕ}
 use Rattle.reader.specs.Bytes.{Bytes, begins, sameBytes}
-use Rattle.reader.specs.Cursor.{OnText, before, weight}
+use Rattle.reader.specs.Cursor.{OnText, before}
 use Rattle.reader.specs.Spans.{textAt}
 use Rattle.reader.specs.declared.text.Cursor.{Cursor}
 use Rattle.evaluation.specs.Forms.{ends, isPart}

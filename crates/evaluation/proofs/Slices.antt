@@ -1,10 +1,9 @@
 -- A text seen from a slice that starts in its middle; frames seen as the definitions have them; and what the code asks of both.
 -- Assumes nothing.
-use mathlib.Core.Bool.{Bool, cond, false, true}
+use mathlib.Core.Bool.{Bool, false, true}
 use mathlib.Core.List.{List, [], _∷_}
-use mathlib.Core.Option.{Option, none, some}
-use mathlib.Core.Path.{ap, refl, subst, sym, _∙_, _≡_}
-use Prim.Native.Nat.{suc, zero, ℕ, _*_, _+_, _-_, _<_, _≤_}
+use mathlib.Core.Path.{ap, refl, sym, _∙_, _≡_}
+use Prim.Native.Nat.{suc, ℕ, _*_, _+_, _-_, _<_, _≤_}
 use native.Mathlib.Omega.{arith}
 use lib.Dec.{leb}
 use lib.ListN.{drop, length, length-drop, take}
@@ -17,20 +16,16 @@ use Rattle.reader.specs.Cursor.{OnText}
 use Rattle.reader.specs.Fits.{Text}
 use Rattle.reader.specs.Held.{HasNode}
 use Rattle.reader.specs.Placing.{charsAt, placeOf}
-use Rattle.reader.specs.Refusal.{Result, ok, _>>=_}
-use Rattle.reader.specs.Scan.{Read}
 use Rattle.reader.specs.Spans.{textAt}
 use Rattle.reader.specs.Strings.{chars}
-use Rattle.evaluation.specs.Lazy as lazy
 use Rattle.evaluation.specs.Lazy.{outer}
 use Rattle.evaluation.specs.Reached.{BoundAs, BoundFits, boundOf}
 use Rattle.evaluation.specs.Ready.{PathAt, Ready}
-use Rattle.evaluation.specs.Stack.{Named, boundIn, held, top}
-use Rattle.evaluation.specs.Stored.{Bound, FramesAt, Room, frameOf, framed, framesOf, table}
+use Rattle.evaluation.specs.Stack.{Named, boundIn, held}
+use Rattle.evaluation.specs.Stored.{Bound, Room, frameOf, framed, framesOf, table}
 use Rattle.evaluation.specs.declared.frames.Frame.{Frame}
 use Rattle.evaluation.specs.declared.frames.Frames.{Frames}
 use Rattle.evaluation.specs.declared.operand.Bound as code
-use Rattle.evaluation.specs.declared.operand.Bound.the-variants as bounds
 use Rattle.evaluation.specs.declared.roots.Roots.{Roots}
 use Rattle.evaluation.proofs.Ordered.{node-below}
 use Rattle.evaluation.proofs.Stack.{top-length}

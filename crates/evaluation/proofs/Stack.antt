@@ -4,7 +4,7 @@ use mathlib.Core.Bool.{Bool, cond, false, true}
 use mathlib.Core.List.{List, [], _∷_, map}
 use mathlib.Core.Logic.{_≢_, ⊎-elim}
 use mathlib.Core.Path.{ap, refl, sym, _∙_, _≡_}
-use Prim.Native.Nat.{min, suc, zero, ℕ, _+_, _-_, _<_, _≤_}
+use Prim.Native.Nat.{suc, zero, ℕ, _+_, _-_, _<_, _≤_}
 use native.Mathlib.Nat.{eq-or-lt-of-le, le-of-suc-le-suc}
 use native.Mathlib.Numerals.{add-one}
 use native.Mathlib.Omega.{arith}
@@ -18,7 +18,6 @@ use Rattle.reader.specs.Spans.{textAt}
 use Rattle.evaluation.specs.Lazy.{outer}
 use Rattle.evaluation.specs.Stack.{Named, boundIn, noFrame, top}
 use Rattle.evaluation.specs.declared.frames.Frame.{Frame}
-use Rattle.evaluation.specs.declared.operand.Bound.{Bound}
 use Rattle.evaluation.specs.declared.operand.Bound.the-variants.{At, Nothing}
 use Rattle.evaluation.proofs.Stands.{outer-all, outer-cons}
 

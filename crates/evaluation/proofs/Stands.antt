@@ -1,17 +1,15 @@
 -- What operands and frames stand for, and that lookup, paths, touching and resolving agree with the definitions.
 -- Assumes nothing.
-use mathlib.Core.Path.{_≡_, refl, sym, _∙_, ap, subst}
-use mathlib.Core.List.{List, [], _∷_, _++_}
+use mathlib.Core.Path.{_≡_, refl, sym, ap, subst}
+use mathlib.Core.List.{List, [], _∷_}
 use mathlib.Core.Option.{Option, none, some}
-use mathlib.Core.Bool.{Bool, true, false, true≢false, false≢true}
-use Prim.Native.Nat.{ℕ, zero, suc, _+_, _*_, _≤_, _<_}
+use mathlib.Core.Bool.{Bool, true, false}
+use Prim.Native.Nat.{ℕ, zero, suc, _≤_, _<_}
 use native.Mathlib.Omega.{arith}
-use lib.Dec.{leb, leb→le, nleb→lt}
+use lib.Dec.{leb}
 use lib.ListN.{length}
 use borrow.Author.Tests.{leb-true, leb-false}
-use Rattle.evaluation.specs.Judge.{shape}
-use Rattle.evaluation.specs.Lazy.{Frames, Operand, given, listed, look, lookParts, lookup, mapSome, named, observe, operand, operandIn, operandOf, operandText, orNull, outer, partOf, readPart, stepFrom, touch, walkFrom}
-use Rattle.evaluation.specs.Shape.{Shape, digits, fields, items, nothing, partsIn, partsOf, shapeOf, truth, words}
+use Rattle.evaluation.specs.Lazy.{Frames, Operand, given, listed, look, lookParts, lookup, mapSome, named, observe, operand, operandIn, operandOf, operandText, orNull, outer, readPart, stepFrom, touch, walkFrom}
 use Rattle.evaluation.specs.Expression.{Env, gives, givesParts, parts, unbound, walk}
 use Rattle.evaluation.specs.Names.{Names}
 use Rattle.evaluation.specs.Operand.{Resolved, Written, both, escaped, expression, missing, observed, plain, present, readText, resolve, resolveIn, resolveOf, resolveText, same}

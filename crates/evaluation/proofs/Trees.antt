@@ -3,7 +3,7 @@
 use mathlib.Core.Bool.{Bool, cond, false, true}
 use mathlib.Core.List.{List, [], _∷_}
 use mathlib.Core.Option.{Option, none, some}
-use mathlib.Core.Path.{ap, refl, subst, sym, _∙_, _≡_}
+use mathlib.Core.Path.{ap, refl, sym, _∙_, _≡_}
 use Prim.Native.Nat.{Ordering, Ordering·eq, Ordering·gt, Ordering·lt, suc, zero, ℕ, _+_, _-_, _<_, _≤_}
 use native.Mathlib.Omega.{arith}
 use lib.Dec.{ltb}
@@ -16,7 +16,7 @@ use Rattle.reader.specs.Cursor.{OnText}
 use Rattle.reader.specs.Fits.{FitsLeaf, Numeral, Text}
 use Rattle.reader.specs.Held.{HasMembers, HasNode}
 use Rattle.reader.specs.Json.{Members, Value, Values, array, bool, cons, empty, entries, member, nil, null, number, object, text}
-use Rattle.reader.specs.Sorted.{sorted, sortedIn, sortedOf}
+use Rattle.reader.specs.Sorted.{sorted, sortedIn}
 use Rattle.reader.specs.Spans.{Plain, plain, textAt}
 use Rattle.reader.specs.Table.{afterAt, code, endAt, kindAt, startAt, valueAt, valuesAt, valuesBy}
 use Rattle.evaluation.specs.Children.{WalkAt, begun, childrenBy, childrenOf, itemsBy, lastOf, nodesOf}

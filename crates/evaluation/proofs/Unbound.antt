@@ -3,25 +3,23 @@
 use mathlib.Core.Bool.{Bool, false, true}
 use mathlib.Core.List.{List, [], _∷_}
 use mathlib.Core.Option.{Option, none, some}
-use mathlib.Core.Path.{ap, refl, subst, sym, _∙_, _≡_}
+use mathlib.Core.Path.{refl, subst, sym, _≡_}
 use Prim.Native.Nat.{suc, zero, ℕ}
 use native.Mathlib.Omega.{arith}
 use Rattle.reader.proofs.Laws.{sameBytes-true}
 use Rattle.reader.specs.Bytes.{Bytes, ascii, find, sameBytes}
 use Rattle.reader.specs.Json.{Members, Value, number, object, text}
-use Rattle.reader.specs.Refusal.{Result, noId, ok, refused, unknownExpression, _>>=_}
+use Rattle.reader.specs.Refusal.{Result, ok, refused, unknownExpression}
 use Rattle.sheet.specs.Condition.{Condition}
 use Rattle.sheet.specs.Sheet.{Sheet}
-use Rattle.evaluation.specs.Expression.{bases, below, idOf, ifAny, roots, unbound, walk}
-use Rattle.evaluation.specs.Lazy as lazy
+use Rattle.evaluation.specs.Expression.{bases, below, roots, unbound}
 use Rattle.evaluation.specs.Lazy.{given, mapSome}
 use Rattle.evaluation.specs.Reached.{BoundAs, BoundFits, LookedAs, LookedFits, boundOf, lookedOf}
-use Rattle.evaluation.specs.Rooted.{BaseTold, IsNumber, IsObject, IsText, MayBeText, RootTold, Rooted, baseGives, baseMembers, noSheet, objectOperand, orUnknown, rootGives, rootNames, rootOf, rootValue, textLooked}
+use Rattle.evaluation.specs.Rooted.{BaseTold, IsNumber, IsObject, IsText, MayBeText, RootTold, baseGives, baseMembers, noSheet, objectOperand, orUnknown, rootGives, rootNames, rootOf, rootValue, textLooked}
 use Rattle.evaluation.specs.Semantics.{kernel}
 use Rattle.evaluation.specs.Stored.{Fits, meant}
 use Rattle.evaluation.specs.declared.operand.Bound.the-variants as bounds
 use Rattle.evaluation.specs.declared.operand.Kind.the-variants as kinds
-use Rattle.evaluation.specs.declared.operand.Looked.{Looked}
 use Rattle.evaluation.specs.declared.operand.Looked.the-variants as lookeds
 use Rattle.evaluation.specs.declared.roots.Root.{Root}
 use Rattle.evaluation.specs.declared.roots.Root.the-variants as root

@@ -1,14 +1,14 @@
 -- Units of a text, a `$` at its start, and the first dot of a path.
 -- Assumes nothing.
 use mathlib.Core.Bool.{Bool, false, true}
-use mathlib.Core.List.{List, [], _++_, _∷_, append-assoc}
+use mathlib.Core.List.{List, [], _++_, _∷_}
 use mathlib.Core.Option.{Option, none, some}
 use mathlib.Core.Path.{ap, refl, subst, sym, _∙_, _≡_}
-use Prim.Native.Nat.{suc, zero, ℕ, _%_, _+_, _-_, _*_, _/_, _<_, _≤_}
+use Prim.Native.Nat.{suc, zero, ℕ, _+_, _-_, _/_, _<_, _≤_}
 use native.Mathlib.Omega.{arith}
 use lib.Dec.{eqb, leb}
 use lib.ListN.{drop, getD, length, length-drop}
-use borrow.Author.Tests.{eq-eqb, leb-false, leb-true, ne-eqb}
+use borrow.Author.Tests.{leb-false, leb-true, ne-eqb}
 use Rattle.reader.proofs.Cursor.{encode-1, encode-2, encode-3, encode-4}
 use Rattle.reader.proofs.Laws.{ok-injective}
 use Rattle.reader.proofs.Texts.{TextView, ended, raw, text-view, written}

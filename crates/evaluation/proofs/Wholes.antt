@@ -3,12 +3,11 @@
 use mathlib.Core.Bool.{Bool, false, true, _&&_}
 use mathlib.Core.List.{List, [], _++_, _∷_, append-assoc, append-nil}
 use mathlib.Core.Path.{ap, refl, subst, sym, _∙_, _≡_}
-use Prim.Native.Nat.{max, suc, zero, ℕ, _*_, _+_, _-_, _<_, _≤_}
+use Prim.Native.Nat.{ℕ, _+_, _-_, _≤_}
 use native.Mathlib.Omega.{arith}
 use lib.ListN.{length}
 use Rattle.reader.specs.Bytes.{Bytes}
-use Rattle.reader.specs.Held.{HasNode}
-use Rattle.reader.specs.Json.{Members, Value, Values, array, object}
+use Rattle.reader.specs.Json.{Members, Value, Values}
 use Rattle.reader.specs.Limits.{depth, depthIn, depthOf}
 use Rattle.reader.specs.Refusal.{Refusal, Result, ok, refused, _>>=_}
 use Rattle.sheet.specs.Condition.{Condition}
@@ -22,14 +21,13 @@ use Rattle.evaluation.specs.Matched.{Holds}
 use Rattle.evaluation.specs.Names.{Names}
 use Rattle.evaluation.specs.Operand.{Resolved, both, missing, present, same}
 use Rattle.evaluation.specs.Stored as stored
-use Rattle.evaluation.specs.Stored.{Fits, HasKind, fieldsOf, itemsOf, meant, table, tree}
+use Rattle.evaluation.specs.Stored.{Fits, fieldsOf, itemsOf, meant, table, tree}
 use Rattle.evaluation.specs.declared.children.Children.{Children}
 use Rattle.evaluation.specs.declared.operand.Kind.the-variants as kinds
 use Rattle.evaluation.specs.declared.operand.Operand.{Operand}
 use Rattle.evaluation.specs.declared.resolve.Part.the-variants as parts
 use Rattle.evaluation.specs.declared.resolve.Resolved as code
 use Rattle.evaluation.specs.declared.resolve.Resolved.the-variants as answers
-use Rattle.evaluation.proofs.Alike.{value-there}
 use Rattle.evaluation.proofs.Marking.{heard-none, heard-then, left-none, left-then}
 use Rattle.evaluation.proofs.Stands.{impossible}
 use Rattle.evaluation.proofs.Trees.{array-row, fields-are, fromNames, fromNodes, items-are, object-row}

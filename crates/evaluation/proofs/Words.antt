@@ -1,10 +1,9 @@
 -- A word of the rows, read from the words with their marks.
 -- Assumes nothing.
 use mathlib.Core.List.{List}
-use mathlib.Core.Path.{sym, _≡_}
-use Prim.Native.Nat.{ℕ, _+_, _*_, _<_, _≤_}
-use native.Mathlib.Omega.{arith}
-use lib.ListN.{getD, length}
+use mathlib.Core.Path.{_≡_}
+use Prim.Native.Nat.{ℕ, _<_}
+use lib.ListN.{getD}
 use lib.Seq.{getD-take}
 use Rattle.evaluation.specs.Stored.{table}
 

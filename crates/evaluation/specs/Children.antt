@@ -11,7 +11,6 @@ use Rattle.reader.proofs.Sorted.{after, chain, least}
 use Rattle.reader.specs.Bytes.{Bytes, orderBytes}
 use Rattle.reader.specs.Cursor.{OnText}
 use Rattle.reader.specs.Held.{HasMembers, HasNode}
-use Rattle.reader.specs.Limits.{maxNodes}
 use Rattle.reader.specs.Spans.{textAt}
 use Rattle.reader.specs.Table.{afterAt, startAt}
 use Rattle.evaluation.specs.Stored.{HasNodes}

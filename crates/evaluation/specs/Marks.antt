@@ -1,10 +1,10 @@
 -- Marks: a word behind the rows for each node. What is marked are the texts of missing expressions; and what resolving leaves and answers.
 -- Assumes nothing.
 use mathlib.Core.Bool.{Bool, false, true}
-use mathlib.Core.List.{List, [], _∷_}
+use mathlib.Core.List.{List}
 use mathlib.Core.Logic.{_⊎_}
 use mathlib.Core.Path.{_≡_}
-use Prim.Native.Nat.{ℕ, _*_, _+_, _<_, _≤_}
+use Prim.Native.Nat.{ℕ, _+_, _<_, _≤_}
 use lib.ListN.{drop, getD, length, set}
 use Rattle.reader.specs.Bytes.{Bytes}
 use Rattle.reader.specs.Refusal.{Result, noId, ok, refused, unknownExpression}
@@ -14,9 +14,8 @@ use Rattle.evaluation.specs.Lazy as lazy
 use Rattle.evaluation.specs.Names.{Named, Names, noNames}
 use Rattle.evaluation.specs.Operand as operands
 use Rattle.evaluation.specs.Ready.{Ready}
-use Rattle.evaluation.specs.Stored.{Fits, HasKind, OperandAt, operandOf, table}
+use Rattle.evaluation.specs.Stored.{HasKind, OperandAt, operandOf, table}
 use Rattle.evaluation.specs.declared.frames.Frames.{Frames}
-use Rattle.evaluation.specs.declared.operand.Kind.{Kind}
 use Rattle.evaluation.specs.declared.operand.Kind.the-variants as kinds
 use Rattle.evaluation.specs.declared.operand.Operand.{Operand}
 use Rattle.evaluation.specs.declared.resolve.Part.{Part}

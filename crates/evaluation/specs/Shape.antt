@@ -4,14 +4,13 @@ use mathlib.Core.List.{List, [], _∷_}
 use mathlib.Core.Option.{Option, none, some}
 use mathlib.Core.Bool.{Bool, true, false, _&&_, _||_, not}
 use Prim.Native.Nat.{Ordering}
-use Rattle.evaluation.specs.Expression.{parts}
 use Rattle.evaluation.specs.Forms.{ends, isGreater, isLess, isPart}
 use Rattle.evaluation.specs.Semantics.{isSame, kernel}
 use Rattle.number.specs.Compare.{numberOrder}
 use Rattle.reader.specs.Bytes.{Bytes, begins, isOneOf, sameBytes}
-use Rattle.reader.specs.Json.{Members, Value, Values, array, bool, cons, elements, empty, member, nil, null, number, object, text}
-use Rattle.sheet.specs.Condition.{Form, contains, endsWith, eq, gt, gte, isIn, lt, lte, ne, pair, startsWith}
-use Rattle.evaluation.specs.Lazy.{Operand, given, operand}
+use Rattle.reader.specs.Json.{Members, Value, Values, array, bool, cons, empty, member, nil, null, number, object, text}
+use Rattle.sheet.specs.Condition.{Form, contains, endsWith, eq, gt, gte, isIn, lt, lte, ne, startsWith}
+use Rattle.evaluation.specs.Lazy.{Operand, given}
 
 -- One layer of an operand: its kind, and what it holds.
 pub data Shape (A : Type 0) : Type 0 where

@@ -3,11 +3,10 @@
 use mathlib.Core.Bool.{false, true}
 use mathlib.Core.List.{List, [], _∷_}
 use mathlib.Core.Path.{_≡_}
-use Prim.Native.Nat.{suc, zero, ℕ, _+_, _*_, _<_, _≤_}
+use Prim.Native.Nat.{ℕ, _+_, _*_, _<_, _≤_}
 use lib.ListN.{length, take}
 use lib.Seq.{slice}
 use Rattle.reader.specs.Bytes.{Bytes}
-use Rattle.reader.specs.Cursor.{OnText}
 use Rattle.reader.specs.Held.{AreNodes, HasNode}
 use Rattle.reader.specs.Json.{Members, Value, Values, array, bool, null, number, object, text}
 use Rattle.reader.specs.Limits.{maxNodes}

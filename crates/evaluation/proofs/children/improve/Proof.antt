@@ -3,7 +3,7 @@
 use borrow.Author.Needs.{needs}
 use Rattle.evaluation.proofs.children.improve.Statement.{statement}
 use Rattle.evaluation.proofs.children.improve.Tie as tie
-use mathlib.Core.Path.{sym, _∙_}
+use mathlib.Core.Path.{_∙_}
 use Rattle.evaluation.specs.Children.{improved}
 
 is-after-requires : tie.Need-is-after-requires

@@ -3,7 +3,7 @@
 use borrow.Author.Needs.{needs}
 use Rattle.evaluation.proofs.children.lesser.Statement.{statement}
 use Rattle.evaluation.proofs.children.lesser.Tie as tie
-use mathlib.Core.Path.{ap, refl, sym, _∙_}
+use mathlib.Core.Path.{ap, _∙_}
 use Rattle.evaluation.proofs.Ordered.{is-name, lesser-order, name-room, on-name}
 use Rattle.evaluation.specs.Children.{lesserOf}
 use Rattle.evaluation.specs.Stored.{table}

@@ -3,7 +3,6 @@
 use borrow.Author.Needs.{needs}
 use Rattle.evaluation.proofs.comparison.exists_at.Statement.{statement}
 use Rattle.evaluation.proofs.comparison.exists_at.Tie as tie
-use mathlib.Core.Path.{_≡_, refl, sym, _∙_}
 use Rattle.evaluation.specs.Rooted.{sheetIn}
 use Rattle.evaluation.specs.Stored.{framesOf, table, tree}
 use Rattle.evaluation.proofs.Judging.{exists-false, exists-refused, exists-true, no-id-first, unknown-first}

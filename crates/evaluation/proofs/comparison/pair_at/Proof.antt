@@ -3,7 +3,7 @@
 use borrow.Author.Needs.{needs}
 use Rattle.evaluation.proofs.comparison.pair_at.Statement.{statement}
 use Rattle.evaluation.proofs.comparison.pair_at.Tie as tie
-use mathlib.Core.Path.{_≡_, refl, sym, _∙_}
+use mathlib.Core.Path.{_∙_}
 use Rattle.evaluation.specs.Rooted.{sheetIn}
 use Rattle.evaluation.specs.Stored.{framesOf, table, tree}
 use Rattle.evaluation.specs.Matched.{formOf}

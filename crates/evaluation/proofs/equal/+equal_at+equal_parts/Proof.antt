@@ -18,7 +18,7 @@ use Rattle.evaluation.proofs.layer.same_leaf.Reads as same-leaf-reads
 use Rattle.evaluation.proofs.layer.value_node.Reads as value-node-reads
 use Rattle.evaluation.proofs.equal.+equal_at+equal_parts.{statement}
 use Rattle.evaluation.proofs.equal.+equal_at+equal_parts.Tie.{close}
-use mathlib.Core.Path.{_≡_, refl, sym, _∙_}
+use mathlib.Core.Path.{sym, _∙_}
 use Prim.Native.Nat.{ℕ, _<_, _+_, _*_, _-_}
 use Rattle.evaluation.specs.Judge.{alike}
 use Rattle.evaluation.specs.Layered.{alikeNodes, kids, partAt}

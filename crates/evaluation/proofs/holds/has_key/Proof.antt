@@ -3,7 +3,6 @@
 use Rattle.evaluation.proofs.holds.has_key.Statement.{statement}
 use Rattle.evaluation.proofs.holds.has_key.Tie as tie
 use mathlib.Core.Bool.{true}
-use mathlib.Core.Path.{refl, _∙_}
 use Rattle.reader.specs.Bytes.{isOneOf}
 use Rattle.reader.specs.Spans.{textAt}
 use Rattle.evaluation.specs.Layered.{kids}

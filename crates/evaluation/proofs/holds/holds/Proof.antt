@@ -3,7 +3,7 @@
 use borrow.Author.Needs.{needs}
 use Rattle.evaluation.proofs.holds.holds.Statement.{statement}
 use Rattle.evaluation.proofs.holds.holds.Tie as tie
-use mathlib.Core.Path.{ap, refl, sym, subst, _∙_, _≡_}
+use mathlib.Core.Path.{ap, sym, _∙_}
 use Rattle.evaluation.specs.Judge.{nesting}
 use Rattle.evaluation.specs.Rooted.{sheetIn}
 use Rattle.evaluation.specs.Stored.{framesOf, table}

@@ -3,7 +3,6 @@
 use Rattle.evaluation.proofs.holds.is_element.Statement.{statement}
 use Rattle.evaluation.proofs.holds.is_element.Tie as tie
 use mathlib.Core.Bool.{false}
-use mathlib.Core.Path.{refl, _∙_}
 use Rattle.evaluation.specs.Judge.{alike}
 use Rattle.evaluation.specs.Layered.{eachNode, kids, partAt}
 use Rattle.evaluation.specs.Rooted.{sheetIn}

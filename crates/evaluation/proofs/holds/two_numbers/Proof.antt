@@ -3,9 +3,8 @@
 use borrow.Author.Needs.{needs}
 use Rattle.evaluation.proofs.holds.two_numbers.Statement.{statement}
 use Rattle.evaluation.proofs.holds.two_numbers.Tie as tie
-use mathlib.Core.Path.{ap, sym, subst, _∙_, _≡_}
+use mathlib.Core.Path.{ap, sym, subst, _∙_}
 use mathlib.Core.Bool.{Bool}
-use Prim.Native.Nat.{Ordering}
 use Rattle.number.specs.Compared.{orderOf}
 use Rattle.evaluation.specs.Matched.{NumbersTold, inOrder}
 use Rattle.evaluation.specs.Stored.{table}

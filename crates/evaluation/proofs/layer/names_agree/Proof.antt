@@ -2,7 +2,6 @@
 -- Assumes nothing.
 use Rattle.evaluation.proofs.layer.names_agree.Statement.{statement}
 use Rattle.evaluation.proofs.layer.names_agree.Tie as tie
-use mathlib.Core.Path.{_∙_}
 use Rattle.evaluation.proofs.Alike.{child-name, names-same}
 use Rattle.evaluation.proofs.Ordered.{name-room, on-name}
 use Rattle.evaluation.specs.Layered.{namesAgree}

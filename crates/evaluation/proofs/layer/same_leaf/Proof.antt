@@ -3,7 +3,7 @@
 use borrow.Author.Needs.{needs}
 use Rattle.evaluation.proofs.layer.same_leaf.Statement.{statement}
 use Rattle.evaluation.proofs.layer.same_leaf.Tie as tie
-use mathlib.Core.Path.{ap, refl, sym, _∙_}
+use mathlib.Core.Path.{ap, sym, _∙_}
 use Rattle.evaluation.proofs.Layered.{leaf-number, leaf-same, leaf-text, number-kind}
 use Rattle.evaluation.specs.Semantics.{isSame}
 use Rattle.evaluation.specs.Stored.{table}

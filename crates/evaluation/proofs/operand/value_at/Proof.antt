@@ -3,7 +3,6 @@
 use borrow.Author.Needs.{needs}
 use Rattle.evaluation.proofs.operand.value_at.Statement.{statement}
 use Rattle.evaluation.proofs.operand.value_at.Tie as tie
-use mathlib.Core.Path.{ap, sym, _∙_}
 use Rattle.evaluation.proofs.Trees.{value-means}
 use Rattle.evaluation.specs.Stored.{table}
 

@@ -4,7 +4,7 @@ use borrow.Author.Needs.{needs}
 use Rattle.evaluation.proofs.operand.written_kind.Statement.{statement}
 use Rattle.evaluation.proofs.operand.written_kind.Tie as tie
 use borrow.Author.Tests.{ne-eqb}
-use mathlib.Core.Path.{sym, _∙_}
+use mathlib.Core.Path.{_∙_}
 use Rattle.reader.specs.Bytes.{choose}
 
 returns : tie.Need-returns

@@ -3,7 +3,7 @@
 use Rattle.evaluation.proofs.path.rest_at.Statement.{statement}
 use Rattle.evaluation.proofs.path.rest_at.Tie as tie
 use mathlib.Core.Path.{_≡_, refl, _∙_}
-use Prim.Native.Nat.{_-_, _≤_}
+use Prim.Native.Nat.{_-_}
 use lib.ListN.{length}
 use Rattle.evaluation.proofs.Units.{dot-further, dot-here, unit-ended, unit-was}
 use Rattle.evaluation.specs.Path.{further}

@@ -33,12 +33,11 @@ use Rattle.evaluation.proofs.rows.start_at.Reads as start-at-reads
 use Rattle.evaluation.proofs.written.classify.Reads as classify-reads
 use Rattle.evaluation.proofs.reach.+look_up+step_to+touch_at+walk_on.{statement}
 use Rattle.evaluation.proofs.reach.+look_up+step_to+touch_at+walk_on.Tie.{close}
-use mathlib.Core.Path.{_≡_, refl, sym, subst, _∙_}
+use mathlib.Core.Path.{sym, subst, _∙_}
 use Prim.Native.Nat.{ℕ, _<_, _+_, _*_, _-_}
-use lib.ListN.{drop, length, take}
+use lib.ListN.{length}
 use Rattle.reader.specs.Cursor.{OnText}
 use Rattle.reader.specs.Spans.{textAt}
-use Rattle.reader.specs.Table.{startAt}
 use Rattle.evaluation.specs.Lazy.{touch}
 use Rattle.evaluation.specs.Path.{part}
 use Rattle.evaluation.specs.Rooted.{sheetIn}

@@ -20,7 +20,7 @@ use Rattle.evaluation.proofs.resolve.seen.Reads as seen-reads
 use Rattle.evaluation.proofs.rows.kind_at.Reads as kind-at-reads
 use Rattle.evaluation.proofs.resolve.+resolve+resolve_parts.{statement}
 use Rattle.evaluation.proofs.resolve.+resolve+resolve_parts.Tie.{close}
-use mathlib.Core.Path.{_≡_, refl, sym, _∙_}
+use mathlib.Core.Path.{sym, _∙_}
 use Prim.Native.Nat.{ℕ, _<_, _+_, _*_, _-_}
 use Rattle.evaluation.specs.Lazy.{operand}
 use Rattle.evaluation.specs.Rooted.{sheetIn}

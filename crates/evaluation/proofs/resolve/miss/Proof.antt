@@ -4,7 +4,6 @@ use borrow.Author.Needs.{needs}
 use Rattle.evaluation.proofs.resolve.miss.Statement.{statement}
 use Rattle.evaluation.proofs.resolve.miss.Tie as tie
 use mathlib.Core.Path.{refl, _∙_}
-use lib.ListN.{length-set}
 
 returns : tie.Need-returns
 returns c = (refl, rw (c .if1 .taken))

@@ -3,7 +3,7 @@
 use borrow.Author.Needs.{needs}
 use Rattle.evaluation.proofs.resolve.resolve_text.Statement.{statement}
 use Rattle.evaluation.proofs.resolve.resolve_text.Tie as tie
-use mathlib.Core.Path.{refl, subst, sym, _∙_}
+use mathlib.Core.Path.{subst, sym}
 use Prim.Native.Nat.{ℕ}
 use Rattle.reader.specs.Cursor.{OnText}
 use Rattle.evaluation.specs.Rooted.{sheetIn}

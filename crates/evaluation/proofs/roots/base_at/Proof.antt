@@ -3,7 +3,6 @@
 use borrow.Author.Needs.{needs}
 use Rattle.evaluation.proofs.roots.base_at.Statement.{statement}
 use Rattle.evaluation.proofs.roots.base_at.Tie as tie
-use mathlib.Core.Path.{refl}
 use Rattle.evaluation.proofs.Unbound.{base-args, base-fields, base-none, base-old}
 
 enum-told : tie.Need-enum-told

@@ -3,7 +3,6 @@
 use borrow.Author.Needs.{needs}
 use Rattle.evaluation.proofs.search.compare.Statement.{statement}
 use Rattle.evaluation.proofs.search.compare.Tie as tie
-use mathlib.Core.Path.{_∙_}
 use Rattle.reader.proofs.Cursor.{begins-apart, begins-long, begins-none, begins-on}
 use Rattle.reader.proofs.Leaves.{was-byte, was-end}
 use Rattle.evaluation.specs.Told.{TurnTold}

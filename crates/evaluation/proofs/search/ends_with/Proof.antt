@@ -2,9 +2,8 @@
 -- Assumes nothing.
 use Rattle.evaluation.proofs.search.ends_with.Statement.{statement}
 use Rattle.evaluation.proofs.search.ends_with.Tie as tie
-use mathlib.Core.Path.{_≡_, refl, sym, _∙_}
+use mathlib.Core.Path.{_≡_, sym, _∙_}
 use Rattle.reader.proofs.Leaves.{was-byte, was-end}
-use Rattle.reader.specs.Bytes.{sameBytes}
 use Rattle.reader.specs.Cursor.{OnText, weight}
 use Rattle.reader.specs.Spans.{textAt}
 use Rattle.evaluation.specs.Forms.{ends}

@@ -2,7 +2,7 @@
 -- Assumes nothing.
 use Rattle.evaluation.proofs.search.has_part.Statement.{statement}
 use Rattle.evaluation.proofs.search.has_part.Tie as tie
-use mathlib.Core.Path.{_≡_, refl, sym, _∙_}
+use mathlib.Core.Path.{_≡_, sym, _∙_}
 use Rattle.reader.proofs.Leaves.{was-byte, was-end}
 use Rattle.reader.specs.Bytes.{begins}
 use Rattle.reader.specs.Cursor.{OnText, weight}

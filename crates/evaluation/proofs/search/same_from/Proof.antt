@@ -3,7 +3,6 @@
 use Rattle.evaluation.proofs.search.same_from.Statement.{statement}
 use Rattle.evaluation.proofs.search.same_from.Tie as tie
 use mathlib.Core.Path.{_≡_, refl, sym, _∙_}
-use mathlib.Core.List.{[]}
 use Rattle.reader.proofs.Cursor.{same-apart, same-long, same-on}
 use Rattle.reader.proofs.Leaves.{was-byte, was-end}
 use Rattle.reader.specs.Bytes.{sameBytes}

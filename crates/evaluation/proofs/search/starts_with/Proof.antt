@@ -2,7 +2,7 @@
 -- Assumes nothing.
 use Rattle.evaluation.proofs.search.starts_with.Statement.{statement}
 use Rattle.evaluation.proofs.search.starts_with.Tie as tie
-use mathlib.Core.Path.{_≡_, refl, sym, _∙_}
+use mathlib.Core.Path.{_≡_, sym, _∙_}
 use Rattle.reader.specs.Bytes.{begins}
 use Rattle.reader.specs.Cursor.{OnText, weight}
 use Rattle.reader.specs.Spans.{textAt}

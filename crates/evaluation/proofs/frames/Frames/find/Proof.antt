@@ -4,10 +4,9 @@ use Rattle.evaluation.proofs.frames.Frames.find.Statement.{statement}
 use Rattle.evaluation.proofs.frames.Frames.find.Tie as tie
 use mathlib.Core.Path.{_≡_, refl, sym, _∙_}
 use Prim.Native.Nat.{_-_, _≤_}
-use lib.ListN.{getD}
 use Rattle.evaluation.proofs.Stack.{bound-here, bound-none, bound-on, name-at}
 use Rattle.evaluation.specs.Path.{part}
-use Rattle.evaluation.specs.Stack.{boundIn, noFrame, top}
+use Rattle.evaluation.specs.Stack.{boundIn, top}
 use Rattle.reader.specs.Spans.{textAt}
 use native.Mathlib.Omega.{arith}
 
