@@ -5,3 +5,8 @@ pub mod Selected
 pub mod Examples
 pub mod Limits
 pub mod Sentences
+pub mod Walking
+pub mod Among
+pub mod Eligibility
+pub mod Starting
+pub mod Seeking

@@ -1,5 +1,7 @@
+pub mod Given
 pub mod Rules
 pub mod Outcomes
+pub mod Places
 pub mod Admission
 pub mod Decide
 pub mod Entry

@@ -1,1 +1,5 @@
-// The definitions of the crate stand in specs/, its laws in proofs/.
+// Decisions on an accepted sheet. The definitions stand in specs/, the laws in proofs/.
+pub mod eligible;
+pub mod outcomes;
+pub mod sources;
+pub mod texts;
