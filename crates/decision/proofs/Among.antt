@@ -12,12 +12,12 @@ use Rattle.reader.specs.Refusal.{Result, ok, wrongSheet}
 use Rattle.reader.specs.Sorted.{sorted}
 use Rattle.reader.specs.Spans.{textAt}
 use Rattle.reader.specs.Table.{afterAt, endAt, kindAt, startAt, valueAt}
-use Rattle.sheet.proofs.Given.{array-given, text-given}
+use Rattle.sheet.proofs.Given.{text-given}
 use Rattle.sheet.proofs.Verdicts.{never}
 use Rattle.sheet.proofs.Shapes.{tag, tag-at, text-at}
 use Rattle.sheet.specs.Accepted.{EachGives, Gives}
 use Rattle.sheet.specs.Kinds.{aText, anArrayOf, someTexts}
-use Rattle.decision.proofs.Walking.{Walking, ended, goes-on, next, settled}
+use Rattle.decision.proofs.Walking.{Walking, behind-array, ended, goes-on, next, settled}
 
 -- ---- a text among others
 among : (t x : Bytes) (xs : List Bytes) (b : Bool) → sameBytes t x ≡ b → isOneOf t (x ∷ xs) ≡ elim b [ true ↦ true | false ↦ isOneOf t xs ]
@@ -83,7 +83,7 @@ module _ {s : Bytes} {w : List ℕ} {n : ℕ} {ts : List Bytes} (g : Gives someT
 
 -- the texts of an array, behind its node
 pub behind : {s : Bytes} {w : List ℕ} {n e : ℕ} {ts : List Bytes} → Gives someTexts s w n ts → (kindAt w n ≡ 4 → ⊥) → e ≡ afterAt w n → EachGives aText s w (n + 1) e ts
-behind {s} {w} {n} {e} {ts} g k q = subst (λ (x : ℕ). EachGives aText s w (n + 1) x ts) (sym q) (array-given aText (several g k) .1)
+behind g k q = behind-array aText (several g k) q
 
 -- an array of texts gives its texts as a text or an array of texts does
 pub as-texts : {s : Bytes} {w : List ℕ} {n : ℕ} {ts : List Bytes} → Gives (anArrayOf aText) s w n ts → Gives someTexts s w n ts

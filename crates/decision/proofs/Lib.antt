@@ -10,3 +10,4 @@ pub mod Among
 pub mod Eligibility
 pub mod Starting
 pub mod Seeking
+pub mod Admitting

@@ -9,14 +9,19 @@ use Rattle.reader.specs.Bytes.{Bytes}
 use Rattle.reader.specs.Json.{Value}
 use Rattle.reader.specs.Refusal.{Result, ok}
 use Rattle.reader.specs.Table.{afterAt}
-use Rattle.sheet.proofs.Given.{NextGives, each-done, each-next}
+use Rattle.sheet.proofs.Given.{NextGives, array-given, each-done, each-next}
 use Rattle.sheet.proofs.Walks.{room}
-use Rattle.sheet.specs.Accepted.{EachGives}
+use Rattle.sheet.specs.Accepted.{EachGives, Gives}
+use Rattle.sheet.specs.Kinds.{anArrayOf}
 use Rattle.decision.specs.Given.{Known}
 
 -- nodes give one list only
 one-list : {A : Type 0} {kind : Value → Result A} {s : Bytes} {w : List ℕ} {k e : ℕ} {xs ys : List A} → EachGives kind s w k e xs → EachGives kind s w k e ys → xs ≡ ys
 one-list {A} {kind} {s} {w} {k} {e} {xs} {ys} g h = let z : _≡_ {A = Result (List A)} (ok xs) (ok ys) = sym (g .is) ∙ h .is in let q : xs ≡ ys = cc in q
+
+-- the elements of an array, behind its node
+pub behind-array : {A : Type 0} (kind : Value → Result A) {s : Bytes} {w : List ℕ} {n e : ℕ} {xs : List A} → Gives (anArrayOf kind) s w n xs → e ≡ afterAt w n → EachGives kind s w (n + 1) e xs
+behind-array kind {s} {w} {n} {e} {xs} g q = subst (λ (x : ℕ). EachGives kind s w (n + 1) x xs) (sym q) (array-given kind g .1)
 
 -- from the node k on, what is left answers as the whole list does
 pub record Walking {A B : Type 0} (kind : Value → Result A) (s : Bytes) (w : List ℕ) (from e : ℕ) (whole here : List A → B) (k : ℕ) : Type 0 where

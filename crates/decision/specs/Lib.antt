@@ -4,6 +4,7 @@ pub mod Outcomes
 pub mod Places
 pub mod Admission
 pub mod Decide
+pub mod Told
 pub mod Entry
 pub mod Selection
 pub mod Demand

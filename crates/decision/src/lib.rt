@@ -1,4 +1,5 @@
 // Decisions on an accepted sheet. The definitions stand in specs/, the laws in proofs/.
+pub mod admit;
 pub mod eligible;
 pub mod outcomes;
 pub mod sources;

@@ -1,0 +1,30 @@
+-- What is said of an answer that the code gives of an accepted sheet.
+-- Assumes nothing.
+use mathlib.Core.List.{List}
+use mathlib.Core.Path.{_≡_}
+use Prim.Native.Nat.{ℕ}
+use Rattle.line.specs.Meaning.{Held, meaning}
+use Rattle.line.specs.Verdict.{Verdict}
+use Rattle.line.specs.declared.answer.Answer.{Answer}
+use Rattle.line.specs.declared.answer.Outcome.{Outcome as Entry}
+use Rattle.reader.specs.Bytes.{Bytes}
+use Rattle.reader.specs.Cursor.{OnText}
+use Rattle.reader.specs.Refusal.{Result, _>>=_, ok}
+use Rattle.reader.specs.Spans.{textAt}
+use Rattle.decision.specs.Decide.{asAdmitted}
+use Rattle.decision.specs.Outcomes.{Placed}
+
+-- the verdict on an outcome that is kept
+abbrev pub admission : Result Placed → Result Verdict
+admission x = x >>= (λ q. ok (asAdmitted q))
+
+-- an outcome as an answer names it: its place, and where its name stands
+pub record Entered (s : Bytes) (place : ℕ) (name : Bytes) (r : Entry) : Type 0 where
+  pub isPlace : r .place ≡ place
+  pub isName : textAt s (r .name) ≡ name
+  pub onText : OnText s (r .name) 0
+
+-- an answer that means a verdict or a refusal, its texts where they stand
+pub record Told (s : Bytes) (w : List ℕ) (whole : Result Verdict) (r : Answer) : Type 0 where
+  pub means : meaning s w r ≡ whole
+  pub held : Held s w r
