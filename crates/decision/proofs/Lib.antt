@@ -11,3 +11,4 @@ pub mod Eligibility
 pub mod Starting
 pub mod Seeking
 pub mod Admitting
+pub mod Clearing

@@ -74,9 +74,11 @@ sentences = refl
 
 -- a call leaves zeros in the first 16,384 words and the further ones as they were; after 1 all words are as they were
 pub work-left : workAfter (replicate 16384 7 ++ (8 ∷ 9 ∷ [])) ≡ replicate 16384 0 ++ (8 ∷ 9 ∷ [])
+unfolding workAfter
 work-left = refl
 
 pub work-kept : workAfter (replicate 16383 7) ≡ replicate 16383 7
+unfolding workAfter
 work-kept = refl
 
 -- past the line the output keeps its bytes, and a refusal without a line changes none

@@ -54,6 +54,11 @@ unfoldable pub decide : Bytes → ℕ → ℕ → Reply
 unfolding call decideCall
 decide s work output = call decideCall s work output
 
+-- shut, so that nothing writes 16,384 elements out
+unfoldable pub zeros : ℕ → List ℕ
+zeros n = replicate n 0
+
 -- what a call leaves in the work table
-abbrev pub workAfter : List ℕ → List ℕ
-workAfter work = elim (leb workWords (length work)) [ false ↦ work | true ↦ replicate workWords 0 ++ drop workWords work ]
+unfoldable pub workAfter : List ℕ → List ℕ
+unfolding zeros
+workAfter work = elim (leb workWords (length work)) [ false ↦ work | true ↦ zeros workWords ++ drop workWords work ]

@@ -4,3 +4,4 @@ pub mod eligible;
 pub mod outcomes;
 pub mod sources;
 pub mod texts;
+pub mod work;
