@@ -12,3 +12,4 @@ pub mod Starting
 pub mod Seeking
 pub mod Admitting
 pub mod Clearing
+pub mod Opening

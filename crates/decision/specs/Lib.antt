@@ -8,3 +8,4 @@ pub mod Told
 pub mod Entry
 pub mod Selection
 pub mod Demand
+pub mod Opening

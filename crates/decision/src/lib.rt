@@ -1,6 +1,7 @@
 // Decisions on an accepted sheet. The definitions stand in specs/, the laws in proofs/.
 pub mod admit;
 pub mod eligible;
+pub mod open;
 pub mod outcomes;
 pub mod sources;
 pub mod texts;

@@ -1,0 +1,45 @@
+-- What opening a sheet promises: the refusal that the calls give, or the sheet with the node of each member; and the words that it leaves.
+-- Assumes nothing.
+use mathlib.Core.List.{List}
+use mathlib.Core.Option.{none}
+use mathlib.Core.Path.{_≡_}
+use Prim.Native.Nat.{ℕ, _<_, _≤_}
+use lib.ListN.{drop, length}
+use Rattle.line.specs.Line.{refusalLine, refusalNumber}
+use Rattle.reader.specs.Bytes.{Bytes}
+use Rattle.reader.specs.Refusal.{Refusal, Result, refused, _>>=_}
+use Rattle.sheet.specs.Accepted.{Accepted}
+use Rattle.sheet.specs.Condition.{Condition}
+use Rattle.sheet.specs.Sheet.{Sheet, readSheet}
+use Rattle.sheet.specs.declared.shape.Members.{Members}
+use Rattle.decision.specs.Entry.{enough}
+use Rattle.decision.specs.declared.open.Opened.{Opened}
+use Rattle.decision.specs.declared.open.Opened.the-variants as opened
+
+-- 1 for a work table of so many words, else what `readSheet` says
+unfoldable pub opening : ℕ → Bytes → Result (Sheet Condition)
+unfolding enough readSheet
+opening words s = enough words >>= (λ _. readSheet s)
+
+-- a refusal that has no line, by its number
+pub record Stopped (whole : Result (Sheet Condition)) (n : ℕ) : Type 0 where
+  pub why : Refusal
+  pub is : whole ≡ refused why
+  pub isNumber : n ≡ refusalNumber why
+  pub noLine : refusalLine why ≡ none
+
+-- a sheet accepted over a table that is large enough
+pub record Ready (words : ℕ) (s : Bytes) (w : List ℕ) (m : Members) : Type 0 where
+  pub long : 16384 ≤ words
+  pub sheet : Sheet Condition
+  pub accepted : Accepted s w m sheet
+
+unfoldable pub OpenedAs : ℕ → Bytes → List ℕ → Opened → Type 0
+unfolding opening
+OpenedAs words s w (opened.Refused n) = Stopped (opening words s) n
+OpenedAs words s w (opened.Sheet m) = Ready words s w m
+
+pub record Opening (s : Bytes) (w w′ : List ℕ) (r : Opened) : Type 0 where
+  pub is : OpenedAs (length w) s w′ r
+  pub small : length w < 16384 → w′ ≡ w
+  pub past : 16384 ≤ length w → drop 16384 w′ ≡ drop 16384 w
