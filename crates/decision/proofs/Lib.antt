@@ -13,3 +13,4 @@ pub mod Seeking
 pub mod Admitting
 pub mod Clearing
 pub mod Opening
+pub mod Calls
