@@ -2,14 +2,15 @@
 -- Assumes nothing.
 use mathlib.Core.Bool.{Bool, false, true}
 use mathlib.Core.List.{List, [], _++_, _∷_}
-use mathlib.Core.Path.{ap, refl, sym, _∙_, _≡_}
+use mathlib.Core.Path.{ap, refl, subst, sym, _∙_, _≡_}
 use Prim.Native.Nat.{suc, zero, ℕ, _+_, _<_, _≤_}
 use native.Mathlib.Nat.{add-zero, zero-add}
 use native.Mathlib.Numerals.{add-one}
 use native.Mathlib.Omega.{arith}
-use lib.Dec.{leb}
+use lib.Dec.{T, leb, leb→le}
 use lib.ListN.{drop, length, length-replicate, replicate, set}
 use lib.Seq.{sets, sets-eq}
+use borrow.Author.Tests.{leb-false, lt-leb}
 use Rattle.reader.proofs.Laws.{leb-true}
 use Rattle.decision.specs.Entry.{workAfter, workWords, zeros}
 
@@ -58,3 +59,14 @@ cleared-table w w′ i h k e =
     ∙ sets-front (zeros 16384) w (omega (arith, length-zeros 16384))
     ∙ ap (λ (n : ℕ). zeros 16384 ++ drop n w) (length-zeros 16384)
     ∙ sym (by-size w true (leb-true workWords (length w) h))
+
+pub small-table : (w : List ℕ) → length w < 16384 → w ≡ workAfter w
+small-table w h = sym (by-size w false (lt-leb workWords (length w) h))
+
+-- what the call leaves is told by the table's size and its further words alone
+pub same-left : (w w′ : List ℕ) → length w′ ≡ length w → (length w < 16384 → w′ ≡ w) → (16384 ≤ length w → drop 16384 w′ ≡ drop 16384 w) → workAfter w′ ≡ workAfter w
+same-left w w′ e small past = go (leb workWords (length w)) refl
+  where
+    go : (b : Bool) → leb workWords (length w) ≡ b → workAfter w′ ≡ workAfter w
+    go true q = by-size w′ true (ap (leb workWords) e ∙ q) ∙ ap (λ (l : List ℕ). zeros 16384 ++ l) (past (leb→le workWords (length w) (subst T (sym q) tt))) ∙ sym (by-size w true q)
+    go false q = ap workAfter (small (leb-false workWords (length w) q))

@@ -14,3 +14,4 @@ pub mod Admitting
 pub mod Clearing
 pub mod Opening
 pub mod Calls
+pub mod Entries

@@ -9,6 +9,7 @@ use native.Mathlib.Omega.{arith}
 use lib.Dec.{T, leb, leb→le}
 use lib.ListN.{length}
 use Rattle.line.specs.Line.{refusalLine, refusalNumber}
+use Rattle.reader.proofs.Laws.{leb-true}
 use Rattle.reader.specs.Answers.{refusalOf}
 use Rattle.reader.specs.Bytes.{Bytes}
 use Rattle.reader.specs.Json.{Value}
@@ -64,6 +65,9 @@ module _ (words : ℕ) (s : Bytes) where
   unfolding opening enough
   open-by true e = ap {B = Result (Sheet Condition)} (λ (c : Bool). enoughBy c >>= (λ _. readSheet s)) e
   open-by false e = ap {B = Result (Sheet Condition)} (λ (c : Bool). enoughBy c >>= (λ _. readSheet s)) e
+
+  pub sheet-opened : 16384 ≤ words → opening words s ≡ readSheet s
+  sheet-opened h = open-by true (leb-true workWords words h)
 
   sheet-refused : (f : Refusal) → json s ≡ refused f → readSheet s ≡ refused f
   unfolding readSheet

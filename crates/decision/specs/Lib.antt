@@ -9,3 +9,4 @@ pub mod Entry
 pub mod Selection
 pub mod Demand
 pub mod Opening
+pub mod Called

@@ -2,6 +2,7 @@
 pub mod admit;
 pub mod call;
 pub mod eligible;
+pub mod entry;
 pub mod open;
 pub mod outcomes;
 pub mod sources;

@@ -1,4 +1,4 @@
--- `decision::work::clear` meets its contract: the loop says that a run of zeros was written.
+-- `decision::work::clear` meets its contract: a smaller table is left, and the loop says that a run of zeros was written.
 -- Assumes nothing.
 use mathlib.Core.Path.{ap, _∙_, _≡_}
 use Prim.Native.Nat.{_-_, _≤_}
@@ -6,7 +6,7 @@ use native.Mathlib.Omega.{arith}
 use lib.ListN.{length}
 use lib.Seq.{length-sets, sets}
 use Rattle.decision.specs.Entry.{zeros}
-use Rattle.decision.proofs.Clearing.{cleared-table, no-zeros, sets-zeros}
+use Rattle.decision.proofs.Clearing.{cleared-table, no-zeros, sets-zeros, small-table}
 use Rattle.decision.proofs.work.clear.Statement.{statement}
 use Rattle.decision.proofs.work.clear.Tie as tie
 
@@ -16,8 +16,11 @@ Inv-loop work₀ i₀ work i = (i ≤ 16384) × (work ≡ sets work₀ 0 (zeros 
 abbrev μ-loop : tie.MeasureT-loop
 μ-loop work₀ i₀ work i = 16384 - i
 
+returns : tie.Need-returns Inv-loop μ-loop
+returns c = small-table (c .before .args .work .now) (c .if1 .taken)
+
 loop-holds : tie.Need-loop-holds Inv-loop μ-loop
-loop-holds c = (omega arith, no-zeros (c .args .work .now))
+loop-holds c = (omega arith, no-zeros (c .before .args .work .now))
 
 mul-work : tie.Need-mul-work Inv-loop μ-loop
 mul-work c = omega arith
@@ -25,7 +28,7 @@ mul-work c = omega arith
 slice-write-work : tie.Need-slice-write-work Inv-loop μ-loop
 slice-write-work c =
     let l = c .before in
-    omega (arith, l .before .pre, ap length (l .loop .inv .1) ∙ length-sets (l .before .args .work .now) 0 (zeros (l .loop .i)))
+    omega (arith, l .before .if1 .left, ap length (l .loop .inv .1) ∙ length-sets (l .before .before .args .work .now) 0 (zeros (l .loop .i)))
 
 add-i : tie.Need-add-i Inv-loop μ-loop
 add-i c = omega arith
@@ -36,17 +39,17 @@ loop-less c = omega arith
 loop-again : tie.Need-loop-again Inv-loop μ-loop
 loop-again c =
     let l = c .before in
-    (omega arith, rw (l .loop .inv .1, sets-zeros (l .before .args .work .now) (l .loop .i)))
+    (omega arith, rw (l .loop .inv .1, sets-zeros (l .before .before .args .work .now) (l .loop .i)))
 
 same-length : tie.Need-same-length Inv-loop μ-loop
 same-length c =
     let l = c .before in
-    ap length (l .loop .inv .1) ∙ length-sets (l .before .args .work .now) 0 (zeros (l .loop .i))
+    ap length (l .loop .inv .1) ∙ length-sets (l .before .before .args .work .now) 0 (zeros (l .loop .i))
 
-returns : tie.Need-returns Inv-loop μ-loop
-returns c =
+returns-2 : tie.Need-returns-2 Inv-loop μ-loop
+returns-2 c =
     let l = c .before in
-    cleared-table (l .before .args .work .now) _ (l .loop .i) (l .before .pre) (omega arith) (l .loop .inv .1)
+    cleared-table (l .before .before .args .work .now) _ (l .loop .i) (l .before .if1 .left) (omega arith) (l .loop .inv .1)
 
 pub clear-spec : {M : Type 1} → statement M
 clear-spec =
@@ -54,6 +57,7 @@ clear-spec =
     (tie.spec
     Inv-loop
     μ-loop
+    returns
     loop-holds
     mul-work
     slice-write-work
@@ -61,4 +65,4 @@ clear-spec =
     loop-less
     loop-again
     same-length
-    returns)
+    returns-2)

@@ -1,0 +1,70 @@
+-- The calls on a sheet's bytes, from what opening it says: refused with its number alone, or answered by the call on the sheet.
+-- Assumes nothing.
+use mathlib.Core.List.{List}
+use mathlib.Core.Option.{Option, none}
+use mathlib.Core.Path.{ap, refl, subst, sym, _∙_, _≡_}
+use Prim.Native.Nat.{ℕ}
+use lib.ListN.{length}
+use Rattle.line.specs.Line.{refusalLine, refusalNumber}
+use Rattle.line.specs.Meaning.{Emitted, Held, meaning}
+use Rattle.line.specs.Verdict.{Verdict}
+use Rattle.line.specs.declared.answer.Answer.{Answer}
+use Rattle.reader.proofs.Laws.{leb-true}
+use Rattle.reader.specs.Bytes.{Bytes}
+use Rattle.reader.specs.Refusal.{Refusal, Result, ok, refused, _>>=_}
+use Rattle.sheet.specs.Accepted.{Accepted}
+use Rattle.sheet.specs.Condition.{Condition}
+use Rattle.sheet.specs.Sheet.{Sheet, readSheet}
+use Rattle.sheet.specs.declared.shape.Members.{Members}
+use Rattle.decision.specs.Called.{Called}
+use Rattle.decision.specs.Entry.{Reply, call, enough, fitted, outputAfter, reply, workAfter, workWords}
+use Rattle.decision.specs.Given.{Known}
+use Rattle.decision.specs.Opening.{OpenedAs, Opening, Ready, Stopped, opening}
+use Rattle.decision.specs.Told.{Told}
+use Rattle.decision.specs.declared.open.Opened.{Opened}
+use Rattle.decision.specs.declared.open.Opened.the-variants as opened
+use Rattle.decision.proofs.Clearing.{same-left}
+use Rattle.decision.proofs.Opening.{sheet-opened}
+
+call-opened : (f : Sheet Condition → Result Verdict) (s : Bytes) (words size : ℕ) → call f s words size ≡ reply size (opening words s >>= f)
+unfolding call opening
+call-opened f s words size = ap (reply size) (go (enough words))
+  where
+    go : {A : Type 0} (x : Result A) → (x >>= (λ _. readSheet s >>= (λ (y : Sheet Condition). f y))) ≡ ((x >>= (λ _. readSheet s)) >>= f)
+    go (ok a) = refl
+    go (refused r) = refl
+
+unlined : (size : ℕ) (why : Refusal) → refusalLine why ≡ none → reply size (refused why) ≡ record { number = refusalNumber why; line = none }
+unfolding reply
+unlined size why e = ap (fitted size (refusalNumber why)) e
+
+module _ (f : Sheet Condition → Result Verdict) {s : Bytes} {w w₁ : List ℕ} {r : Opened} (t : Opening s w w₁ r) (size : length w₁ ≡ length w) {w′ : List ℕ} (z : w′ ≡ workAfter w₁) where
+  leaves : w′ ≡ workAfter w
+  leaves = z ∙ same-left w w₁ size (t .small) (t .past)
+
+  pub called-refused : (n : ℕ) → r ≡ opened.Refused n → (o : Bytes) → Called (call f s (length w) (length o)) w w′ o o n
+  unfolding OpenedAs
+  called-refused n q o =
+      let x : Stopped (opening (length w) s) n = subst (OpenedAs (length w) s w₁) q (t .is) in
+      let e : call f s (length w) (length o) ≡ record { number = refusalNumber (x .why); line = none } = call-opened f s (length w) (length o) ∙ ap {B = Reply} (λ (y : Result (Sheet Condition)). reply (length o) (y >>= f)) (x .is) ∙ unlined (length o) (x .why) (x .noLine) in
+      record { isNumber = x .isNumber ∙ ap (λ (y : Reply). y .number) (sym e); output = ap (λ (y : Reply). outputAfter y o) (sym e); work = leaves }
+
+  module _ (m : Members) (q : r ≡ opened.Sheet m) where
+    ready : Ready (length w) s w₁ m
+    unfolding OpenedAs
+    ready = subst (OpenedAs (length w) s w₁) q (t .is)
+
+    pub called-sheet : {a : Answer} → ((sheet : Sheet Condition) → Accepted s w₁ m sheet → Told s w₁ (f sheet) a) → {o o′ : Bytes} {n : ℕ} → Emitted s w₁ a o o′ n → Called (call f s (length w) (length o)) w w′ o o′ n
+    called-sheet {a} h {o} {o′} {n} g =
+        let x = h (ready .sheet) (ready .accepted) in
+        let i : opening (length w) s ≡ ok (ready .sheet) = sheet-opened (length w) s (ready .long) ∙ ready .accepted .reads in
+        let e : reply (length o) (meaning s w₁ a) ≡ call f s (length w) (length o) = ap (reply (length o)) (x .means) ∙ sym (call-opened f s (length w) (length o) ∙ ap {B = Reply} (λ (y : Result (Sheet Condition)). reply (length o) (y >>= f)) i) in
+        record { isNumber = g .number ∙ ap (λ (y : Reply). y .number) e; output = g .output ∙ ap (λ (y : Reply). outputAfter y o) e; work = leaves }
+
+module _ {s : Bytes} {w w₁ : List ℕ} {r : Opened} (t : Opening s w w₁ r) (m : Members) (q : r ≡ opened.Sheet m) where
+  pub accepted-sheet : Known (Accepted s w₁ m)
+  unfolding OpenedAs
+  accepted-sheet = let x : Ready (length w) s w₁ m = subst (OpenedAs (length w) s w₁) q (t .is) in record { given = x .sheet; known = x .accepted }
+
+  pub held-answer : (f : Sheet Condition → Result Verdict) {a : Answer} → ((sheet : Sheet Condition) → Accepted s w₁ m sheet → Told s w₁ (f sheet) a) → Held s w₁ a
+  held-answer f h = h (accepted-sheet .given) (accepted-sheet .known) .held
