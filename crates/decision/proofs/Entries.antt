@@ -7,9 +7,10 @@ use Prim.Native.Nat.{ℕ}
 use lib.ListN.{length}
 use Rattle.line.specs.Line.{refusalLine, refusalNumber}
 use Rattle.line.specs.Meaning.{Emitted, Held, meaning}
+use Rattle.line.specs.Reply.{lineSize}
 use Rattle.line.specs.Verdict.{Verdict}
 use Rattle.line.specs.declared.answer.Answer.{Answer}
-use Rattle.reader.proofs.Laws.{leb-true}
+use Rattle.line.specs.declared.emit.Sent.{Sent}
 use Rattle.reader.specs.Bytes.{Bytes}
 use Rattle.reader.specs.Refusal.{Refusal, Result, ok, refused, _>>=_}
 use Rattle.sheet.specs.Accepted.{Accepted}
@@ -42,24 +43,24 @@ module _ (f : Sheet Condition → Result Verdict) {s : Bytes} {w w₁ : List ℕ
   leaves : w′ ≡ workAfter w
   leaves = z ∙ same-left w w₁ size (t .small) (t .past)
 
-  pub called-refused : (n : ℕ) → r ≡ opened.Refused n → (o : Bytes) → Called (call f s (length w) (length o)) w w′ o o n
+  pub called-refused : (n : ℕ) → r ≡ opened.Refused n → (o : Bytes) → Called (call f s (length w) (length o)) w w′ o o (record { number = n; size = 0 })
   unfolding OpenedAs
   called-refused n q o =
       let x : Stopped (opening (length w) s) n = subst (OpenedAs (length w) s w₁) q (t .is) in
       let e : call f s (length w) (length o) ≡ record { number = refusalNumber (x .why); line = none } = call-opened f s (length w) (length o) ∙ ap {B = Reply} (λ (y : Result (Sheet Condition)). reply (length o) (y >>= f)) (x .is) ∙ unlined (length o) (x .why) (x .noLine) in
-      record { isNumber = x .isNumber ∙ ap (λ (y : Reply). y .number) (sym e); output = ap (λ (y : Reply). outputAfter y o) (sym e); work = leaves }
+      record { isNumber = x .isNumber ∙ ap (λ (y : Reply). y .number) (sym e); isSize = ap lineSize (sym e); output = ap (λ (y : Reply). outputAfter y o) (sym e); work = leaves }
 
   module _ (m : Members) (q : r ≡ opened.Sheet m) where
     ready : Ready (length w) s w₁ m
     unfolding OpenedAs
     ready = subst (OpenedAs (length w) s w₁) q (t .is)
 
-    pub called-sheet : {a : Answer} → ((sheet : Sheet Condition) → Accepted s w₁ m sheet → Told s w₁ (f sheet) a) → {o o′ : Bytes} {n : ℕ} → Emitted s w₁ a o o′ n → Called (call f s (length w) (length o)) w w′ o o′ n
+    pub called-sheet : {a : Answer} → ((sheet : Sheet Condition) → Accepted s w₁ m sheet → Told s w₁ (f sheet) a) → {o o′ : Bytes} {n : Sent} → Emitted s w₁ a o o′ n → Called (call f s (length w) (length o)) w w′ o o′ n
     called-sheet {a} h {o} {o′} {n} g =
         let x = h (ready .sheet) (ready .accepted) in
         let i : opening (length w) s ≡ ok (ready .sheet) = sheet-opened (length w) s (ready .long) ∙ ready .accepted .reads in
         let e : reply (length o) (meaning s w₁ a) ≡ call f s (length w) (length o) = ap (reply (length o)) (x .means) ∙ sym (call-opened f s (length w) (length o) ∙ ap {B = Reply} (λ (y : Result (Sheet Condition)). reply (length o) (y >>= f)) i) in
-        record { isNumber = g .number ∙ ap (λ (y : Reply). y .number) e; output = g .output ∙ ap (λ (y : Reply). outputAfter y o) e; work = leaves }
+        record { isNumber = g .number ∙ ap (λ (y : Reply). y .number) e; isSize = g .size ∙ ap lineSize e; output = g .output ∙ ap (λ (y : Reply). outputAfter y o) e; work = leaves }
 
 module _ {s : Bytes} {w w₁ : List ℕ} {r : Opened} (t : Opening s w w₁ r) (m : Members) (q : r ≡ opened.Sheet m) where
   pub accepted-sheet : Known (Accepted s w₁ m)

@@ -92,27 +92,28 @@ line-set f o h =
 
 -- no line, one that is too long, and one that fits
 module _ (s : Bytes) (w : List ℕ) (a : Answer) {n : ℕ} (o : Bytes) (isNumber : n ≡ numberOf (meaning s w a)) where
-  pub emitted-none : n ≡ 12 → Emitted s w a o o n
+  pub emitted-none : n ≡ 12 → Emitted s w a o o (record { number = n; size = 0 })
   unfolding reply refusalNumber
   emitted-none e =
       let z = no-line s w a (sym isNumber ∙ e) in
-      record { number = rw z e; output = rw z }
+      record { number = rw z e; size = rw z; output = rw z }
 
   module _ (lined : n ≡ 12 → ⊥) where
     is-reply : reply (length o) (meaning s w a) ≡ fitted (length o) n (some (endLine (bare s w a)))
     is-reply = rw isNumber (reply-form (length o) (meaning s w a) (bare s w a) (has-form s w a (λ e. lined (isNumber ∙ e))))
 
-    pub emitted-23 : length o ≤ length (bare s w a) → Emitted s w a o o 23
+    pub emitted-23 : length o ≤ length (bare s w a) → Emitted s w a o o (record { number = 23; size = 0 })
     unfolding refusalNumber
     emitted-23 h =
         let e : reply (length o) (meaning s w a) ≡ record { number = 23; line = none } = is-reply ∙ rw (lt-leb (length (endLine (bare s w a))) (length o) (omega (arith, length-append (bare s w a) (10 ∷ []))), fitted) in
-        record { number = rw e; output = rw e }
+        record { number = rw e; size = rw e; output = rw e }
 
-    pub emitted-line : {o₁ : Bytes} {p : ℕ} → length (bare s w a) < length o → o₁ ≡ sets o 0 (bare s w a) → p ≡ length (bare s w a) → Emitted s w a o (set o₁ p 10) n
-    emitted-line h i j =
+    pub emitted-line : {o₁ : Bytes} {p q : ℕ} → length (bare s w a) < length o → o₁ ≡ sets o 0 (bare s w a) → p ≡ length (bare s w a) → q ≡ p + 1 → Emitted s w a o (set o₁ p 10) (record { number = n; size = q })
+    emitted-line h i j k =
         let l = length-append (bare s w a) (10 ∷ []) in
         let e : reply (length o) (meaning s w a) ≡ record { number = n; line = some (endLine (bare s w a)) } = is-reply ∙ rw (le-leb (length (endLine (bare s w a))) (length o) (omega arith), fitted) in
         record {
           number = rw e;
+          size = rw e (omega arith);
           output = rw (e, i, j) (line-set (bare s w a) o h);
         }

@@ -6,7 +6,7 @@ use Prim.Native.Nat.{ℕ}
 use lib.ListN.{length}
 use Rattle.evaluation.specs.Names.{Names, ascending}
 use Rattle.evaluation.specs.Truth as truths
-use Rattle.line.specs.Reply.{outputAfter, reply}
+use Rattle.line.specs.Reply.{lineSize, outputAfter, reply}
 use Rattle.line.specs.Texts.{IsText, NamesHeld, TextsHeld, textOf, textsIn}
 use Rattle.line.specs.Verdict.{Verdict, admitted, answered, passed, selected}
 use Rattle.reader.specs.Bytes.{Bytes}
@@ -21,6 +21,7 @@ use Rattle.line.specs.declared.answer.Answer.the-variants as answers
 use Rattle.line.specs.declared.answer.Rule.{Rule}
 use Rattle.line.specs.declared.answer.Rules.{Rules}
 use Rattle.line.specs.declared.answer.Rules.the-variants as rules
+use Rattle.line.specs.declared.emit.Sent.{Sent}
 
 -- the names, each once and ascending
 abbrev pub namesIn : Bytes → List ℕ → Names
@@ -69,7 +70,8 @@ Held s w (answers.GuardUnknown o) = OnText s (o .name) 0 × NamesHeld s w
 Held s w (answers.WrongState e) = OnText s e 0
 Held s w (answers.NotASource m) = OnText s (m .outcome .name) 0 × OnText s (m .state) 0 × TextsHeld s w (m .from)
 
--- an answer given back: its number, and its line at the start of the output, or 23 and nothing changed
-pub record Emitted (s : Bytes) (w : List ℕ) (a : Answer) (o o′ : Bytes) (r : ℕ) : Type 0 where
-  pub number : r ≡ reply (length o) (meaning s w a) .number
+-- an answer given back: its number, its line's size, and its line at the start of the output, or 23 and nothing changed
+pub record Emitted (s : Bytes) (w : List ℕ) (a : Answer) (o o′ : Bytes) (r : Sent) : Type 0 where
+  pub number : r .number ≡ reply (length o) (meaning s w a) .number
+  pub size : r .size ≡ lineSize (reply (length o) (meaning s w a))
   pub output : o′ ≡ outputAfter (reply (length o) (meaning s w a)) o

@@ -43,3 +43,7 @@ reply output (refused r) = fitted output (refusalNumber r) (refusalLine r)
 -- the line stands at the start, and the rest is as it was
 abbrev pub outputAfter : Reply → Bytes → Bytes
 outputAfter r out = elim (r .line) [ none ↦ out | some line ↦ line ++ drop (length line) out ]
+
+-- the bytes of the line, 0 where there is none
+abbrev pub lineSize : Reply → ℕ
+lineSize r = elim (r .line) [ none ↦ 0 | some line ↦ length line ]

@@ -18,6 +18,12 @@ ghost use Rattle.line.specs.Laid.{Laid, Room};
 ghost use Rattle.line.specs.Meaning.{Emitted, Held, meaning};
 ghost use Rattle.line.specs.Reply.{formOf, numberOf, orEmpty};
 
+// The number of an answer, and the bytes of its line, 0 where it has none.
+pub struct Sent {
+    pub number: usize,
+    pub size: usize,
+}
+
 // The form of an answer; nothing where it has none.
 fn form(out: &mut [u8], limit: usize, at: usize, s: &[u8], work: &[u32], a: Answer) -> usize
     requires { ⌜ Room limit (now out) at × Held (now s) (now work) a ⌝ }
@@ -72,20 +78,26 @@ fn number(a: Answer) -> usize
 }
 
 // The number of an answer, and its line at the start of the output, or 23.
-pub fn emit(s: &[u8], work: &[u32], out: &mut [u8], a: Answer) -> usize
+pub fn emit(s: &[u8], work: &[u32], out: &mut [u8], a: Answer) -> Sent
     requires { ⌜ Held (now s) (now work) a ⌝ }
     ensures { λ r. ⌜ Emitted (now (s .entry)) (now (work .entry)) a (now (out .entry)) (now (out .exit)) r ⌝ }
 {
     let n = number(a);
     if n == 12 {
-        return n;
+        return Sent { number: n, size: 0 };
     }
     let limit = out.len();
     let size = form(&mut out[0..0], limit, 0, s, work, a);
     if limit <= size {
-        return 23;
+        return Sent {
+            number: 23,
+            size: 0,
+        };
     }
     let end = form(out, limit, 0, s, work, a);
     out[end] = b'\n';
-    n
+    Sent {
+        number: n,
+        size: end + 1,
+    }
 }

@@ -1,6 +1,6 @@
 -- `line::emit::emit` meets its contract: what the first pass measured is what the second lays.
 -- Assumes nothing.
-use mathlib.Core.Path.{ap, _∙_}
+use mathlib.Core.Path.{ap, refl, _∙_}
 use lib.ListN.{length, length-set}
 use Rattle.line.proofs.Answers.{emitted-23, emitted-line, emitted-none}
 use Rattle.line.proofs.Laying.{measured, same-size, too-long, written}
@@ -45,6 +45,9 @@ form-requires-2 c κs = search needs
 slice-write-out : tie.Need-slice-write-out
 slice-write-out c = search needs
 
+add-t11 : tie.Need-add-t11
+add-t11 c = search needs
+
 same-length-2 : tie.Need-same-length-2
 same-length-2 c = simp length-set (same-size (c .before .before .form2 .ensures) ∙ ap length (measured (c .before .before .before .before .before .before .before .form .ensures) (c .before .before .before .before .before .before .before .before .before .before .before .before .before .before .args .out .now)))
 
@@ -52,7 +55,7 @@ returns-3 : tie.Need-returns-3
 returns-3 c =
     let a = c .before .before .before .before .before .before .before .before .before .before .before .before .before .before .args in
     let r = written (c .before .before .before .before .before .before .before .form .ensures) (a .out .now) (omega arith) (c .before .before .form2 .ensures) in
-    emitted-line (a .s .now) (a .work .now) (a .a) (a .out .now) (c .before .before .before .before .before .before .before .before .before .before .number .ensures (a .s .now) (a .work .now)) (c .before .before .before .before .before .before .before .before .before .if1 .left) (r .0) (r .1) (r .2)
+    emitted-line (a .s .now) (a .work .now) (a .a) (a .out .now) (c .before .before .before .before .before .before .before .before .before .before .number .ensures (a .s .now) (a .work .now)) (c .before .before .before .before .before .before .before .before .before .if1 .left) (r .0) (r .1) (r .2) refl
 
 pub emit-spec : {M : Type 1} → statement M
 emit-spec =
@@ -68,5 +71,6 @@ emit-spec =
     returns-2
     form-requires-2
     slice-write-out
+    add-t11
     same-length-2
     returns-3)
