@@ -11,10 +11,9 @@ use Rattle.line.specs.declared.answer.Answer.{Answer}
 use Rattle.line.specs.declared.answer.Answer.the-variants as answers
 use Rattle.reader.specs.Bytes.{Bytes}
 use Rattle.reader.specs.Cursor.{OnText}
-use Rattle.reader.specs.Refusal.{Result, noInput, ok, orElse, refused, _>>=_}
+use Rattle.reader.specs.Refusal.{Result, noInput, orElse, refused, _>>=_}
 use Rattle.reader.specs.Spans.{textAt}
 use Rattle.reader.specs.Table.{afterAt, startAt}
-use Rattle.reader.specs.declared.rows.Found.{Found}
 use Rattle.reader.specs.declared.rows.Found.the-variants as founds
 use Rattle.sheet.proofs.Given.{text-given}
 use Rattle.sheet.proofs.Walks.{room}

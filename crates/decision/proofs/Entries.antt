@@ -1,7 +1,7 @@
 -- The calls on a sheet's bytes, from what opening it says: refused with its number alone, or answered by the call on the sheet.
 -- Assumes nothing.
 use mathlib.Core.List.{List}
-use mathlib.Core.Option.{Option, none}
+use mathlib.Core.Option.{none}
 use mathlib.Core.Path.{ap, refl, subst, sym, _∙_, _≡_}
 use Prim.Native.Nat.{ℕ}
 use lib.ListN.{length}
@@ -18,7 +18,7 @@ use Rattle.sheet.specs.Condition.{Condition}
 use Rattle.sheet.specs.Sheet.{Sheet, readSheet}
 use Rattle.sheet.specs.declared.shape.Members.{Members}
 use Rattle.decision.specs.Called.{Called}
-use Rattle.decision.specs.Entry.{Reply, call, enough, fitted, outputAfter, reply, workAfter, workWords}
+use Rattle.decision.specs.Entry.{Reply, call, enough, fitted, outputAfter, reply, workAfter}
 use Rattle.decision.specs.Given.{Known}
 use Rattle.decision.specs.Opening.{OpenedAs, Opening, Ready, Stopped, opening}
 use Rattle.decision.specs.Told.{Told}

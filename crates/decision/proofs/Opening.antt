@@ -21,15 +21,14 @@ use Rattle.reader.specs.declared.answer.Read.{Read}
 use Rattle.reader.specs.declared.answer.Read.the-variants as reads
 use Rattle.reader.specs.declared.answer.Refusal.{Refusal as Why}
 use Rattle.reader.specs.declared.answer.Refusal.the-variants as whys
-use Rattle.sheet.specs.Accepted.{Accepted, Shaped, Stored}
+use Rattle.sheet.specs.Accepted.{Shaped, Stored}
 use Rattle.sheet.specs.Condition.{Condition}
 use Rattle.sheet.specs.Sheet.{Sheet, checked, readSheet}
 use Rattle.sheet.specs.declared.shape.Members.{Members}
 use Rattle.sheet.specs.declared.shape.Shape.{Shape}
 use Rattle.sheet.specs.declared.shape.Shape.the-variants as shapes
 use Rattle.decision.specs.Entry.{enough, workWords}
-use Rattle.decision.specs.Opening.{OpenedAs, Opening, Ready, Stopped, opening}
-use Rattle.decision.specs.declared.open.Opened.{Opened}
+use Rattle.decision.specs.Opening.{OpenedAs, Opening, opening}
 use Rattle.decision.specs.declared.open.Opened.the-variants as opened
 
 -- the refusals of reading have no line
