@@ -30,7 +30,8 @@ use Rattle.sheet.specs.Outcome.{Effect, Outcome, anEffect, anOutcome, moves, or
 use Rattle.sheet.specs.declared.outcome.OutcomeMembers.{OutcomeMembers}
 use Rattle.decision.specs.Admission.{admit, isSource, isWrong}
 use Rattle.decision.specs.Decide.{asAdmitted}
-use Rattle.decision.specs.Given.{Known, SourcesAt}
+use Rattle.sheet.specs.Accepted.{Known}
+use Rattle.decision.specs.Given.{SourcesAt}
 use Rattle.decision.specs.Outcomes.{Placed, firstFrom}
 use Rattle.decision.specs.Places.{PlacedAt}
 use Rattle.decision.specs.Told.{Entered, Told, admission}

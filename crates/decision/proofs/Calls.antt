@@ -25,7 +25,7 @@ use Rattle.sheet.specs.Sheet.{Sheet}
 use Rattle.sheet.specs.declared.shape.Members.{Members}
 use Rattle.decision.specs.Admission.{admit}
 use Rattle.decision.specs.Decide.{admitCall}
-use Rattle.decision.specs.Given.{Known}
+use Rattle.sheet.specs.Accepted.{Known}
 use Rattle.decision.specs.Outcomes.{Placed, at}
 use Rattle.decision.specs.Places.{PlacedAt}
 use Rattle.decision.specs.Told.{Told, admission}

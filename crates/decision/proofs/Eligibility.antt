@@ -25,7 +25,7 @@ use Rattle.sheet.specs.Condition.{Condition}
 use Rattle.sheet.specs.Kinds.{aBool, aText}
 use Rattle.sheet.specs.Outcome.{Outcome, orFalse}
 use Rattle.sheet.specs.declared.outcome.OutcomeMembers.{OutcomeMembers}
-use Rattle.decision.specs.Given.{Known}
+use Rattle.sheet.specs.Accepted.{Known}
 use Rattle.decision.specs.Outcomes.{eligible, fits}
 
 -- ---- a member that may be missing

@@ -19,7 +19,7 @@ use Rattle.sheet.specs.Sheet.{Sheet, readSheet}
 use Rattle.sheet.specs.declared.shape.Members.{Members}
 use Rattle.decision.specs.Called.{Called}
 use Rattle.decision.specs.Entry.{Reply, call, enough, fitted, outputAfter, reply, workAfter}
-use Rattle.decision.specs.Given.{Known}
+use Rattle.sheet.specs.Accepted.{Known}
 use Rattle.decision.specs.Opening.{OpenedAs, Opening, Ready, Stopped, opening}
 use Rattle.decision.specs.Told.{Told}
 use Rattle.decision.specs.declared.open.Opened.{Opened}

@@ -11,12 +11,12 @@ use native.Mathlib.Omega.{arith}
 use Rattle.decision.proofs.Rules.{lost-ascending}
 use Rattle.decision.specs.Outcomes.{Placed, at, eligible, guard as Decide·guard, select}
 use Rattle.decision.specs.Demand.{isGuarded}
-use Rattle.evaluation.proofs.Later.{Both, Every, Fact, Later, Lost, every-left, every-right, later-evaluate, truthGone, truthKept}
-use Rattle.evaluation.specs.Evaluate.{Answer}
-use Rattle.evaluation.specs.Names.{Names, ascending}
-use Rattle.evaluation.specs.Readings.{guardReadings, whenReadings}
-use Rattle.evaluation.specs.Semantics.{kernel}
-use Rattle.evaluation.specs.Truth.{False, True, Truth, Unknown}
+use Rattle.semantics.proofs.Later.{Both, Every, Fact, Later, Lost, every-left, every-right, later-evaluate, truthGone, truthKept}
+use Rattle.semantics.specs.Evaluate.{Answer}
+use Rattle.semantics.specs.Names.{Names, ascending}
+use Rattle.semantics.specs.Readings.{guardReadings, whenReadings}
+use Rattle.semantics.specs.Semantics.{kernel}
+use Rattle.semantics.specs.Truth.{False, True, Truth, Unknown}
 use Rattle.reader.proofs.Laws.{bind-ok}
 use Rattle.reader.specs.Bytes.{Bytes}
 use Rattle.reader.specs.Refusal.{Result, guardUnknown, noOutcome, ok, refused}

@@ -19,13 +19,13 @@ use Rattle.decision.specs.Entry.{Reply, call, decide, enough, fitted, re
 use Rattle.line.specs.Line.{refusalLine, refusalNumber, verdictLine}
 use Rattle.decision.specs.Admission.{admit, isWrong}
 use Rattle.line.specs.Verdict.{Verdict, passed}
-use Rattle.evaluation.proofs.Later.{Alike, Every, Fact, Lost, alike-evaluate, every-left, every-right, known-gives}
-use Rattle.evaluation.specs.Evaluate.{Answer}
-use Rattle.evaluation.specs.Expression.{gives}
-use Rattle.evaluation.specs.Names.{Names, ascending}
-use Rattle.evaluation.specs.Readings.{IsReading, Reading, clean, guardReadings, readings, ruleReadings, sheetReadings, whenReadings}
-use Rattle.evaluation.specs.Semantics.{kernel}
-use Rattle.evaluation.specs.Truth.{False, True, Unknown}
+use Rattle.semantics.proofs.Later.{Alike, Every, Fact, Lost, alike-evaluate, every-left, every-right, known-gives}
+use Rattle.semantics.specs.Evaluate.{Answer}
+use Rattle.semantics.specs.Expression.{gives}
+use Rattle.semantics.specs.Names.{Names, ascending}
+use Rattle.semantics.specs.Readings.{IsReading, Reading, clean, guardReadings, readings, ruleReadings, sheetReadings, whenReadings}
+use Rattle.semantics.specs.Semantics.{kernel}
+use Rattle.semantics.specs.Truth.{False, True, Unknown}
 use Rattle.reader.proofs.Laws.{bind-ok, leb-true, ltb-true, ok-injective}
 use Rattle.reader.specs.Bytes.{Bytes, isOneOf}
 use Rattle.reader.specs.Json.{Value, isNull, null}

@@ -12,13 +12,13 @@ use lib.ListN.{length}
 use Rattle.decision.specs.Rules.{check}
 use Rattle.decision.specs.Demand.{atPlace, rule, settler}
 use Rattle.line.specs.Verdict.{Verdict, passed}
-use Rattle.evaluation.proofs.Later.{Both, Every, Fact, Later, Lost, every-left, every-right, later-evaluate, truthGone, truthKept}
-use Rattle.evaluation.proofs.Names.{ascending-mem}
-use Rattle.evaluation.specs.Evaluate.{Answer, evaluate}
-use Rattle.evaluation.specs.Names.{Names, ascending}
-use Rattle.evaluation.specs.Readings.{readings, ruleReadings}
-use Rattle.evaluation.specs.Semantics.{kernel}
-use Rattle.evaluation.specs.Truth.{False, True, Truth, Unknown}
+use Rattle.semantics.proofs.Later.{Both, Every, Fact, Later, Lost, every-left, every-right, later-evaluate, truthGone, truthKept}
+use Rattle.semantics.proofs.Names.{ascending-mem}
+use Rattle.semantics.specs.Evaluate.{Answer, evaluate}
+use Rattle.semantics.specs.Names.{Names, ascending}
+use Rattle.semantics.specs.Readings.{readings, ruleReadings}
+use Rattle.semantics.specs.Semantics.{kernel}
+use Rattle.semantics.specs.Truth.{False, True, Truth, Unknown}
 use Rattle.reader.proofs.Laws.{bind-ok, ok-not-refused}
 use Rattle.reader.specs.Bytes.{Bytes}
 use Rattle.reader.specs.Refusal.{Refusal, Result, Rules, ok, preconditions, refused, ruleFalse, ruleUnknown}

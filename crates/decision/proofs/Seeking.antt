@@ -14,7 +14,7 @@ use Rattle.sheet.specs.Kinds.{aBool}
 use Rattle.sheet.specs.Named.{OutcomeNamed}
 use Rattle.sheet.specs.Outcome.{Outcome, anOutcome, orFalse}
 use Rattle.sheet.specs.declared.outcome.OutcomeMembers.{OutcomeMembers}
-use Rattle.decision.specs.Given.{Known}
+use Rattle.sheet.specs.Accepted.{Known}
 use Rattle.decision.specs.Outcomes.{Placed, at, firstFrom}
 use Rattle.decision.specs.Places.{PlacedAt}
 use Rattle.decision.specs.declared.outcomes.Chosen.the-variants as chosen

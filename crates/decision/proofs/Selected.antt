@@ -10,8 +10,8 @@ use lib.ListN.{length}
 use Rattle.decision.proofs.Guards.{select-false, select-none, select-skip, select-true, select-unknown}
 use Rattle.decision.specs.Outcomes.{Placed, eligible, guard, select}
 use Rattle.decision.specs.Selection.{Answers, FirstTrue}
-use Rattle.evaluation.specs.Evaluate.{Answer}
-use Rattle.evaluation.specs.Truth.{False, True, Truth, Unknown}
+use Rattle.semantics.specs.Evaluate.{Answer}
+use Rattle.semantics.specs.Truth.{False, True, Truth, Unknown}
 use Rattle.reader.proofs.Laws.{ok-injective}
 use Rattle.reader.specs.Refusal.{Refusal, Result, noOutcome, ok, refused}
 use Rattle.sheet.specs.Condition.{Condition}

@@ -22,7 +22,8 @@ use Rattle.sheet.specs.Outcome.{Effect, Outcome, aMove, anEffect, anOutcome, or
 use Rattle.sheet.specs.declared.outcome.MoveMembers.{MoveMembers}
 use Rattle.sheet.specs.declared.outcome.OutcomeMembers.{OutcomeMembers}
 use Rattle.decision.specs.Admission.{isSource, sources}
-use Rattle.decision.specs.Given.{Known, SourcesAt}
+use Rattle.sheet.specs.Accepted.{Known}
+use Rattle.decision.specs.Given.{SourcesAt}
 use Rattle.decision.proofs.Eligibility.{missing, there}
 use Rattle.decision.proofs.Walking.{Walking, ended, goes-on, next, settled}
 

@@ -13,7 +13,7 @@ use Rattle.sheet.proofs.Given.{NextGives, array-given, each-done, each-next}
 use Rattle.sheet.proofs.Walks.{room}
 use Rattle.sheet.specs.Accepted.{EachGives, Gives}
 use Rattle.sheet.specs.Kinds.{anArrayOf}
-use Rattle.decision.specs.Given.{Known}
+use Rattle.sheet.specs.Accepted.{Known}
 
 -- nodes give one list only
 one-list : {A : Type 0} {kind : Value → Result A} {s : Bytes} {w : List ℕ} {k e : ℕ} {xs ys : List A} → EachGives kind s w k e xs → EachGives kind s w k e ys → xs ≡ ys

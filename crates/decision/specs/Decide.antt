@@ -6,9 +6,9 @@ use Rattle.decision.specs.Admission.{admit}
 use Rattle.decision.specs.Outcomes.{Placed, at, select}
 use Rattle.decision.specs.Rules.{check}
 use Rattle.line.specs.Verdict.{Verdict, admitted, answered, selected}
-use Rattle.evaluation.specs.Evaluate.{evaluate}
-use Rattle.evaluation.specs.Names.{ascending}
-use Rattle.evaluation.specs.Semantics.{kernel}
+use Rattle.semantics.specs.Evaluate.{evaluate}
+use Rattle.semantics.specs.Names.{ascending}
+use Rattle.semantics.specs.Semantics.{kernel}
 use Rattle.reader.specs.Refusal.{Result, _>>=_, invariants, noInput, ok, orElse, preconditions}
 use Rattle.sheet.specs.Condition.{Condition}
 use Rattle.sheet.specs.Sheet.{Sheet}

@@ -12,10 +12,10 @@ use Rattle.decision.specs.Decide.{decideCall}
 use Rattle.decision.specs.Outcomes.{Placed, at, eligible, select}
 use Rattle.decision.specs.Entry.{Reply, decide, workWords}
 use Rattle.line.specs.Line.{refusalLine, refusalNumber}
-use Rattle.evaluation.specs.Expression.{gives}
-use Rattle.evaluation.specs.Names.{Names}
-use Rattle.evaluation.specs.Readings.{IsReading, Reading, clean}
-use Rattle.evaluation.specs.Semantics.{kernel}
+use Rattle.semantics.specs.Expression.{gives}
+use Rattle.semantics.specs.Names.{Names}
+use Rattle.semantics.specs.Readings.{IsReading, Reading, clean}
+use Rattle.semantics.specs.Semantics.{kernel}
 use Rattle.reader.specs.Bytes.{Bytes}
 use Rattle.reader.specs.Json.{Value, null, number}
 use Rattle.reader.specs.Refusal.{Refusal, Result, guardUnknown, noOutcome, ok, preconditions, refused, ruleFalse, ruleUnknown}

@@ -1,4 +1,4 @@
--- What the code is given of an accepted sheet: that its nodes give something.
+-- Where an effect may start from, by node.
 -- Assumes nothing.
 use mathlib.Core.List.{List}
 use mathlib.Core.Path.{_≡_}
@@ -9,11 +9,6 @@ use Rattle.reader.specs.declared.rows.Found.the-variants as founds
 use Rattle.sheet.specs.Accepted.{Gives}
 use Rattle.sheet.specs.Kinds.{someTexts}
 use Rattle.sheet.specs.Outcome.{Effect, moves, stays}
-
--- something of which a thing is known, as the texts that a node gives
-pub record Known {A : Type 0} (Is : A → Type 0) : Type 0 where
-  pub given : A
-  pub known : Is given
 
 -- where an effect may start from: the node of a move's texts, and nothing where the state is left
 unfoldable pub SourcesAt : Bytes → List ℕ → Effect → Found → Type 0

@@ -4,10 +4,10 @@ use mathlib.Core.Bool.{Bool, _&&_, false, not, true}
 use mathlib.Core.List.{List, [], _∷_}
 use mathlib.Core.Option.{Option, none, some}
 use Prim.Native.Nat.{_+_, suc, ℕ}
-use Rattle.evaluation.specs.Evaluate.{Answer, certain, evaluate}
-use Rattle.evaluation.specs.Names.{ascending}
-use Rattle.evaluation.specs.Semantics.{kernel}
-use Rattle.evaluation.specs.Truth.{False, True, Unknown}
+use Rattle.semantics.specs.Evaluate.{Answer, certain, evaluate}
+use Rattle.semantics.specs.Names.{ascending}
+use Rattle.semantics.specs.Semantics.{kernel}
+use Rattle.semantics.specs.Truth.{False, True, Unknown}
 use Rattle.reader.specs.Bytes.{Bytes, sameBytes}
 use Rattle.reader.specs.Refusal.{Result, _>>=_, guardUnknown, noOutcome, ok, refused}
 use Rattle.sheet.specs.Condition.{Condition}

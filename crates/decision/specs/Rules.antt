@@ -3,10 +3,10 @@
 use mathlib.Core.List.{List, [], _∷_}
 use Prim.Native.Nat.{_+_, ℕ}
 use Rattle.line.specs.Verdict.{Verdict, passed}
-use Rattle.evaluation.specs.Evaluate.{evaluate}
-use Rattle.evaluation.specs.Names.{ascending}
-use Rattle.evaluation.specs.Semantics.{kernel}
-use Rattle.evaluation.specs.Truth.{False, True, Unknown}
+use Rattle.semantics.specs.Evaluate.{evaluate}
+use Rattle.semantics.specs.Names.{ascending}
+use Rattle.semantics.specs.Semantics.{kernel}
+use Rattle.semantics.specs.Truth.{False, True, Unknown}
 use Rattle.reader.specs.Refusal.{Result, Rules, _>>=_, ok, refused, ruleFalse, ruleUnknown}
 use Rattle.sheet.specs.Condition.{Condition}
 use Rattle.sheet.specs.Rule.{Rule}

@@ -8,8 +8,8 @@ use mathlib.Core.Path.{_≡_}
 use Prim.Native.Nat.{ℕ, _+_}
 use lib.ListN.{length}
 use Rattle.decision.specs.Outcomes.{Placed, eligible, guard}
-use Rattle.evaluation.specs.Evaluate.{Answer}
-use Rattle.evaluation.specs.Truth.{False, True, Truth}
+use Rattle.semantics.specs.Evaluate.{Answer}
+use Rattle.semantics.specs.Truth.{False, True, Truth}
 use Rattle.reader.specs.Refusal.{ok}
 use Rattle.sheet.specs.Condition.{Condition}
 use Rattle.sheet.specs.Outcome.{Outcome}

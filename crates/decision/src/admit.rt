@@ -25,7 +25,7 @@ ghost use Rattle.sheet.specs.Kinds.{aText, anArrayOf};
 ghost use Rattle.sheet.specs.Outcome as all;
 ghost use Rattle.sheet.specs.Outcome.{anOutcome};
 ghost use Rattle.decision.specs.Admission.{admit, isWrong};
-ghost use Rattle.decision.specs.Given.{Known};
+ghost use Rattle.sheet.specs.Accepted.{Known};
 ghost use Rattle.decision.specs.Outcomes.{firstFrom};
 ghost use Rattle.decision.specs.Told.{Entered, Told, admission};
 

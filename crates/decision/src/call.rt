@@ -11,7 +11,7 @@ ghost use Rattle.sheet.specs.Accepted.{Accepted};
 ghost use Rattle.sheet.specs.Condition.{Condition};
 ghost use Rattle.sheet.specs.Sheet.{Sheet};
 ghost use Rattle.decision.specs.Decide.{admitCall};
-ghost use Rattle.decision.specs.Given.{Known};
+ghost use Rattle.sheet.specs.Accepted.{Known};
 ghost use Rattle.decision.specs.Told.{Told};
 
 // Admission of the outcome at a place.

@@ -13,7 +13,7 @@ ghost use Rattle.sheet.specs.Accepted.{MayGive, OutcomeGives};
 ghost use Rattle.sheet.specs.Condition.{Condition};
 ghost use Rattle.sheet.specs.Kinds.{aBool, aText};
 ghost use Rattle.sheet.specs.Outcome.{Outcome, orFalse};
-ghost use Rattle.decision.specs.Given.{Known};
+ghost use Rattle.sheet.specs.Accepted.{Known};
 ghost use Rattle.decision.specs.Outcomes.{eligible, fits};
 
 // Whether a member that may be missing is there and true.

@@ -7,7 +7,7 @@ ghost use Rattle.reader.specs.Bytes.{Bytes};
 ghost use Rattle.sheet.specs.Accepted.{EachGives};
 ghost use Rattle.sheet.specs.Condition.{Condition, condition};
 ghost use Rattle.sheet.specs.Outcome.{Outcome, anOutcome};
-ghost use Rattle.decision.specs.Given.{Known};
+ghost use Rattle.sheet.specs.Accepted.{Known};
 ghost use Rattle.decision.specs.Outcomes.{at, firstFrom};
 ghost use Rattle.decision.specs.Places.{PlacedAt};
 

@@ -17,7 +17,8 @@ ghost use Rattle.sheet.specs.Accepted.{EachGives, Gives, MayGive};
 ghost use Rattle.sheet.specs.Condition.{Condition, condition};
 ghost use Rattle.sheet.specs.Outcome.{Effect, Outcome, aMove, anEffect, anOutcome, orStays};
 ghost use Rattle.decision.specs.Admission.{isSource, sources};
-ghost use Rattle.decision.specs.Given.{Known, SourcesAt};
+ghost use Rattle.sheet.specs.Accepted.{Known};
+ghost use Rattle.decision.specs.Given.{SourcesAt};
 
 // The node of the texts that a move starts from.
 fn of_move(s: &[u8], work: &[u32], node: usize) -> Found

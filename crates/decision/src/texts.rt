@@ -11,7 +11,7 @@ ghost use Rattle.reader.specs.Cursor.{OnText};
 ghost use Rattle.reader.specs.Spans.{textAt};
 ghost use Rattle.sheet.specs.Accepted.{EachGives, Gives};
 ghost use Rattle.sheet.specs.Kinds.{aText, someTexts};
-ghost use Rattle.decision.specs.Given.{Known};
+ghost use Rattle.sheet.specs.Accepted.{Known};
 
 // Whether the text at a place is one of the texts from `from` up to `end`.
 pub fn is_among(s: &[u8], work: &[u32], from: usize, end: usize, text: usize) -> bool

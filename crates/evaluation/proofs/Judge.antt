@@ -7,17 +7,18 @@ use mathlib.Core.Bool.{Bool, true, false}
 use Prim.Native.Nat.{ℕ, _+_, _*_, _≤_, _<_}
 use native.Mathlib.Omega.{arith}
 use lib.ListN.{length}
-use Rattle.evaluation.specs.Judge.{comparedOf, inTurn, judge, judgeAll, nesting, overOf}
-use Rattle.evaluation.specs.Lazy.{Frames, Operand}
-use Rattle.evaluation.specs.Shape.{Shape, collected, seconds}
-use Rattle.evaluation.proofs.Stands.{Agree, refusing, lacking, standing, Stands, Standing, noFrame, frame, standing-length, operand-agrees}
-use Rattle.evaluation.proofs.Layers.{FitsIn, noItem, oneItem, FitsOf, noField, oneField, Fits, isNothing, isTruth, isDigits, isWords, isItems, isFields, shape-fits, holds-agrees}
-use Rattle.evaluation.proofs.Nesting.{LowSheet, Low, LowAll, LowEnv, resolve-low}
-use Rattle.evaluation.specs.Evaluate.{Answer, each, certain, collection, compared, evaluate, evaluateAll, isPresent, joined, over, unknown, valuesOf}
-use Rattle.evaluation.specs.Expression.{Env}
-use Rattle.evaluation.specs.Operand.{Resolved, present, resolve}
-use Rattle.evaluation.specs.Semantics.{kernel}
-use Rattle.evaluation.specs.Truth.{settles}
+use Rattle.operands.specs.Comparing.{nesting}
+use Rattle.evaluation.specs.Judge.{comparedOf, inTurn, judge, judgeAll, overOf}
+use Rattle.operands.specs.Lazy.{Frames, Operand}
+use Rattle.operands.specs.Shape.{Shape, collected, seconds}
+use Rattle.operands.proofs.Stands.{Agree, refusing, lacking, standing, Stands, Standing, noFrame, frame, standing-length, operand-agrees}
+use Rattle.operands.proofs.Layers.{FitsIn, noItem, oneItem, FitsOf, noField, oneField, Fits, isNothing, isTruth, isDigits, isWords, isItems, isFields, shape-fits, holds-agrees}
+use Rattle.operands.proofs.Nesting.{LowSheet, Low, LowAll, LowEnv, resolve-low}
+use Rattle.semantics.specs.Evaluate.{Answer, each, certain, collection, compared, evaluate, evaluateAll, isPresent, joined, over, unknown, valuesOf}
+use Rattle.semantics.specs.Expression.{Env}
+use Rattle.semantics.specs.Operand.{Resolved, present, resolve}
+use Rattle.semantics.specs.Semantics.{kernel}
+use Rattle.semantics.specs.Truth.{settles}
 use Rattle.reader.specs.Bytes.{Bytes}
 use Rattle.reader.specs.Json.{Members, Value, Values, elements}
 use Rattle.reader.specs.Limits.{depth, depthIn, depthOf}

@@ -10,22 +10,23 @@ use Rattle.reader.specs.Refusal.{Refusal, Result, ok, refused, _>>=_}
 use Rattle.sheet.specs.Condition.{Condition, Form, exists, pair}
 use Rattle.sheet.specs.Sheet.{Sheet}
 use Rattle.evaluation.specs.Answers.{EvaluatedAs, Marks, outcomeOf}
-use Rattle.evaluation.specs.Evaluate.{Answer, certain, isPresent}
-use Rattle.evaluation.specs.Judge.{comparedOf, holdsOf, judge}
-use Rattle.evaluation.specs.Lazy as lazy
-use Rattle.evaluation.specs.Lazy.{operand}
-use Rattle.evaluation.specs.Marks.{Heard, ResolvedAs, heard, resolvedOf}
-use Rattle.evaluation.specs.Names.{Names}
-use Rattle.evaluation.specs.Operand.{Resolved, missing, present}
-use Rattle.evaluation.specs.Stored.{Fits, HasKind, operandOf, table}
+use Rattle.semantics.specs.Evaluate.{Answer, certain, isPresent}
+use Rattle.operands.specs.Comparing.{holdsOf}
+use Rattle.evaluation.specs.Judge.{comparedOf, judge}
+use Rattle.operands.specs.Lazy as lazy
+use Rattle.operands.specs.Lazy.{operand}
+use Rattle.operands.specs.Marks.{Heard, ResolvedAs, heard, resolvedOf}
+use Rattle.semantics.specs.Names.{Names}
+use Rattle.semantics.specs.Operand.{Resolved, missing, present}
+use Rattle.operands.specs.Stored.{Fits, HasKind, operandOf, table}
 use Rattle.evaluation.specs.declared.comparison.Outcome.{Outcome}
 use Rattle.evaluation.specs.declared.comparison.Outcome.the-variants as outcomes
-use Rattle.evaluation.specs.declared.operand.Operand.{Operand}
-use Rattle.evaluation.specs.declared.resolve.Resolved as code
-use Rattle.evaluation.specs.declared.resolve.Resolved.the-variants as answers
-use Rattle.evaluation.specs.declared.truth.Truth.the-variants as truths
-use Rattle.evaluation.proofs.Marking.{left-then}
-use Rattle.evaluation.proofs.Stands.{impossible}
+use Rattle.operands.specs.declared.operand.Operand.{Operand}
+use Rattle.operands.specs.declared.resolve.Resolved as code
+use Rattle.operands.specs.declared.resolve.Resolved.the-variants as answers
+use Rattle.semantics.specs.declared.truth.Truth.the-variants as truths
+use Rattle.operands.proofs.Marking.{left-then}
+use Rattle.operands.proofs.Stands.{impossible}
 
 -- what an operand was found to be
 module _ {quiet : Bool} {s : Bytes} {w w′ : List ℕ} {r : code.Resolved} {m : Result (Resolved lazy.Operand)} (a : ResolvedAs quiet s w w′ r m) where

@@ -8,9 +8,9 @@ use Prim.Native.Nat.{ℕ, _≤_, max, Ordering, Ordering·lt, Ordering·eq, Orde
 use native.Mathlib.Omega.{arith}
 use lib.Dec.{eqb}
 use lib.ListN.{length}
-use Rattle.evaluation.proofs.Stands.{impossible}
-use Rattle.evaluation.proofs.Nesting.{LowSheet, Low, LowAll, Entries, find-entry}
-use Rattle.evaluation.specs.Semantics.{kernel}
+use Rattle.operands.proofs.Stands.{impossible}
+use Rattle.operands.proofs.Nesting.{LowSheet, Low, LowAll, Entries, find-entry}
+use Rattle.semantics.specs.Semantics.{kernel}
 use Rattle.reader.proofs.Complete.{read-exactly}
 use Rattle.reader.specs.Bytes.{Bytes, ascii, find, orderBytes}
 use Rattle.reader.specs.Json.{Members, Value, Values, array, asText, bool, cons, elements, empty, entries, keys, member, nil, null, number, object, text}
@@ -23,7 +23,7 @@ use Rattle.sheet.specs.Kinds.{aBool, aText, aVersion, anArrayOf, anObject, each
 use Rattle.sheet.specs.Outcome.{Outcome, anEffect, anOutcome}
 use Rattle.sheet.specs.Rule.{Rule, aRule}
 use Rattle.sheet.specs.Sheet.{Sheet, aSheet, readSheet, sound, written}
-use Rattle.evaluation.specs.Evaluate.{evaluate}
+use Rattle.semantics.specs.Evaluate.{evaluate}
 use Rattle.evaluation.specs.Judge.{judge}
 use Rattle.evaluation.proofs.Judge.{judge-whole}
 

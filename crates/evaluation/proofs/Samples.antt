@@ -4,7 +4,7 @@ use mathlib.Core.Path.{refl, _≡_}
 use mathlib.Core.List.{[], _∷_}
 use mathlib.Core.Option.{none}
 use Rattle.evaluation.specs.Judge.{judge}
-use Rattle.evaluation.specs.Truth.{True}
+use Rattle.semantics.specs.Truth.{True}
 use Rattle.reader.specs.Bytes.{ascii}
 use Rattle.reader.specs.Json.{array, cons, empty, member, nil, number, object, text}
 use Rattle.reader.specs.Refusal.{ok}

@@ -8,17 +8,17 @@ use Rattle.reader.specs.Refusal.{Result, noId, ok, refused, unknownExpression}
 use Rattle.reader.specs.Spans.{textAt}
 use Rattle.reader.specs.Table.{startAt}
 use Rattle.sheet.specs.Condition.{Form}
-use Rattle.evaluation.specs.Evaluate.{Answer, certain}
-use Rattle.evaluation.specs.Judge.{holdsOf}
-use Rattle.evaluation.specs.Lazy as lazy
-use Rattle.evaluation.specs.Marks.{Left}
-use Rattle.evaluation.specs.Names.{Names, noNames}
-use Rattle.evaluation.specs.Rooted.{sheetIn}
-use Rattle.evaluation.specs.Stored.{HasKind, operandOf, table}
-use Rattle.evaluation.specs.Told.{truthOf}
+use Rattle.semantics.specs.Evaluate.{Answer, certain}
+use Rattle.operands.specs.Comparing.{holdsOf}
+use Rattle.operands.specs.Lazy as lazy
+use Rattle.operands.specs.Marks.{Left}
+use Rattle.semantics.specs.Names.{Names, noNames}
+use Rattle.operands.specs.Rooted.{sheetIn}
+use Rattle.operands.specs.Stored.{HasKind, operandOf, table}
+use Rattle.semantics.specs.Told.{truthOf}
 use Rattle.evaluation.specs.declared.comparison.Outcome.{Outcome}
 use Rattle.evaluation.specs.declared.comparison.Outcome.the-variants as outcomes
-use Rattle.evaluation.specs.declared.operand.Operand.{Operand}
+use Rattle.operands.specs.declared.operand.Operand.{Operand}
 
 -- an outcome as the definition has it, with these names
 abbrev pub outcomeOf : Bytes → List ℕ → Names → Outcome → Result Answer

@@ -1,21 +1,21 @@
 // The conditions that hold operands only: `exists` and the pair forms, with their names marked.
-use crate::frames::Frames;
-use crate::holds::Form;
-use crate::operand::Operand;
-use crate::resolve::Resolved;
-use crate::roots::Roots;
-use crate::truth::Truth;
+use operands::frames::Frames;
+use operands::holds::Form;
+use operands::operand::Operand;
+use operands::resolve::Resolved;
+use operands::roots::Roots;
+use semantics::truth::Truth;
 ghost use Prim.Native.Nat.{_≤_};
 ghost use Rattle.reader.specs.Held.{HasNode};
 ghost use Rattle.reader.specs.Limits.{depth};
 ghost use Rattle.sheet.specs.Condition.{exists, pair};
 ghost use Rattle.evaluation.specs.Answers.{EvaluatedAs, JudgedAs};
 ghost use Rattle.evaluation.specs.Judge.{judge};
-ghost use Rattle.evaluation.specs.Marks.{Working};
-ghost use Rattle.evaluation.specs.Matched.{formOf};
-ghost use Rattle.evaluation.specs.Ready.{Ready};
-ghost use Rattle.evaluation.specs.Rooted.{sheetIn};
-ghost use Rattle.evaluation.specs.Stored.{OperandAt, framesOf, table, tree};
+ghost use Rattle.operands.specs.Marks.{Working};
+ghost use Rattle.operands.specs.Matched.{formOf};
+ghost use Rattle.operands.specs.Ready.{Ready};
+ghost use Rattle.operands.specs.Rooted.{sheetIn};
+ghost use Rattle.operands.specs.Stored.{OperandAt, framesOf, table, tree};
 
 // A truth, or the refusal 13 with the expression's node, or 14.
 pub enum Outcome {
@@ -36,7 +36,7 @@ pub fn exists_at(
     requires { ⌜ Working (now s) (now work) roots frames × HasNode (now s) (table (now work)) node × (depth (tree (now s) (table (now work)) node) ≤ left) ⌝ }
     ensures { λ r. ⌜ EvaluatedAs (now (s .entry)) (now (work .entry)) (now (work .exit)) r (judge (sheetIn (now (s .entry))) (framesOf (now (s .entry)) (table (now (work .entry))) frames) (exists (tree (now (s .entry)) (table (now (work .entry))) node))) ⌝ }
 {
-    match crate::resolve::resolve(s, work, roots, frames, node, true, left) {
+    match operands::resolve::resolve(s, work, roots, frames, node, true, left) {
         Resolved::Present(_o) => Outcome::Judged(Truth::True),
         Resolved::Missing => Outcome::Judged(Truth::False),
         Resolved::Unknown(n) => Outcome::Unknown(n),
@@ -57,7 +57,7 @@ fn judged(
     requires { ⌜ Ready (now s) (now work) roots frames × OperandAt (now s) (table (now work)) a × OperandAt (now s) (table (now work)) b ⌝ }
     ensures { λ r. ⌜ JudgedAs (now (s .entry)) (table (now (work .entry))) (framesOf (now (s .entry)) (table (now (work .entry))) frames) (formOf form) a b r ⌝ }
 {
-    if crate::holds::holds(s, work, roots, frames, form, a, b) {
+    if operands::holds::holds(s, work, roots, frames, form, a, b) {
         return Outcome::Judged(Truth::True);
     }
     Outcome::Judged(Truth::False)
@@ -77,10 +77,10 @@ pub fn pair_at(
     requires { ⌜ Working (now s) (now work) roots frames × HasNode (now s) (table (now work)) m × HasNode (now s) (table (now work)) n × (depth (tree (now s) (table (now work)) m) ≤ left) × (depth (tree (now s) (table (now work)) n) ≤ left) ⌝ }
     ensures { λ r. ⌜ EvaluatedAs (now (s .entry)) (now (work .entry)) (now (work .exit)) r (judge (sheetIn (now (s .entry))) (framesOf (now (s .entry)) (table (now (work .entry))) frames) (pair (formOf form) (tree (now (s .entry)) (table (now (work .entry))) m) (tree (now (s .entry)) (table (now (work .entry))) n))) ⌝ }
 {
-    match crate::resolve::resolve(s, work, roots, frames, m, false, left) {
+    match operands::resolve::resolve(s, work, roots, frames, m, false, left) {
         Resolved::Unknown(k) => Outcome::Unknown(k),
         Resolved::NoId => Outcome::NoId,
-        Resolved::Present(a) => match crate::resolve::resolve(
+        Resolved::Present(a) => match operands::resolve::resolve(
             s,
             work,
             roots,
@@ -94,7 +94,15 @@ pub fn pair_at(
             Resolved::Unknown(k) => Outcome::Unknown(k),
             Resolved::NoId => Outcome::NoId,
         },
-        Resolved::Missing => match crate::resolve::resolve(s, work, roots, frames, n, false, left) {
+        Resolved::Missing => match operands::resolve::resolve(
+            s,
+            work,
+            roots,
+            frames,
+            n,
+            false,
+            left,
+        ) {
             Resolved::Present(_b) => Outcome::Judged(Truth::Unknown),
             Resolved::Missing => Outcome::Judged(Truth::Unknown),
             Resolved::Unknown(k) => Outcome::Unknown(k),

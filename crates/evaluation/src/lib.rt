@@ -1,17 +1,2 @@
 // Evaluation of conditions over the reader's table. The definitions stand in specs/, the laws in proofs/.
-pub mod children;
 pub mod comparison;
-pub mod equal;
-pub mod frames;
-pub mod holds;
-pub mod layer;
-pub mod member;
-pub mod operand;
-pub mod path;
-pub mod reach;
-pub mod resolve;
-pub mod roots;
-pub mod rows;
-pub mod search;
-pub mod truth;
-pub mod written;

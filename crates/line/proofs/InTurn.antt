@@ -6,7 +6,7 @@ use mathlib.Core.Path.{ap, refl, sym, _∙_, _≡_}
 use Prim.Native.Nat.{Ordering, Ordering·eq, Ordering·gt, Ordering·lt, suc, zero, ℕ, _-_, _≤_}
 use lib.ListN.{length}
 use Rattle.line.specs.Least.{inTurn, isAfter, leastAfter, lesser, nearer}
-use Rattle.evaluation.specs.Names.{ascending, insertName}
+use Rattle.semantics.specs.Names.{ascending, insertName}
 use Rattle.reader.proofs.Sorted as sorted
 use Rattle.reader.specs.Bytes.{Bytes, orderBytes}
 

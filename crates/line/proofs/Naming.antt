@@ -15,7 +15,7 @@ use Rattle.line.specs.Line.{quoted}
 use Rattle.line.specs.Texts.{IsText, TextTold, textOf}
 use Rattle.line.specs.declared.quote.Text.{Text}
 use Rattle.line.specs.declared.quote.Text.the-variants as texts
-use Rattle.evaluation.specs.Names.{Names, ascending}
+use Rattle.semantics.specs.Names.{Names, ascending}
 use Rattle.reader.specs.Bytes.{Bytes}
 use Rattle.reader.specs.Limits.{maxNodes}
 use Rattle.reader.specs.Marks.{marked}

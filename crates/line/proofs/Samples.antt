@@ -4,7 +4,7 @@ use mathlib.Core.List.{List, [], _∷_}
 use mathlib.Core.Option.{Option, none, some}
 use mathlib.Core.Path.{refl, _≡_}
 use Prim.Native.String.{String}
-use Rattle.evaluation.specs.Truth as truths
+use Rattle.semantics.specs.Truth as truths
 use Rattle.line.specs.Line.{endLine}
 use Rattle.line.specs.Reply.{reply}
 use Rattle.line.specs.Verdict.{Verdict, admitted, answered, passed, selected}

@@ -6,8 +6,8 @@ use mathlib.Core.Option.{Option, none, some}
 use Prim.Native.Nat.{suc, zero, ℕ, _%_, _+_, _/_}
 use lib.Dec.{eqb, ltb}
 use Rattle.line.specs.Verdict.{Verdict, admitted, answered, passed, selected}
-use Rattle.evaluation.specs.Names.{Names}
-use Rattle.evaluation.specs.Truth.{False, True, Truth, Unknown}
+use Rattle.semantics.specs.Names.{Names}
+use Rattle.semantics.specs.Truth.{False, True, Truth, Unknown}
 use Rattle.reader.specs.Bytes.{Bytes, ascii, choose}
 use Rattle.reader.specs.Refusal.{Refusal, Rules, guardUnknown, invariants, lineTooLong, noId, noInput, noOutcome, notASource, notCarried, notJson, notUtf8, numberTooLong, preconditions, repeatedName, ruleFalse, ruleUnknown, tooDeep, tooLong, tooManyNodes, unknownExpression, workTooSmall, wrongShape, wrongSheet, wrongState}
 

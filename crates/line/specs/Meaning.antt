@@ -4,8 +4,8 @@ use mathlib.Core.List.{List}
 use mathlib.Core.Path.{_≡_}
 use Prim.Native.Nat.{ℕ}
 use lib.ListN.{length}
-use Rattle.evaluation.specs.Names.{Names, ascending}
-use Rattle.evaluation.specs.Truth as truths
+use Rattle.semantics.specs.Names.{Names, ascending}
+use Rattle.semantics.specs.Truth as truths
 use Rattle.line.specs.Reply.{lineSize, outputAfter, reply}
 use Rattle.line.specs.Texts.{IsText, NamesHeld, TextsHeld, textOf, textsIn}
 use Rattle.line.specs.Verdict.{Verdict, admitted, answered, passed, selected}

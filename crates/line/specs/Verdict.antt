@@ -1,8 +1,8 @@
 -- What a call answers where nothing is refused.
 -- Assumes nothing.
 use Prim.Native.Nat.{ℕ}
-use Rattle.evaluation.specs.Names.{Names}
-use Rattle.evaluation.specs.Truth.{Truth}
+use Rattle.semantics.specs.Names.{Names}
+use Rattle.semantics.specs.Truth.{Truth}
 use Rattle.reader.specs.Bytes.{Bytes}
 
 pub data Verdict : Type 0 where

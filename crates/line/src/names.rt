@@ -5,7 +5,7 @@ use crate::quote::Text;
 use crate::quote::element;
 use reader::text::Order;
 ghost use Prim.Native.Nat.{_<_};
-ghost use Rattle.evaluation.specs.Names.{ascending};
+ghost use Rattle.semantics.specs.Names.{ascending};
 ghost use Rattle.reader.specs.Cursor.{OnText};
 ghost use Rattle.reader.specs.Marks.{marked};
 ghost use Rattle.reader.specs.Spans.{textAt};

@@ -127,3 +127,8 @@ pub record OutcomeGives (s : Bytes) (w : List ℕ) (m : OutcomeMembers) (o : Out
 pub record MoveGives (s : Bytes) (w : List ℕ) (m : MoveMembers) (to : Bytes) (from : List Bytes) : Type 0 where
   pub goes : Given aText s w (m .to) to
   pub comes : Given someTexts s w (m .from) from
+
+-- ---- what code above is given: something of which a thing is known, as the texts that a node gives
+pub record Known {A : Type 0} (Is : A → Type 0) : Type 0 where
+  pub given : A
+  pub known : Is given

@@ -6,7 +6,7 @@ use Rattle.reader.specs.Bytes.{Bytes}
 use Rattle.sheet.specs.Accepted.{EachGives}
 use Rattle.sheet.specs.Condition.{condition}
 use Rattle.sheet.specs.Outcome.{anOutcome}
-use Rattle.decision.specs.Given.{Known}
+use Rattle.sheet.specs.Accepted.{Known}
 use Rattle.decision.proofs.Seeking.{Counting, at-place, counting, counts-on, past-all}
 use Rattle.decision.proofs.Walking.{element-room, falls}
 use Rattle.decision.proofs.outcomes.outcome_at.Statement.{statement}

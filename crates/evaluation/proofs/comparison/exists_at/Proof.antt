@@ -3,8 +3,8 @@
 use borrow.Author.Needs.{needs}
 use Rattle.evaluation.proofs.comparison.exists_at.Statement.{statement}
 use Rattle.evaluation.proofs.comparison.exists_at.Tie as tie
-use Rattle.evaluation.specs.Rooted.{sheetIn}
-use Rattle.evaluation.specs.Stored.{framesOf, table, tree}
+use Rattle.operands.specs.Rooted.{sheetIn}
+use Rattle.operands.specs.Stored.{framesOf, table, tree}
 use Rattle.evaluation.proofs.Judging.{exists-false, exists-refused, exists-true, no-id-first, unknown-first}
 
 resolve-requires : tie.Need-resolve-requires

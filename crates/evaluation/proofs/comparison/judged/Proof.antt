@@ -6,7 +6,7 @@ use Rattle.evaluation.proofs.comparison.judged.Tie as tie
 use mathlib.Core.Path.{ap, sym, _∙_}
 use mathlib.Core.Bool.{Bool}
 use Rattle.reader.specs.Refusal.{ok}
-use Rattle.evaluation.specs.Evaluate.{certain}
+use Rattle.semantics.specs.Evaluate.{certain}
 
 holds-requires : tie.Need-holds-requires
 holds-requires c κs = search needs

@@ -4,11 +4,11 @@ use borrow.Author.Needs.{needs}
 use Rattle.evaluation.proofs.comparison.pair_at.Statement.{statement}
 use Rattle.evaluation.proofs.comparison.pair_at.Tie as tie
 use mathlib.Core.Path.{_∙_}
-use Rattle.evaluation.specs.Rooted.{sheetIn}
-use Rattle.evaluation.specs.Stored.{framesOf, table, tree}
-use Rattle.evaluation.specs.Matched.{formOf}
+use Rattle.operands.specs.Rooted.{sheetIn}
+use Rattle.operands.specs.Stored.{framesOf, table, tree}
+use Rattle.operands.specs.Matched.{formOf}
 use Rattle.evaluation.proofs.Judging.{both-missing, both-present, is-present, left-missing, left-then-no-id, left-then-unknown, no-id-first, pair-refused, right-missing, right-no-id, right-unknown, unknown-first}
-use Rattle.evaluation.proofs.Marking.{ready-after, working-after}
+use Rattle.operands.proofs.Marking.{ready-after, working-after}
 
 resolve-requires : tie.Need-resolve-requires
 resolve-requires c κs = (c .before .before .before .pre .0, c .before .before .before .pre .1, c .before .before .before .pre .3)

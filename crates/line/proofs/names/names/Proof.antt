@@ -2,7 +2,7 @@
 -- Assumes nothing.
 use native.Mathlib.Omega.{arith}
 use borrow.Author.Needs.{needs}
-use Rattle.evaluation.specs.Names.{ascending}
+use Rattle.semantics.specs.Names.{ascending}
 use Rattle.line.proofs.Laying.{then, told}
 use Rattle.line.proofs.Least.{is-text}
 use Rattle.line.proofs.Lists.{listed-is}

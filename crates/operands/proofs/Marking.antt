@@ -1,0 +1,109 @@
+-- What marking leaves: nothing, one mark, and one step after another; and what stays ready.
+-- Assumes nothing.
+use mathlib.Core.Bool.{Bool, false, true}
+use mathlib.Core.List.{List, List·Memᴰ·append-cases, List·Memᴰ·eq-of-singleton, List·Memᴰ·head, List·Memᴰ·not-nil, Memᴰ·append-left, Memᴰ·append-right, [], _++_, _∷_}
+use mathlib.Core.Logic.{_⊎_, _≢_, inl, inr}
+use mathlib.Core.Path.{ap, refl, subst, sym, _∙_, _≡_}
+use Prim.Native.Nat.{ℕ, _+_, _<_, _≤_}
+use native.Mathlib.Omega.{arith}
+use lib.Dec.{eqb}
+use lib.ListN.{getD, length, length-set, set}
+use lib.Seq.{drop-set-lt, getD-set-other, getD-set-same, take-set-le}
+use borrow.Author.Tests.{eqb-false, eqb-true}
+use Rattle.reader.specs.Bytes.{Bytes}
+use Rattle.reader.specs.Spans.{textAt}
+use Rattle.reader.specs.Table.{startAt}
+use Rattle.operands.specs.Marks.{Left, Marked, Working, heard, missed}
+use Rattle.semantics.specs.Names.{Named, Names}
+use Rattle.operands.specs.Ready.{Ready}
+use Rattle.operands.specs.Rooted.{Rooted, sheetIn}
+use Rattle.operands.specs.Stored.{FramesAt, table}
+use Rattle.operands.specs.declared.frames.Frames.{Frames}
+use Rattle.operands.specs.declared.roots.Roots.{Roots}
+
+pub left-none : (s : Bytes) (w : List ℕ) → Left s w w []
+left-none s w = record { rows = refl; long = refl; further = refl; only = λ x m. inl m; still = λ x m. m; added = λ x n. absurd (List·Memᴰ·not-nil n) }
+
+pub left-then : {s : Bytes} {w w′ w″ : List ℕ} {ns ms : Names} → Left s w w′ ns → Left s w′ w″ ms → Left s w w″ (ns ++ ms)
+left-then {s} {w} {w′} {w″} {ns} {ms} a b = record {
+  rows = b .rows ∙ a .rows;
+  long = b .long ∙ a .long;
+  further = b .further ∙ a .further;
+  only = λ x m. go x (b .only x m);
+  still = λ x m. b .still x (a .still x m);
+  added = λ x n. pick x (List·Memᴰ·append-cases ns n);
+}
+  where
+    earlier : (x : Bytes) → Marked s w x ⊎ Named x ns → Marked s w x ⊎ Named x (ns ++ ms)
+    earlier x (inl m) = inl m
+    earlier x (inr n) = inr (Memᴰ·append-left ms n)
+
+    go : (x : Bytes) → Marked s w′ x ⊎ Named x ms → Marked s w x ⊎ Named x (ns ++ ms)
+    go x (inl m) = earlier x (a .only x m)
+    go x (inr n) = inr (Memᴰ·append-right ns n)
+
+    pick : (x : Bytes) → Named x ns ⊎ Named x ms → Marked s w″ x
+    pick x (inl n) = b .still x (a .added x n)
+    pick x (inr n) = b .added x n
+
+-- one mark
+module _ (s : Bytes) (w : List ℕ) (n : ℕ) (long : 16384 ≤ length w) (small : n < 4096) where
+  abbrev w′ : List ℕ
+  w′ = set w (12288 + n) 1
+
+  same-rows : table w′ ≡ table w
+  same-rows = take-set-le 12288 w (12288 + n) 1 (omega arith)
+
+  here : getD w′ (12288 + n) 0 ≡ 1
+  here = getD-set-same w (12288 + n) 1 0 (omega arith)
+
+  there : (m : ℕ) → (m ≡ n → ⊥) → getD w′ (12288 + m) 0 ≡ getD w (12288 + m) 0
+  there m h = let ne : 12288 + m ≢ 12288 + n = λ e. h (omega arith) in getD-set-other w (12288 + n) (12288 + m) 1 0 ne
+
+  pub left-mark : (x : Bytes) → textAt s (startAt (table w) n) ≡ x → Left s w (set w (12288 + n) 1) (x ∷ [])
+  left-mark x e = record {
+    rows = same-rows;
+    long = length-set w (12288 + n) 1;
+    further = drop-set-lt 16384 w (12288 + n) 1 (omega arith);
+    only = λ y m. only y m (eqb (m .node) n) refl;
+    still = λ y m. still y m (eqb (m .node) n) refl;
+    added = λ y k. record { node = n; small = small; mark = here; text = ap (λ (t : List ℕ). textAt s (startAt t n)) same-rows ∙ e ∙ sym (List·Memᴰ·eq-of-singleton k) };
+  }
+    where
+      moved : (y : Bytes) (m : ℕ) → textAt s (startAt (table w′) m) ≡ y → textAt s (startAt (table w) m) ≡ y
+      moved y m q = ap (λ (t : List ℕ). textAt s (startAt t m)) (sym same-rows) ∙ q
+
+      only : (y : Bytes) (m : Marked s w′ y) (b : Bool) → eqb (m .node) n ≡ b → Marked s w y ⊎ Named y (x ∷ [])
+      only y m true q = inr (List·Memᴰ·head (sym (moved y (m .node) (m .text)) ∙ ap (λ (k : ℕ). textAt s (startAt (table w) k)) (eqb-true (m .node) n q) ∙ e))
+      only y m false q = inl (record { node = m .node; small = m .small; mark = sym (there (m .node) (eqb-false (m .node) n q)) ∙ m .mark; text = moved y (m .node) (m .text) })
+
+      back : (y : Bytes) (m : ℕ) → textAt s (startAt (table w) m) ≡ y → textAt s (startAt (table w′) m) ≡ y
+      back y m q = ap (λ (t : List ℕ). textAt s (startAt t m)) same-rows ∙ q
+
+      still : (y : Bytes) (m : Marked s w y) (b : Bool) → eqb (m .node) n ≡ b → Marked s w′ y
+      still y m true q = record { node = m .node; small = m .small; mark = ap (λ (k : ℕ). getD w′ (12288 + k) 0) (eqb-true (m .node) n q) ∙ here; text = back y (m .node) (m .text) }
+      still y m false q = record { node = m .node; small = m .small; mark = there (m .node) (eqb-false (m .node) n q) ∙ m .mark; text = back y (m .node) (m .text) }
+
+  pub left-missed : (quiet : Bool) (x : Bytes) → textAt s (startAt (table w) n) ≡ x → Left s w (missed quiet w n) (heard quiet (x ∷ []))
+  left-missed true x e = left-none s w
+  left-missed false x e = left-mark x e
+
+pub heard-then : (quiet : Bool) (ns ms : Names) → heard quiet (ns ++ ms) ≡ heard quiet ns ++ heard quiet ms
+heard-then true ns ms = refl
+heard-then false ns ms = refl
+
+pub heard-none : (quiet : Bool) → heard quiet [] ≡ []
+heard-none true = refl
+heard-none false = refl
+
+-- what is ready stays so
+pub ready-after : {s : Bytes} {w w′ : List ℕ} {roots : Roots} {f : Frames} {ns : Names} → Ready s w roots f → Left s w w′ ns → Ready s w′ roots f
+ready-after {s} {roots = roots} {f = f} r l = record {
+  rows = omega (arith, r .rows, l .long);
+  short = r .short;
+  rooted = subst (λ (t : List ℕ). Rooted (sheetIn s) s t roots) (sym (l .rows)) (r .rooted);
+  bound = subst (λ (t : List ℕ). FramesAt s t f) (sym (l .rows)) (r .bound);
+}
+
+pub working-after : {s : Bytes} {w w′ : List ℕ} {roots : Roots} {f : Frames} {ns : Names} → Working s w roots f → Left s w w′ ns → Working s w′ roots f
+working-after r l = record { ready = ready-after (r .ready) l; long = omega (arith, r .long, l .long) }

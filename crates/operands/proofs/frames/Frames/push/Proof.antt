@@ -1,0 +1,27 @@
+-- `evaluation::frames::Frames::push` puts a frame in front.
+-- Assumes nothing.
+use borrow.Author.Needs.{needs}
+use Rattle.operands.proofs.frames.Frames.push.Statement.{statement}
+use Rattle.operands.proofs.frames.Frames.push.Tie as tie
+use mathlib.Core.Path.{_≡_, refl}
+use lib.ListN.{length}
+use Rattle.operands.proofs.Stack.{length-mapped, top-push}
+use native.Mathlib.Omega.{arith}
+
+mul-slots : tie.Need-mul-slots
+mul-slots c = search needs
+
+array-set-from-slots : tie.Need-array-set-from-slots
+array-set-from-slots c = search needs
+
+add-t5 : tie.Need-add-t5
+add-t5 c = search needs
+
+returns : tie.Need-returns
+returns c =
+    let self = c .before .args .self in
+    let long : length (self .slots) ≡ 32 = search (needs, length-mapped) in
+    (refl, top-push (self .depth) (self .slots) (c .before .args .frame) (omega arith))
+
+pub push-spec : {M : Type 1} → statement M
+push-spec = tie.close (tie.spec mul-slots array-set-from-slots add-t5 returns)

@@ -1,0 +1,71 @@
+-- `evaluation::holds::is_element` meets its contract: an equal one is looked for among the elements left.
+-- Assumes nothing.
+use Rattle.operands.proofs.holds.is_element.Statement.{statement}
+use Rattle.operands.proofs.holds.is_element.Tie as tie
+use mathlib.Core.Bool.{false}
+use Rattle.operands.specs.Comparing.{alike}
+use Rattle.operands.specs.Layered.{eachNode, kids, partAt}
+use Rattle.operands.specs.Rooted.{sheetIn}
+use Rattle.operands.specs.Shape.{oneAlike}
+use Rattle.operands.specs.Stored.{framesOf, operandOf, table}
+use Rattle.operands.proofs.Alike.{begin-room, child-end, child-given, walk-begins, walk-named}
+use Rattle.operands.proofs.Pairs.{Looking, child-node, element-here, element-none, element-on, looked-all, looked-at, looked-here, looked-on}
+use borrow.Author.Needs.{needs}
+use native.Mathlib.Omega.{arith}
+
+abbrev Inv-loop : tie.InvT-loop
+Inv-loop s work roots frames o whole left c₀ c = Looking s (table work) false (oneAlike (alike (sheetIn s) left (framesOf s (table work) frames)) (operandOf s (table work) o) (eachNode (partAt (sheetIn s) s (table work) (framesOf s (table work) frames) whole) (kids s (table work) (whole .node) false))) (λ ks. oneAlike (alike (sheetIn s) left (framesOf s (table work) frames)) (operandOf s (table work) o) (eachNode (partAt (sheetIn s) s (table work) (framesOf s (table work) frames) whole) ks)) c
+
+abbrev μ-loop : tie.MeasureT-loop
+μ-loop s work roots frames o whole left c₀ c = c .left
+
+of-requires : tie.Need-of-requires Inv-loop μ-loop
+of-requires c κs = begin-room (c .before .before .args .s .now) (c .before .before .args .work .now) false (c .before .before .pre .0 .rows) (c .before .before .pre .2)
+
+loop-holds : tie.Need-loop-holds Inv-loop μ-loop
+loop-holds c = record { rest = rw (c .of .ensures); walk = walk-begins (c .before .before .before .args .s .now) (table (c .before .before .before .args .work .now)) false (c .before .before .before .args .whole .node) (c .before .before .before .pre .2) _ (c .of .ensures); over = walk-named (c .before .before .before .args .s .now) (table (c .before .before .before .args .work .now)) false (c .before .before .before .args .whole .node) (c .before .before .before .pre .2) _ (c .of .ensures) }
+
+next-requires : tie.Need-next-requires Inv-loop μ-loop
+next-requires c κs = (record { rows = c .before .before .before .before .pre .0 .rows; node = omega arith }, c .loop .inv .walk)
+
+enum-told : tie.Need-enum-told Inv-loop μ-loop
+enum-told c = search needs
+
+returns : tie.Need-returns Inv-loop μ-loop
+returns c = looked-all (c .before .before .before .loop .inv) (child-end (c .before .before .before .before .before .before .before .args .s .now) (table (c .before .before .before .before .before .before .before .args .work .now)) (c .before .before .before .loop .c) (c .before .before .next .ensures) (c .enum-told .given .1)) (element-none (alike (sheetIn (c .before .before .before .before .before .before .before .args .s .now)) (c .before .before .before .before .before .before .before .args .left) (framesOf (c .before .before .before .before .before .before .before .args .s .now) (table (c .before .before .before .before .before .before .before .args .work .now)) (c .before .before .before .before .before .before .before .args .frames))) (operandOf (c .before .before .before .before .before .before .before .args .s .now) (table (c .before .before .before .before .before .before .before .args .work .now)) (c .before .before .before .before .before .before .before .args .o)) (partAt (sheetIn (c .before .before .before .before .before .before .before .args .s .now)) (c .before .before .before .before .before .before .before .args .s .now) (table (c .before .before .before .before .before .before .before .args .work .now)) (framesOf (c .before .before .before .before .before .before .before .args .s .now) (table (c .before .before .before .before .before .before .before .args .work .now)) (c .before .before .before .before .before .before .before .args .frames)) (c .before .before .before .before .before .before .before .args .whole)))
+
+enum-known-x : tie.Need-enum-known-x Inv-loop μ-loop
+enum-known-x c = search needs
+
+part-of-requires : tie.Need-part-of-requires Inv-loop μ-loop
+part-of-requires c κs = (c .before .before .before .before .before .before .before .before .pre .0, child-node (c .before .before .before .before .before .before .before .before .args .s .now) (table (c .before .before .before .before .before .before .before .before .args .work .now)) (looked-at (c .before .before .before .before .loop .inv) (child-given (c .before .before .before .before .before .before .before .before .args .s .now) (table (c .before .before .before .before .before .before .before .before .args .work .now)) (c .before .before .before .before .loop .c) (c .before .before .before .next .ensures) (c .before .x .given .0 .0) (c .before .x .given .1))))
+
+equal-at-requires : tie.Need-equal-at-requires Inv-loop μ-loop
+equal-at-requires c κs = (c .before .before .before .before .before .before .before .before .before .pre .0, c .part-of .ensures .fits, c .before .before .before .before .before .before .before .before .before .pre .1)
+
+returns-2 : tie.Need-returns-2 Inv-loop μ-loop
+returns-2 c = looked-here (c .before .before .before .before .before .before .before .loop .inv) (child-given (c .before .before .before .before .before .before .before .before .before .before .before .args .s .now) (table (c .before .before .before .before .before .before .before .before .before .before .before .args .work .now)) (c .before .before .before .before .before .before .before .loop .c) (c .before .before .before .before .before .before .next .ensures) (c .before .before .before .before .x .given .0 .0) (c .before .before .before .before .x .given .1)) (element-here (alike (sheetIn (c .before .before .before .before .before .before .before .before .before .before .before .args .s .now)) (c .before .before .before .before .before .before .before .before .before .before .before .args .left) (framesOf (c .before .before .before .before .before .before .before .before .before .before .before .args .s .now) (table (c .before .before .before .before .before .before .before .before .before .before .before .args .work .now)) (c .before .before .before .before .before .before .before .before .before .before .before .args .frames))) (operandOf (c .before .before .before .before .before .before .before .before .before .before .before .args .s .now) (table (c .before .before .before .before .before .before .before .before .before .before .before .args .work .now)) (c .before .before .before .before .before .before .before .before .before .before .before .args .o)) (partAt (sheetIn (c .before .before .before .before .before .before .before .before .before .before .before .args .s .now)) (c .before .before .before .before .before .before .before .before .before .before .before .args .s .now) (table (c .before .before .before .before .before .before .before .before .before .before .before .args .work .now)) (framesOf (c .before .before .before .before .before .before .before .before .before .before .before .args .s .now) (table (c .before .before .before .before .before .before .before .before .before .before .before .args .work .now)) (c .before .before .before .before .before .before .before .before .before .before .before .args .frames)) (c .before .before .before .before .before .before .before .before .before .before .before .args .whole)) _ _ (c .before .before .part-of .ensures .means) (c .before .equal-at .ensures) (c .if1 .taken))
+
+loop-less : tie.Need-loop-less Inv-loop μ-loop
+loop-less c = (child-given (c .before .before .before .before .before .before .before .before .before .before .before .before .args .s .now) (table (c .before .before .before .before .before .before .before .before .before .before .before .before .args .work .now)) (c .before .before .before .before .before .before .before .before .loop .c) (c .before .before .before .before .before .before .before .next .ensures) (c .before .before .before .before .before .x .given .0 .0) (c .before .before .before .before .before .x .given .1)) .falls
+
+loop-again : tie.Need-loop-again Inv-loop μ-loop
+loop-again c = looked-on (c .before .before .before .before .before .before .before .before .loop .inv) (child-given (c .before .before .before .before .before .before .before .before .before .before .before .before .args .s .now) (table (c .before .before .before .before .before .before .before .before .before .before .before .before .args .work .now)) (c .before .before .before .before .before .before .before .before .loop .c) (c .before .before .before .before .before .before .before .next .ensures) (c .before .before .before .before .before .x .given .0 .0) (c .before .before .before .before .before .x .given .1)) (element-on (alike (sheetIn (c .before .before .before .before .before .before .before .before .before .before .before .before .args .s .now)) (c .before .before .before .before .before .before .before .before .before .before .before .before .args .left) (framesOf (c .before .before .before .before .before .before .before .before .before .before .before .before .args .s .now) (table (c .before .before .before .before .before .before .before .before .before .before .before .before .args .work .now)) (c .before .before .before .before .before .before .before .before .before .before .before .before .args .frames))) (operandOf (c .before .before .before .before .before .before .before .before .before .before .before .before .args .s .now) (table (c .before .before .before .before .before .before .before .before .before .before .before .before .args .work .now)) (c .before .before .before .before .before .before .before .before .before .before .before .before .args .o)) (partAt (sheetIn (c .before .before .before .before .before .before .before .before .before .before .before .before .args .s .now)) (c .before .before .before .before .before .before .before .before .before .before .before .before .args .s .now) (table (c .before .before .before .before .before .before .before .before .before .before .before .before .args .work .now)) (framesOf (c .before .before .before .before .before .before .before .before .before .before .before .before .args .s .now) (table (c .before .before .before .before .before .before .before .before .before .before .before .before .args .work .now)) (c .before .before .before .before .before .before .before .before .before .before .before .before .args .frames)) (c .before .before .before .before .before .before .before .before .before .before .before .before .args .whole)) _ _ (c .before .before .before .part-of .ensures .means) (c .before .before .equal-at .ensures) (c .before .if1 .left))
+
+pub is-element-spec : {M : Type 1} → statement M
+is-element-spec =
+    tie.close
+    (tie.spec
+    Inv-loop
+    μ-loop
+    of-requires
+    loop-holds
+    next-requires
+    enum-told
+    returns
+    enum-known-x
+    part-of-requires
+    equal-at-requires
+    returns-2
+    loop-less
+    loop-again)

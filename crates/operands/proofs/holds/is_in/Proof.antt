@@ -1,0 +1,31 @@
+-- `evaluation::holds::is_in` meets its contract: by the class of the second.
+-- Assumes nothing.
+use borrow.Author.Needs.{needs}
+use Rattle.operands.proofs.holds.is_in.Statement.{statement}
+use Rattle.operands.proofs.holds.is_in.Tie as tie
+use mathlib.Core.Path.{ap, sym, _∙_}
+use Rattle.operands.specs.Comparing.{nesting}
+use Rattle.operands.specs.Rooted.{sheetIn}
+use Rattle.operands.specs.Stored.{framesOf, table}
+use Rattle.operands.proofs.Slices.{frames-length}
+use Rattle.operands.proofs.Layered.{array-kind}
+use Rattle.operands.proofs.Pairs.{in-none, in-some}
+
+class-of-requires : tie.Need-class-of-requires
+class-of-requires c κs = search needs
+
+returns : tie.Need-returns
+returns c = in-none (sheetIn (c .before .before .before .before .args .s .now)) (c .before .before .before .before .args .s .now) (table (c .before .before .before .before .args .work .now)) (framesOf (c .before .before .before .before .args .s .now) (table (c .before .before .before .before .args .work .now)) (c .before .before .before .before .args .frames)) (c .before .before .before .before .args .a) (c .before .before .before .before .args .b) (c .before .class-of .ensures) (c .if1 .taken)
+
+nesting-requires : tie.Need-nesting-requires
+nesting-requires c κs = c .before .before .before .before .pre .0 .bound .within
+
+is-element-requires : tie.Need-is-element-requires
+is-element-requires c κs = (c .before .before .before .before .before .pre .0, c .before .before .before .before .before .pre .1, array-kind (c .before .before .before .before .before .args .s .now) (table (c .before .before .before .before .before .args .work .now)) (c .before .before .before .before .before .args .b .node) (c .before .before .before .before .before .args .b .kind) (c .before .before .before .before .before .pre .2) (sym (c .before .before .class-of .ensures) ∙ c .before .if1 .left))
+
+returns-2 : tie.Need-returns-2
+returns-2 c = in-some (sheetIn (c .before .before .before .before .before .before .args .s .now)) (c .before .before .before .before .before .before .args .s .now) (table (c .before .before .before .before .before .before .args .work .now)) (framesOf (c .before .before .before .before .before .before .args .s .now) (table (c .before .before .before .before .before .before .args .work .now)) (c .before .before .before .before .before .before .args .frames)) (c .before .before .before .before .before .before .args .a) (c .before .before .before .before .before .before .args .b) (sym (c .before .before .before .class-of .ensures) ∙ c .before .before .if1 .left) (rw (c .before .nesting .ensures ∙ ap nesting (sym (frames-length (c .before .before .before .before .before .before .pre .0)))) at (c .is-element .ensures))
+
+pub is-in-spec : {M : Type 1} → statement M
+is-in-spec =
+    tie.close (tie.spec class-of-requires returns nesting-requires is-element-requires returns-2)

@@ -1,0 +1,67 @@
+-- `evaluation::holds::two_numbers` meets its contract: by the classes, then by the order.
+-- Assumes nothing.
+use borrow.Author.Needs.{needs}
+use Rattle.operands.proofs.holds.two_numbers.Statement.{statement}
+use Rattle.operands.proofs.holds.two_numbers.Tie as tie
+use mathlib.Core.Path.{ap, sym, subst, _∙_}
+use mathlib.Core.Bool.{Bool}
+use Rattle.number.specs.Compared.{orderOf}
+use Rattle.operands.specs.Matched.{NumbersTold, inOrder}
+use Rattle.operands.specs.Stored.{table}
+use Rattle.operands.proofs.Layered.{number-kind}
+use Rattle.operands.proofs.Pairs.{first-no-number, in-order, second-no-number}
+
+class-of-requires : tie.Need-class-of-requires
+class-of-requires c κs = search needs
+
+returns : tie.Need-returns
+returns c = first-no-number (c .before .before .before .before .args .s .now) (table (c .before .before .before .before .args .work .now)) (c .before .before .before .before .args .a) (c .before .before .before .before .args .b) (inOrder (c .before .before .before .before .args .less) (c .before .before .before .before .args .same) (c .before .before .before .before .args .greater)) (c .before .class-of .ensures) (c .if1 .taken)
+
+class-of-requires-2 : tie.Need-class-of-requires-2
+class-of-requires-2 c κs = search needs
+
+returns-2 : tie.Need-returns-2
+returns-2 c = second-no-number (c .before .before .before .before .before .before .args .s .now) (table (c .before .before .before .before .before .before .args .work .now)) (c .before .before .before .before .before .before .args .a) (c .before .before .before .before .before .before .args .b) (inOrder (c .before .before .before .before .before .before .args .less) (c .before .before .before .before .before .before .args .same) (c .before .before .before .before .before .before .args .greater)) (c .before .class-of2 .ensures) (c .if2 .taken)
+
+number-order-requires : tie.Need-number-order-requires
+number-order-requires c κs = (c .before .before .before .before .before .before .pre .0, number-kind (c .before .before .before .before .before .before .args .s .now) (table (c .before .before .before .before .before .before .args .work .now)) (c .before .before .before .before .before .before .args .a .node) (c .before .before .before .before .before .before .args .a .kind) (c .before .before .before .before .before .before .pre .1) (sym (c .before .before .before .class-of .ensures) ∙ c .before .before .if1 .left), number-kind (c .before .before .before .before .before .before .args .s .now) (table (c .before .before .before .before .before .before .args .work .now)) (c .before .before .before .before .before .before .args .b .node) (c .before .before .before .before .before .before .args .b .kind) (c .before .before .before .before .before .before .pre .2) (sym (c .before .class-of2 .ensures) ∙ c .if2 .left))
+
+enum-told : tie.Need-enum-told
+enum-told c = search needs
+
+enum-told-2 : tie.Need-enum-told-2
+enum-told-2 c = search needs
+
+enum-told-3 : tie.Need-enum-told-3
+enum-told-3 c = search needs
+
+returns-3 : tie.Need-returns-3
+returns-3 c =
+    let p = inOrder (c .before .before .before .before .before .before .before .before .before .args .less) (c .before .before .before .before .before .before .before .before .before .args .same) (c .before .before .before .before .before .before .before .before .before .args .greater) in
+    subst (λ (r : Bool). NumbersTold (c .before .before .before .before .before .before .before .before .before .args .s .now) (table (c .before .before .before .before .before .before .before .before .before .args .work .now)) (c .before .before .before .before .before .before .before .before .before .args .a) (c .before .before .before .before .before .before .before .before .before .args .b) p r) (ap (λ x. p (orderOf x)) (c .enum-told .given .1)) (in-order (c .before .before .before .before .before .before .before .before .before .args .s .now) (table (c .before .before .before .before .before .before .before .before .before .args .work .now)) (c .before .before .before .before .before .before .before .before .before .args .a) (c .before .before .before .before .before .before .before .before .before .args .b) p (sym (c .before .before .before .before .before .before .class-of .ensures) ∙ c .before .before .before .before .before .if1 .left) (sym (c .before .before .before .before .class-of2 .ensures) ∙ c .before .before .before .if2 .left) (c .before .before .number-order .ensures))
+
+returns-4 : tie.Need-returns-4
+returns-4 c =
+    let p = inOrder (c .before .before .before .before .before .before .before .before .before .args .less) (c .before .before .before .before .before .before .before .before .before .args .same) (c .before .before .before .before .before .before .before .before .before .args .greater) in
+    subst (λ (r : Bool). NumbersTold (c .before .before .before .before .before .before .before .before .before .args .s .now) (table (c .before .before .before .before .before .before .before .before .before .args .work .now)) (c .before .before .before .before .before .before .before .before .before .args .a) (c .before .before .before .before .before .before .before .before .before .args .b) p r) (ap (λ x. p (orderOf x)) (c .enum-told2 .given .1)) (in-order (c .before .before .before .before .before .before .before .before .before .args .s .now) (table (c .before .before .before .before .before .before .before .before .before .args .work .now)) (c .before .before .before .before .before .before .before .before .before .args .a) (c .before .before .before .before .before .before .before .before .before .args .b) p (sym (c .before .before .before .before .before .before .class-of .ensures) ∙ c .before .before .before .before .before .if1 .left) (sym (c .before .before .before .before .class-of2 .ensures) ∙ c .before .before .before .if2 .left) (c .before .before .number-order .ensures))
+
+returns-5 : tie.Need-returns-5
+returns-5 c =
+    let p = inOrder (c .before .before .before .before .before .before .before .before .before .args .less) (c .before .before .before .before .before .before .before .before .before .args .same) (c .before .before .before .before .before .before .before .before .before .args .greater) in
+    subst (λ (r : Bool). NumbersTold (c .before .before .before .before .before .before .before .before .before .args .s .now) (table (c .before .before .before .before .before .before .before .before .before .args .work .now)) (c .before .before .before .before .before .before .before .before .before .args .a) (c .before .before .before .before .before .before .before .before .before .args .b) p r) (ap (λ x. p (orderOf x)) (c .enum-told3 .given .1)) (in-order (c .before .before .before .before .before .before .before .before .before .args .s .now) (table (c .before .before .before .before .before .before .before .before .before .args .work .now)) (c .before .before .before .before .before .before .before .before .before .args .a) (c .before .before .before .before .before .before .before .before .before .args .b) p (sym (c .before .before .before .before .before .before .class-of .ensures) ∙ c .before .before .before .before .before .if1 .left) (sym (c .before .before .before .before .class-of2 .ensures) ∙ c .before .before .before .if2 .left) (c .before .before .number-order .ensures))
+
+pub two-numbers-spec : {M : Type 1} → statement M
+two-numbers-spec =
+    tie.close
+    (tie.spec
+    class-of-requires
+    returns
+    class-of-requires-2
+    returns-2
+    number-order-requires
+    enum-told
+    enum-told-2
+    enum-told-3
+    returns-3
+    returns-4
+    returns-5)

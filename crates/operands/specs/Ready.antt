@@ -1,0 +1,23 @@
+-- What evaluation asks of a sheet, its table, the nodes of its members and the frames.
+-- Assumes nothing.
+use mathlib.Core.List.{List}
+use Prim.Native.Nat.{ℕ, _*_, _≤_}
+use lib.ListN.{length}
+use Rattle.reader.specs.Bytes.{Bytes}
+use Rattle.reader.specs.Cursor.{OnText}
+use Rattle.reader.specs.Limits.{maxBytes, maxNodes}
+use Rattle.operands.specs.Rooted.{Rooted, sheetIn}
+use Rattle.operands.specs.Stored.{FramesAt, table}
+use Rattle.operands.specs.declared.frames.Frames.{Frames}
+use Rattle.operands.specs.declared.roots.Roots.{Roots}
+
+pub record Ready (s : Bytes) (w : List ℕ) (roots : Roots) (frames : Frames) : Type 0 where
+  pub rows : 3 * maxNodes ≤ length w
+  pub short : length s ≤ maxBytes
+  pub rooted : Rooted (sheetIn s) s (table w) roots
+  pub bound : FramesAt s (table w) frames
+
+-- a path: a text from the start of a slice on
+pub record PathAt (path : Bytes) : Type 0 where
+  pub onText : OnText path 0 0
+  pub short : length path ≤ maxBytes

@@ -1,0 +1,36 @@
+-- The frames in force, as a list, the innermost first; and what a name finds among them.
+-- Assumes nothing.
+use mathlib.Core.Bool.{cond}
+use mathlib.Core.List.{List, [], _∷_}
+use Prim.Native.Nat.{suc, zero, ℕ}
+use lib.ListN.{getD}
+use Rattle.reader.specs.Bytes.{Bytes, sameBytes}
+use Rattle.reader.specs.Cursor.{OnText}
+use Rattle.reader.specs.Spans.{textAt}
+use Rattle.operands.specs.declared.frames.Frame.{Frame}
+use Rattle.operands.specs.declared.frames.Frames.{Frames}
+use Rattle.operands.specs.declared.operand.Bound.{Bound}
+use Rattle.operands.specs.declared.operand.Bound.the-variants.{At, Nothing}
+use Rattle.operands.specs.declared.operand.Kind.the-variants.{Null}
+
+-- what lies past the end of the slots
+abbrev pub noFrame : Frame
+noFrame = record { name = 0; operand = record { node = 0; depth = 0; kind = Null } }
+
+-- the first n slots, the last of them first
+unfoldable pub top : ℕ → List Frame → List Frame
+top zero xs = []
+top (suc n) xs = getD xs n noFrame ∷ top n xs
+
+abbrev pub held : Frames → List Frame
+held f = top (f .depth) (f .slots)
+
+-- every name is a text of the sheet
+unfoldable pub Named : Bytes → List Frame → Type 0
+Named s [] = Unit {0}
+Named s (f ∷ fs) = OnText s (f .name) 0 × Named s fs
+
+unfoldable pub boundIn : Bytes → Bytes → List Frame → Bound
+unfolding sameBytes textAt
+boundIn s k [] = Nothing
+boundIn s k (f ∷ fs) = cond (sameBytes k (textAt s (f .name))) (At (f .operand)) (boundIn s k fs)

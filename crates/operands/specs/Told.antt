@@ -1,0 +1,70 @@
+-- What each answer of the code stands for.
+-- Assumes nothing.
+use mathlib.Core.List.{[], _++_, _∷_}
+use mathlib.Core.Option.{none, some}
+use mathlib.Core.Path.{_≡_}
+use Prim.Native.Nat.{ℕ, _<_, _≤_}
+use lib.ListN.{length}
+use mathlib.Core.Bool.{false, true}
+use Rattle.reader.specs.Bytes.{Bytes, begins}
+use Rattle.reader.specs.Cursor.{OnText, before, weight}
+use Rattle.reader.specs.declared.text.Cursor.{Cursor}
+use Rattle.reader.specs.Spans.{textAt}
+use Rattle.semantics.specs.Operand.{escaped, expression, plain, readText}
+use Rattle.operands.specs.Path.{further}
+use Rattle.operands.specs.declared.path.Rest.{Rest}
+use Rattle.operands.specs.declared.path.Rest.the-variants as rests
+use Rattle.operands.specs.declared.search.Turn as turns
+use Rattle.operands.specs.declared.search.Turn.the-variants as turn
+use Rattle.operands.specs.declared.written.Unit as units
+use Rattle.operands.specs.declared.written.Unit.the-variants as unit
+use Rattle.operands.specs.declared.written.Written as writtens
+use Rattle.operands.specs.declared.written.Written.the-variants as written
+
+-- bytes past ASCII: parts of longer characters
+unfoldable pub High : Bytes → Type 0
+High [] = Unit {0}
+High (c ∷ s) = (128 ≤ c) × High s
+
+-- the bytes of a unit, and the text behind it
+pub record UnitIs (s : Bytes) (at u next : ℕ) : Type 0 where
+  pub first : ℕ
+  pub others : Bytes
+  pub bytes : textAt s at ≡ first ∷ (others ++ textAt s next)
+  pub low : u < 128 → (first ≡ u) × (others ≡ [])
+  pub high : 128 ≤ u → (128 ≤ first) × High others
+  pub onText : OnText s next 0
+  pub past : at < next
+  pub upto : next ≤ length s
+
+unfoldable pub UnitTold : Bytes → ℕ → units.Unit → Type 0
+UnitTold s at unit.End = textAt s at ≡ []
+UnitTold s at (unit.Is x) = UnitIs s at (x .unit) (x .next)
+
+-- the text behind the `$`
+pub record Behind (s : Bytes) (at next : ℕ) : Type 0 where
+  pub dollar : textAt s at ≡ 36 ∷ textAt s next
+  pub onText : OnText s next 0
+  pub upto : next ≤ length s
+
+unfoldable pub WrittenTold : Bytes → ℕ → writtens.Written → Type 0
+WrittenTold s at written.Plain = readText (textAt s at) ≡ plain
+WrittenTold s at (written.Escaped p) = (readText (textAt s at) ≡ escaped (textAt s p)) × Behind s at p
+WrittenTold s at (written.Expression p) = (readText (textAt s at) ≡ expression (textAt s p)) × Behind s at p
+
+-- the text behind the first dot of a path
+unfoldable pub RestTold : Bytes → Rest → Type 0
+RestTold path rests.Nothing = further (textAt path 0) ≡ none
+RestTold path (rests.At p) = (further (textAt path 0) ≡ some (textAt path p)) × OnText path p 0 × (0 < p) × (p ≤ length path)
+
+-- a turn of a search
+pub record Onward (s : Bytes) (p t p′ t′ : Cursor) : Type 0 where
+  pub same : begins (before s (p .at) (p .unit) (p .left)) (before s (t .at) (t .unit) (t .left)) ≡ begins (before s (p′ .at) (p′ .unit) (p′ .left)) (before s (t′ .at) (t′ .unit) (t′ .left))
+  pub onPart : OnText s (p′ .at) (p′ .left)
+  pub onText : OnText s (t′ .at) (t′ .left)
+  pub falls : weight s (p′ .at) (p′ .left) < weight s (p .at) (p .left)
+
+unfoldable pub TurnTold : Bytes → Cursor → Cursor → turns.Turn → Type 0
+TurnTold s p t turn.Ended = begins (before s (p .at) (p .unit) (p .left)) (before s (t .at) (t .unit) (t .left)) ≡ true
+TurnTold s p t turn.Apart = begins (before s (p .at) (p .unit) (p .left)) (before s (t .at) (t .unit) (t .left)) ≡ false
+TurnTold s p t (turn.On b) = Onward s p t (b .part) (b .text)

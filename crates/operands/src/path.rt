@@ -1,0 +1,123 @@
+// Paths: the first part of a text up to its dot, and where the text goes on. A path is a slice that starts in the sheet's middle; its text ends at
+// its closing quote.
+use crate::written::Unit;
+use reader::text::Cursor;
+use reader::text::Step;
+ghost use mathlib.Core.Path.{_≡_};
+ghost use mathlib.Core.List.{[]};
+ghost use Rattle.reader.specs.Bytes.{sameBytes};
+ghost use Rattle.reader.specs.Cursor.{OnText, before};
+ghost use Rattle.reader.specs.Spans.{textAt};
+ghost use Rattle.operands.specs.Path.{part};
+ghost use Rattle.operands.specs.Told.{RestTold};
+
+pub enum Rest {
+    Nothing,
+    At(usize),
+}
+
+// Where the text goes on behind the first dot.
+pub fn rest_at(path: &[u8]) -> Rest
+    requires { ⌜ OnText (now path) 0 0 ⌝ }
+    ensures { λ r. ⌜ RestTold (now (path .entry)) r ⌝ }
+{
+    let mut at = 0;
+    loop {
+        match crate::written::unit_at(path, at) {
+            Unit::End => {
+                return Rest::Nothing;
+            }
+            Unit::Is(x) => {
+                if x.unit == 46 {
+                    return Rest::At(x.next);
+                }
+                at = x.next;
+            }
+        }
+    }
+}
+
+// Whether the first part of a path is the text at a place of the sheet.
+pub fn part_is(path: &[u8], s: &[u8], name: usize) -> bool
+    requires { ⌜ OnText (now path) 0 0 × OnText (now s) name 0 ⌝ }
+    ensures { λ r. ⌜ r ≡ sameBytes (part (textAt (now (path .entry)) 0)) (textAt (now (s .entry)) name) ⌝ }
+{
+    let mut x = Cursor {
+        at: 0,
+        unit: 0,
+        left: 0,
+    };
+    let mut y = Cursor {
+        at: name,
+        unit: 0,
+        left: 0,
+    };
+    loop {
+        match reader::text::next(path, x) {
+            Step::End => {
+                return ended(s, y);
+            }
+            Step::Byte(p) => {
+                if p.byte == b'.' {
+                    return ended(s, y);
+                }
+                match reader::text::next(s, y) {
+                    Step::End => {
+                        return false;
+                    }
+                    Step::Byte(q) => {
+                        if p.byte != q.byte {
+                            return false;
+                        }
+                        x = p.rest;
+                        y = q.rest;
+                    }
+                }
+            }
+        }
+    }
+}
+
+// Whether a cursor has no byte before it.
+pub fn ended(s: &[u8], c: Cursor) -> bool
+    requires { ⌜ OnText (now s) (c .at) (c .left) ⌝ }
+    ensures { λ r. ⌜ r ≡ sameBytes [] (before (now (s .entry)) (c .at) (c .unit) (c .left)) ⌝ }
+{
+    match reader::text::next(s, c) {
+        Step::End => true,
+        Step::Byte(_b) => false,
+    }
+}
+
+// Whether the first part of a path is a word.
+pub fn part_is_word(path: &[u8], word: &[u8]) -> bool
+    requires { ⌜ OnText (now path) 0 0 ⌝ }
+    ensures { λ r. ⌜ r ≡ sameBytes (part (textAt (now (path .entry)) 0)) (now (word .entry)) ⌝ }
+{
+    let mut x = Cursor {
+        at: 0,
+        unit: 0,
+        left: 0,
+    };
+    let mut i = 0;
+    loop {
+        match reader::text::next(path, x) {
+            Step::End => {
+                return i == word.len();
+            }
+            Step::Byte(p) => {
+                if p.byte == b'.' {
+                    return i == word.len();
+                }
+                if word.len() <= i {
+                    return false;
+                }
+                if p.byte != word[i] {
+                    return false;
+                }
+                x = p.rest;
+                i += 1;
+            }
+        }
+    }
+}

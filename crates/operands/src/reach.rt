@@ -1,0 +1,180 @@
+// Expressions under frames, nothing copied: touching a written node, looking an expression up, and walking on along its path call each other.
+use crate::frames::Frames;
+use crate::operand::Bound;
+use crate::operand::Kind;
+use crate::operand::Looked;
+use crate::operand::Operand;
+use crate::path::Rest;
+use crate::roots::Roots;
+use crate::written::Written;
+ghost use mathlib.Core.Path.{_≡_};
+ghost use Prim.Native.Nat.{_≤_};
+ghost use lib.ListN.{length};
+ghost use Rattle.reader.specs.Cursor.{OnText};
+ghost use Rattle.reader.specs.Held.{HasNode};
+ghost use Rattle.reader.specs.Spans.{textAt};
+ghost use Rattle.semantics.specs.Expression.{parts};
+ghost use Rattle.operands.specs.Lazy.{look, stepFrom, touch, walkFrom};
+ghost use Rattle.operands.specs.Path.{part};
+ghost use Rattle.operands.specs.Reached.{BoundAs, LookedAs};
+ghost use Rattle.operands.specs.Ready.{PathAt, Ready};
+ghost use Rattle.operands.specs.Rooted.{sheetIn};
+ghost use Rattle.operands.specs.Stored.{Means, OperandAt, framesOf, operandOf, table, tree};
+
+// A written node under frames, its parts untouched. The number falls from expression to expression.
+pub fn touch_at(
+    s: &[u8],
+    work: &[u32],
+    roots: Roots,
+    frames: Frames,
+    node: usize,
+    left: usize,
+) -> Operand
+    requires { ⌜ Ready (now s) (now work) roots frames × HasNode (now s) (table (now work)) node ⌝ }
+    ensures { λ r. ⌜ Means (now (s .entry)) (table (now (work .entry))) r (touch (sheetIn (now (s .entry))) left (framesOf (now (s .entry)) (table (now (work .entry))) frames) (tree (now (s .entry)) (table (now (work .entry))) node)) ⌝ }
+{
+    if left == 0 {
+        return crate::operand::nothing();
+    }
+    let code = crate::rows::kind_at(work, node);
+    if code == 4 {
+        let start = crate::rows::start_at(work, node);
+        match crate::written::classify(s, start) {
+            Written::Plain => {
+                return Operand {
+                    node: node,
+                    depth: 0,
+                    kind: Kind::Text,
+                };
+            }
+            Written::Escaped(_p) => {
+                return Operand {
+                    node: node,
+                    depth: 0,
+                    kind: Kind::Less,
+                };
+            }
+            Written::Expression(next) => {
+                return crate::operand::or_null(look_up(
+                    s,
+                    work,
+                    roots,
+                    frames,
+                    &s[next..],
+                    left - 1,
+                ));
+            }
+        }
+    }
+    Operand {
+        node: node,
+        depth: frames.depth,
+        kind: crate::operand::written_kind(code),
+    }
+}
+
+// What the expression gives whose text behind the `$` the path is: a binder first, then the sheet.
+pub fn look_up(
+    s: &[u8],
+    work: &[u32],
+    roots: Roots,
+    frames: Frames,
+    path: &[u8],
+    left: usize,
+) -> Looked
+    requires { ⌜ Ready (now s) (now work) roots frames × PathAt (now path) ⌝ }
+    ensures { λ r. ⌜ LookedAs (now (s .entry)) (table (now (work .entry))) (textAt (now (path .entry)) 0) r (look (sheetIn (now (s .entry))) (touch (sheetIn (now (s .entry))) left) (framesOf (now (s .entry)) (table (now (work .entry))) frames) (textAt (now (path .entry)) 0)) ⌝ }
+{
+    let bound = frames.find(s, path);
+    match crate::path::rest_at(path) {
+        Rest::Nothing => match bound {
+            Bound::At(o) => Looked::At(o),
+            Bound::Nothing => crate::roots::root_at(roots, crate::roots::root_named(path)),
+        },
+        Rest::At(next) => match bound {
+            Bound::At(o) => crate::operand::as_looked(walk_on(
+                s,
+                work,
+                roots,
+                frames,
+                &path[next..],
+                o,
+                left,
+            )),
+            Bound::Nothing => match crate::roots::base_at(roots, crate::roots::root_named(path)) {
+                Bound::Nothing => Looked::Unknown,
+                Bound::At(o) => {
+                    if crate::path::part_is_word(&path[next..], b"") {
+                        return Looked::Nothing;
+                    }
+                    crate::operand::as_looked(walk_on(
+                        s,
+                        work,
+                        roots,
+                        frames,
+                        &path[next..],
+                        o,
+                        left,
+                    ))
+                }
+            },
+        },
+    }
+}
+
+// The member that the first part of a path names: a value of the sheet, or a written one, touched under the frames of its object.
+pub fn step_to(
+    s: &[u8],
+    work: &[u32],
+    roots: Roots,
+    frames: Frames,
+    path: &[u8],
+    o: Operand,
+    left: usize,
+) -> Bound
+    requires { ⌜ Ready (now s) (now work) roots frames × PathAt (now path) × OperandAt (now s) (table (now work)) o ⌝ }
+    ensures { λ r. ⌜ BoundAs (now (s .entry)) (table (now (work .entry))) r (stepFrom (sheetIn (now (s .entry))) (touch (sheetIn (now (s .entry))) left) (framesOf (now (s .entry)) (table (now (work .entry))) frames) (part (textAt (now (path .entry)) 0)) (operandOf (now (s .entry)) (table (now (work .entry))) o)) ⌝ }
+{
+    let kind = o.kind;
+    let node = o.node;
+    match kind {
+        Kind::Object => {
+            let v = crate::member::member_of(s, work, node, path);
+            if v == 0 {
+                return Bound::Nothing;
+            }
+            Bound::At(crate::operand::value_at(work, v))
+        }
+        Kind::Named => {
+            let v = crate::member::member_of(s, work, node, path);
+            if v == 0 {
+                return Bound::Nothing;
+            }
+            Bound::At(touch_at(s, work, roots, frames.outer(o.depth), v, left))
+        }
+        _ => Bound::Nothing,
+    }
+}
+
+// Each step hands the rest of the text on.
+pub fn walk_on(
+    s: &[u8],
+    work: &[u32],
+    roots: Roots,
+    frames: Frames,
+    path: &[u8],
+    o: Operand,
+    left: usize,
+) -> Bound
+    requires { ⌜ Ready (now s) (now work) roots frames × PathAt (now path) × OperandAt (now s) (table (now work)) o ⌝ }
+    ensures { λ r. ⌜ BoundAs (now (s .entry)) (table (now (work .entry))) r (walkFrom (sheetIn (now (s .entry))) (touch (sheetIn (now (s .entry))) left) (framesOf (now (s .entry)) (table (now (work .entry))) frames) (parts (textAt (now (path .entry)) 0)) (operandOf (now (s .entry)) (table (now (work .entry))) o)) ⌝ }
+{
+    let found = step_to(s, work, roots, frames, path, o, left);
+    match found {
+        Bound::Nothing => Bound::Nothing,
+        Bound::At(p) => match crate::path::rest_at(path) {
+            Rest::Nothing => Bound::At(p),
+            Rest::At(next) => walk_on(s, work, roots, frames, &path[next..], p, left),
+        },
+    }
+}

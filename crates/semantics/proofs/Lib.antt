@@ -1,0 +1,4 @@
+pub mod Names
+pub mod Later
+pub mod Kleene
+pub mod Slips

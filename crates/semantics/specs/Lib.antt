@@ -1,0 +1,10 @@
+pub mod Truth
+pub mod Semantics
+pub mod Names
+pub mod Expression
+pub mod Operand
+pub mod Equality
+pub mod Forms
+pub mod Evaluate
+pub mod Readings
+pub mod Told
