@@ -1,10 +1,10 @@
 // The conditions that hold operands only: `exists` and the pair forms, with their names marked.
 use operands::frames::Frames;
-use operands::holds::Form;
 use operands::operand::Operand;
 use operands::resolve::Resolved;
 use operands::roots::Roots;
 use semantics::truth::Truth;
+use sheet::condition::Form;
 ghost use Prim.Native.Nat.{_≤_};
 ghost use Rattle.reader.specs.Held.{HasNode};
 ghost use Rattle.reader.specs.Limits.{depth};
@@ -12,7 +12,7 @@ ghost use Rattle.sheet.specs.Condition.{exists, pair};
 ghost use Rattle.evaluation.specs.Answers.{EvaluatedAs, JudgedAs};
 ghost use Rattle.evaluation.specs.Judge.{judge};
 ghost use Rattle.operands.specs.Marks.{Working};
-ghost use Rattle.operands.specs.Matched.{formOf};
+ghost use Rattle.sheet.specs.Answers.{formOf};
 ghost use Rattle.operands.specs.Ready.{Ready};
 ghost use Rattle.operands.specs.Rooted.{sheetIn};
 ghost use Rattle.operands.specs.Stored.{OperandAt, framesOf, table, tree};

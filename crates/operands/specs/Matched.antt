@@ -4,11 +4,9 @@ use mathlib.Core.Bool.{Bool, false, true}
 use mathlib.Core.List.{List, [], _∷_}
 use mathlib.Core.Path.{_≡_}
 use Prim.Native.Nat.{Ordering, Ordering·eq, Ordering·gt, Ordering·lt, ℕ}
-use Rattle.reader.specs.Bytes.{Bytes}
-use Rattle.reader.specs.Bytes.{begins}
+use Rattle.reader.specs.Bytes.{Bytes, begins}
 use Rattle.reader.specs.Spans.{textAt}
 use Rattle.reader.specs.Table.{startAt}
-use Rattle.sheet.specs.Condition as condition
 use Rattle.sheet.specs.Condition.{Condition}
 use Rattle.sheet.specs.Sheet.{Sheet}
 use Rattle.semantics.specs.Forms.{ends, isPart}
@@ -16,8 +14,6 @@ use Rattle.operands.specs.Layered.{shapeOf}
 use Rattle.operands.specs.Lazy as lazy
 use Rattle.operands.specs.Shape.{twoNumbers, twoTexts}
 use Rattle.operands.specs.Stored.{HasKind}
-use Rattle.operands.specs.declared.holds.Form.{Form}
-use Rattle.operands.specs.declared.holds.Form.the-variants as forms
 use Rattle.operands.specs.declared.holds.Where.{Where}
 use Rattle.operands.specs.declared.holds.Where.the-variants as wheres
 use Rattle.operands.specs.declared.operand.Operand.{Operand}
@@ -56,15 +52,3 @@ found wheres.End text part = ends part text
 
 abbrev pub TextsTold : Bytes → List ℕ → Operand → Operand → Where → Bool → Type 0
 TextsTold s t a b w r = (sheet : Sheet Condition) (fs : lazy.Frames) → r ≡ twoTexts (found w) (shapeOf sheet s t fs a) (shapeOf sheet s t fs b)
-
-abbrev pub formOf : Form → condition.Form
-formOf forms.Eq = condition.eq
-formOf forms.Ne = condition.ne
-formOf forms.Gt = condition.gt
-formOf forms.Gte = condition.gte
-formOf forms.Lt = condition.lt
-formOf forms.Lte = condition.lte
-formOf forms.In = condition.isIn
-formOf forms.Contains = condition.contains
-formOf forms.StartsWith = condition.startsWith
-formOf forms.EndsWith = condition.endsWith

@@ -4,33 +4,22 @@ use crate::children::Children;
 use crate::frames::Frames;
 use crate::operand::Operand;
 use crate::roots::Roots;
+use sheet::condition::Form;
 ghost use mathlib.Core.Bool.{false, true};
 ghost use mathlib.Core.Path.{_≡_};
 ghost use Prim.Native.Nat.{_≤_};
 ghost use Rattle.reader.specs.Bytes.{isOneOf};
 ghost use Rattle.reader.specs.Cursor.{OnText};
 ghost use Rattle.reader.specs.Spans.{textAt};
+ghost use Rattle.sheet.specs.Answers.{formOf};
 ghost use Rattle.sheet.specs.Condition.{contains, isIn};
 ghost use Rattle.operands.specs.Comparing.{alike, holdsOf, nesting};
 ghost use Rattle.operands.specs.Layered.{eachNode, kids, partAt};
-ghost use Rattle.operands.specs.Matched.{Holds, NumbersTold, TextsTold, formOf, inOrder, namesOf};
+ghost use Rattle.operands.specs.Matched.{Holds, NumbersTold, TextsTold, inOrder, namesOf};
 ghost use Rattle.operands.specs.Ready.{Ready};
 ghost use Rattle.operands.specs.Rooted.{sheetIn};
 ghost use Rattle.operands.specs.Shape.{oneAlike};
 ghost use Rattle.operands.specs.Stored.{OperandAt, Room, framesOf, operandOf, table};
-
-pub enum Form {
-    Eq,
-    Ne,
-    Gt,
-    Gte,
-    Lt,
-    Lte,
-    In,
-    Contains,
-    StartsWith,
-    EndsWith,
-}
 
 // How two texts are compared.
 pub enum Where {

@@ -6,7 +6,7 @@ use Rattle.evaluation.proofs.comparison.pair_at.Tie as tie
 use mathlib.Core.Path.{_∙_}
 use Rattle.operands.specs.Rooted.{sheetIn}
 use Rattle.operands.specs.Stored.{framesOf, table, tree}
-use Rattle.operands.specs.Matched.{formOf}
+use Rattle.sheet.specs.Answers.{formOf}
 use Rattle.evaluation.proofs.Judging.{both-missing, both-present, is-present, left-missing, left-then-no-id, left-then-unknown, no-id-first, pair-refused, right-missing, right-no-id, right-unknown, unknown-first}
 use Rattle.operands.proofs.Marking.{ready-after, working-after}
 

@@ -1,4 +1,4 @@
--- `evaluation::children::above` meets its contract: the better of the best so far and the least of the names left is the least of all.
+-- `operands::children::above` meets its contract: the better of the best so far and the least of the names left is the least of all.
 -- Assumes nothing.
 use Rattle.operands.proofs.children.above.Statement.{statement}
 use Rattle.operands.proofs.children.above.Tie as tie

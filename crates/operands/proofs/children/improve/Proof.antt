@@ -1,4 +1,4 @@
--- `evaluation::children::improve` meets its contract: by whether the name comes after the last one.
+-- `operands::children::improve` meets its contract: by whether the name comes after the last one.
 -- Assumes nothing.
 use borrow.Author.Needs.{needs}
 use Rattle.operands.proofs.children.improve.Statement.{statement}

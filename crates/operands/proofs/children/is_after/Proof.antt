@@ -1,4 +1,4 @@
--- `evaluation::children::is_after` meets its contract: from the order of the two names.
+-- `operands::children::is_after` meets its contract: from the order of the two names.
 -- Assumes nothing.
 use borrow.Author.Needs.{needs}
 use Rattle.operands.proofs.children.is_after.Statement.{statement}

@@ -1,4 +1,4 @@
--- `evaluation::children::lesser` meets its contract: from the order of the two names.
+-- `operands::children::lesser` meets its contract: from the order of the two names.
 -- Assumes nothing.
 use borrow.Author.Needs.{needs}
 use Rattle.operands.proofs.children.lesser.Statement.{statement}

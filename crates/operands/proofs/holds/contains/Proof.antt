@@ -1,4 +1,4 @@
--- `evaluation::holds::contains` meets its contract: by the class of the first.
+-- `operands::holds::contains` meets its contract: by the class of the first.
 -- Assumes nothing.
 use borrow.Author.Needs.{needs}
 use Rattle.operands.proofs.holds.contains.Statement.{statement}

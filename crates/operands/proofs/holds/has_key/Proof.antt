@@ -1,4 +1,4 @@
--- `evaluation::holds::has_key` meets its contract: the key is looked for among the names left.
+-- `operands::holds::has_key` meets its contract: the key is looked for among the names left.
 -- Assumes nothing.
 use Rattle.operands.proofs.holds.has_key.Statement.{statement}
 use Rattle.operands.proofs.holds.has_key.Tie as tie

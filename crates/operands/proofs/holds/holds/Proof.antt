@@ -1,9 +1,10 @@
--- `evaluation::holds::holds` meets its contract: form by form.
+-- `operands::holds::holds` meets its contract: form by form.
 -- Assumes nothing.
 use borrow.Author.Needs.{needs}
 use Rattle.operands.proofs.holds.holds.Statement.{statement}
 use Rattle.operands.proofs.holds.holds.Tie as tie
 use mathlib.Core.Path.{ap, sym, _∙_}
+use Rattle.sheet.specs.Answers.{formOf}
 use Rattle.operands.specs.Comparing.{nesting}
 use Rattle.operands.specs.Rooted.{sheetIn}
 use Rattle.operands.specs.Stored.{framesOf, table}
@@ -78,33 +79,43 @@ two-texts-requires-2 : tie.Need-two-texts-requires-2
 two-texts-requires-2 c κs = (record { rows = c .before .before .before .before .pre .0 .rows; node = omega arith }, c .before .before .before .before .pre .1, c .before .before .before .before .pre .2)
 
 returns : tie.Need-returns
+unfolding formOf
 returns c = rw (c .before .before .enum-told .given .1) (form-eq (sheetIn (c .before .before .before .before .before .before .args .s .now)) (c .before .before .before .before .before .before .args .s .now) (table (c .before .before .before .before .before .before .args .work .now)) (framesOf (c .before .before .before .before .before .before .args .s .now) (table (c .before .before .before .before .before .before .args .work .now)) (c .before .before .before .before .before .before .args .frames)) (c .before .before .before .before .before .before .args .a) (c .before .before .before .before .before .before .args .b) (rw (c .before .nesting .ensures ∙ ap nesting (sym (frames-length (c .before .before .before .before .before .before .pre .0)))) at (c .equal-at .ensures)))
 
 returns-2 : tie.Need-returns-2
+unfolding formOf
 returns-2 c = rw (c .before .before .enum-told2 .given .1) (form-ne (sheetIn (c .before .before .before .before .before .before .args .s .now)) (c .before .before .before .before .before .before .args .s .now) (table (c .before .before .before .before .before .before .args .work .now)) (framesOf (c .before .before .before .before .before .before .args .s .now) (table (c .before .before .before .before .before .before .args .work .now)) (c .before .before .before .before .before .before .args .frames)) (c .before .before .before .before .before .before .args .a) (c .before .before .before .before .before .before .args .b) (rw (c .before .nesting2 .ensures ∙ ap nesting (sym (frames-length (c .before .before .before .before .before .before .pre .0)))) at (c .equal-at2 .ensures)))
 
 returns-3 : tie.Need-returns-3
+unfolding formOf
 returns-3 c = rw (c .before .enum-told3 .given .1) (form-gt (sheetIn (c .before .before .before .before .before .args .s .now)) (c .before .before .before .before .before .args .s .now) (table (c .before .before .before .before .before .args .work .now)) (framesOf (c .before .before .before .before .before .args .s .now) (table (c .before .before .before .before .before .args .work .now)) (c .before .before .before .before .before .args .frames)) (c .before .before .before .before .before .args .a) (c .before .before .before .before .before .args .b) (c .two-numbers .ensures))
 
 returns-4 : tie.Need-returns-4
+unfolding formOf
 returns-4 c = rw (c .before .enum-told4 .given .1) (form-gte (sheetIn (c .before .before .before .before .before .args .s .now)) (c .before .before .before .before .before .args .s .now) (table (c .before .before .before .before .before .args .work .now)) (framesOf (c .before .before .before .before .before .args .s .now) (table (c .before .before .before .before .before .args .work .now)) (c .before .before .before .before .before .args .frames)) (c .before .before .before .before .before .args .a) (c .before .before .before .before .before .args .b) (c .two-numbers2 .ensures))
 
 returns-5 : tie.Need-returns-5
+unfolding formOf
 returns-5 c = rw (c .before .enum-told5 .given .1) (form-lt (sheetIn (c .before .before .before .before .before .args .s .now)) (c .before .before .before .before .before .args .s .now) (table (c .before .before .before .before .before .args .work .now)) (framesOf (c .before .before .before .before .before .args .s .now) (table (c .before .before .before .before .before .args .work .now)) (c .before .before .before .before .before .args .frames)) (c .before .before .before .before .before .args .a) (c .before .before .before .before .before .args .b) (c .two-numbers3 .ensures))
 
 returns-6 : tie.Need-returns-6
+unfolding formOf
 returns-6 c = rw (c .before .enum-told6 .given .1) (form-lte (sheetIn (c .before .before .before .before .before .args .s .now)) (c .before .before .before .before .before .args .s .now) (table (c .before .before .before .before .before .args .work .now)) (framesOf (c .before .before .before .before .before .args .s .now) (table (c .before .before .before .before .before .args .work .now)) (c .before .before .before .before .before .args .frames)) (c .before .before .before .before .before .args .a) (c .before .before .before .before .before .args .b) (c .two-numbers4 .ensures))
 
 returns-7 : tie.Need-returns-7
+unfolding formOf
 returns-7 c = rw (c .before .enum-told7 .given .1) (c .is-in .ensures)
 
 returns-8 : tie.Need-returns-8
+unfolding formOf
 returns-8 c = rw (c .before .enum-told8 .given .1) (c .contains .ensures)
 
 returns-9 : tie.Need-returns-9
+unfolding formOf
 returns-9 c = rw (c .before .enum-told9 .given .1) (form-starts (sheetIn (c .before .before .before .before .before .args .s .now)) (c .before .before .before .before .before .args .s .now) (table (c .before .before .before .before .before .args .work .now)) (framesOf (c .before .before .before .before .before .args .s .now) (table (c .before .before .before .before .before .args .work .now)) (c .before .before .before .before .before .args .frames)) (c .before .before .before .before .before .args .a) (c .before .before .before .before .before .args .b) (c .two-texts .ensures))
 
 returns-10 : tie.Need-returns-10
+unfolding formOf
 returns-10 c = rw (c .before .enum-told10 .given .1) (form-ends (sheetIn (c .before .before .before .before .before .args .s .now)) (c .before .before .before .before .before .args .s .now) (table (c .before .before .before .before .before .args .work .now)) (framesOf (c .before .before .before .before .before .args .s .now) (table (c .before .before .before .before .before .args .work .now)) (c .before .before .before .before .before .args .frames)) (c .before .before .before .before .before .args .a) (c .before .before .before .before .before .args .b) (c .two-texts2 .ensures))
 
 pub holds-spec : {M : Type 1} → statement M

@@ -1,4 +1,4 @@
--- `evaluation::holds::is_element` meets its contract: an equal one is looked for among the elements left.
+-- `operands::holds::is_element` meets its contract: an equal one is looked for among the elements left.
 -- Assumes nothing.
 use Rattle.operands.proofs.holds.is_element.Statement.{statement}
 use Rattle.operands.proofs.holds.is_element.Tie as tie

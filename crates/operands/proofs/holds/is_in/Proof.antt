@@ -1,4 +1,4 @@
--- `evaluation::holds::is_in` meets its contract: by the class of the second.
+-- `operands::holds::is_in` meets its contract: by the class of the second.
 -- Assumes nothing.
 use borrow.Author.Needs.{needs}
 use Rattle.operands.proofs.holds.is_in.Statement.{statement}

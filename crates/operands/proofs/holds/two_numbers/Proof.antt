@@ -1,4 +1,4 @@
--- `evaluation::holds::two_numbers` meets its contract: by the classes, then by the order.
+-- `operands::holds::two_numbers` meets its contract: by the classes, then by the order.
 -- Assumes nothing.
 use borrow.Author.Needs.{needs}
 use Rattle.operands.proofs.holds.two_numbers.Statement.{statement}

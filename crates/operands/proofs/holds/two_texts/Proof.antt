@@ -1,4 +1,4 @@
--- `evaluation::holds::two_texts` meets its contract: by the classes, then by where the part is looked for.
+-- `operands::holds::two_texts` meets its contract: by the classes, then by where the part is looked for.
 -- Assumes nothing.
 use borrow.Author.Needs.{needs}
 use Rattle.operands.proofs.holds.two_texts.Statement.{statement}

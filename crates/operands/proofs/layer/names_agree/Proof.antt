@@ -1,4 +1,4 @@
--- `evaluation::layer::names_agree` meets its contract: by whether the children are names.
+-- `operands::layer::names_agree` meets its contract: by whether the children are names.
 -- Assumes nothing.
 use Rattle.operands.proofs.layer.names_agree.Statement.{statement}
 use Rattle.operands.proofs.layer.names_agree.Tie as tie

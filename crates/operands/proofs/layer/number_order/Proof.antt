@@ -1,4 +1,4 @@
--- `evaluation::layer::number_order` meets its contract: a number of the sheet is short enough to be compared.
+-- `operands::layer::number_order` meets its contract: a number of the sheet is short enough to be compared.
 -- Assumes nothing.
 use borrow.Author.Needs.{needs}
 use Rattle.operands.proofs.layer.number_order.Statement.{statement}

@@ -1,4 +1,4 @@
--- `evaluation::layer::part_of` meets its contract: by the kind of the whole.
+-- `operands::layer::part_of` meets its contract: by the kind of the whole.
 -- Assumes nothing.
 use borrow.Author.Needs.{needs}
 use Rattle.operands.proofs.layer.part_of.Statement.{statement}

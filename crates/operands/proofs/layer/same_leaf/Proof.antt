@@ -1,4 +1,4 @@
--- `evaluation::layer::same_leaf` meets its contract: by the class.
+-- `operands::layer::same_leaf` meets its contract: by the class.
 -- Assumes nothing.
 use borrow.Author.Needs.{needs}
 use Rattle.operands.proofs.layer.same_leaf.Statement.{statement}

@@ -1,4 +1,4 @@
--- `evaluation::layer::text_place` meets its contract: less its first unit, or whole.
+-- `operands::layer::text_place` meets its contract: less its first unit, or whole.
 -- Assumes nothing.
 use borrow.Author.Needs.{needs}
 use Rattle.operands.proofs.layer.text_place.Statement.{statement}

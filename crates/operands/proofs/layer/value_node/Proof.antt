@@ -1,4 +1,4 @@
--- `evaluation::layer::value_node` meets its contract: by whether the child is a name.
+-- `operands::layer::value_node` meets its contract: by whether the child is a name.
 -- Assumes nothing.
 use borrow.Author.Needs.{needs}
 use Rattle.operands.proofs.layer.value_node.Statement.{statement}

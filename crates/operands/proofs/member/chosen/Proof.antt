@@ -1,4 +1,4 @@
--- `evaluation::member::chosen` meets its contract: by whether the name is the part.
+-- `operands::member::chosen` meets its contract: by whether the name is the part.
 -- Assumes nothing.
 use borrow.Author.Needs.{needs}
 use Rattle.operands.proofs.member.chosen.Statement.{statement}

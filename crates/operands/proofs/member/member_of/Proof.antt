@@ -1,4 +1,4 @@
--- `evaluation::member::member_of` meets its contract: what is found further on, or else what was found before, is the member.
+-- `operands::member::member_of` meets its contract: what is found further on, or else what was found before, is the member.
 -- Assumes nothing.
 use Rattle.operands.proofs.member.member_of.Statement.{statement}
 use Rattle.operands.proofs.member.member_of.Tie as tie

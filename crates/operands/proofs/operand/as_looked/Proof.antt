@@ -1,4 +1,4 @@
--- `evaluation::operand::as_looked` meets its contract: by what was found.
+-- `operands::operand::as_looked` meets its contract: by what was found.
 -- Assumes nothing.
 use borrow.Author.Needs.{needs}
 use Rattle.operands.proofs.operand.as_looked.Statement.{statement}

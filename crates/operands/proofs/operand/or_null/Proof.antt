@@ -1,4 +1,4 @@
--- `evaluation::operand::or_null` meets its contract: by what was found.
+-- `operands::operand::or_null` meets its contract: by what was found.
 -- Assumes nothing.
 use borrow.Author.Needs.{needs}
 use Rattle.operands.proofs.operand.or_null.Statement.{statement}

@@ -1,4 +1,4 @@
--- `evaluation::operand::value_at` meets its contract: the row's kind says how its value is read.
+-- `operands::operand::value_at` meets its contract: the row's kind says how its value is read.
 -- Assumes nothing.
 use borrow.Author.Needs.{needs}
 use Rattle.operands.proofs.operand.value_at.Statement.{statement}

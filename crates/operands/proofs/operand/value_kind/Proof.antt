@@ -1,4 +1,4 @@
--- `evaluation::operand::value_kind` meets its contract: by the code.
+-- `operands::operand::value_kind` meets its contract: by the code.
 -- Assumes nothing.
 use Rattle.operands.proofs.operand.value_kind.Statement.{statement}
 use Rattle.operands.proofs.operand.value_kind.Tie as tie

@@ -1,4 +1,4 @@
--- `evaluation::operand::written_kind` meets its contract: by the code.
+-- `operands::operand::written_kind` meets its contract: by the code.
 -- Assumes nothing.
 use borrow.Author.Needs.{needs}
 use Rattle.operands.proofs.operand.written_kind.Statement.{statement}

@@ -1,4 +1,4 @@
--- `evaluation::path::ended` meets its contract: by what the cursor gives.
+-- `operands::path::ended` meets its contract: by what the cursor gives.
 -- Assumes nothing.
 use borrow.Author.Needs.{needs}
 use Rattle.operands.proofs.path.ended.Statement.{statement}

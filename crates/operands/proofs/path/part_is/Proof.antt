@@ -1,4 +1,4 @@
--- `evaluation::path::part_is` meets its contract: the rest of the part and the rest of the text compare as the whole.
+-- `operands::path::part_is` meets its contract: the rest of the part and the rest of the text compare as the whole.
 -- Assumes nothing.
 use Rattle.operands.proofs.path.part_is.Statement.{statement}
 use Rattle.operands.proofs.path.part_is.Tie as tie

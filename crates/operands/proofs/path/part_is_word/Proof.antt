@@ -1,4 +1,4 @@
--- `evaluation::path::part_is_word` meets its contract: the rest of the part and the rest of the word compare as the whole.
+-- `operands::path::part_is_word` meets its contract: the rest of the part and the rest of the word compare as the whole.
 -- Assumes nothing.
 use Rattle.operands.proofs.path.part_is_word.Statement.{statement}
 use Rattle.operands.proofs.path.part_is_word.Tie as tie

@@ -1,4 +1,4 @@
--- `evaluation::path::rest_at` meets its contract: no dot stands before the place, so the text from it on goes on as the whole does.
+-- `operands::path::rest_at` meets its contract: no dot stands before the place, so the text from it on goes on as the whole does.
 -- Assumes nothing.
 use Rattle.operands.proofs.path.rest_at.Statement.{statement}
 use Rattle.operands.proofs.path.rest_at.Tie as tie

@@ -1,4 +1,4 @@
--- `evaluation::resolve::gathered` meets its contract: by what was seen.
+-- `operands::resolve::gathered` meets its contract: by what was seen.
 -- Assumes nothing.
 use Rattle.operands.proofs.resolve.gathered.Statement.{statement}
 use Rattle.operands.proofs.resolve.gathered.Tie as tie

@@ -1,4 +1,4 @@
--- `evaluation::resolve::miss` meets its contract: quietly nothing is marked.
+-- `operands::resolve::miss` meets its contract: quietly nothing is marked.
 -- Assumes nothing.
 use borrow.Author.Needs.{needs}
 use Rattle.operands.proofs.resolve.miss.Statement.{statement}

@@ -1,4 +1,4 @@
--- `evaluation::resolve::observed` meets its contract: by whether it is null.
+-- `operands::resolve::observed` meets its contract: by whether it is null.
 -- Assumes nothing.
 use borrow.Author.Needs.{needs}
 use Rattle.operands.proofs.resolve.observed.Statement.{statement}

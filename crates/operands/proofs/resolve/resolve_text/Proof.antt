@@ -1,4 +1,4 @@
--- `evaluation::resolve::resolve_text` meets its contract: by what the text is written as, and what its expression gives.
+-- `operands::resolve::resolve_text` meets its contract: by what the text is written as, and what its expression gives.
 -- Assumes nothing.
 use borrow.Author.Needs.{needs}
 use Rattle.operands.proofs.resolve.resolve_text.Statement.{statement}

@@ -1,4 +1,4 @@
--- `evaluation::resolve::seen` meets its contract: by the answer.
+-- `operands::resolve::seen` meets its contract: by the answer.
 -- Assumes nothing.
 use borrow.Author.Needs.{needs}
 use Rattle.operands.proofs.resolve.seen.Statement.{statement}

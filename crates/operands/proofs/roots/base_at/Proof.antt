@@ -1,4 +1,4 @@
--- `evaluation::roots::base_at` meets its contract: by the root.
+-- `operands::roots::base_at` meets its contract: by the root.
 -- Assumes nothing.
 use borrow.Author.Needs.{needs}
 use Rattle.operands.proofs.roots.base_at.Statement.{statement}

@@ -1,4 +1,4 @@
--- `evaluation::roots::root_at` meets its contract: by the root.
+-- `operands::roots::root_at` meets its contract: by the root.
 -- Assumes nothing.
 use borrow.Author.Needs.{needs}
 use Rattle.operands.proofs.roots.root_at.Statement.{statement}

@@ -1,4 +1,4 @@
--- `evaluation::roots::root_named` meets its contract: the first word that is the path's first part.
+-- `operands::roots::root_named` meets its contract: the first word that is the path's first part.
 -- Assumes nothing.
 use borrow.Author.Needs.{needs}
 use Rattle.operands.proofs.roots.root_named.Statement.{statement}

@@ -1,4 +1,4 @@
--- `evaluation::rows::after_at` meets its contract: the word is one of the rows.
+-- `operands::rows::after_at` meets its contract: the word is one of the rows.
 -- Assumes nothing.
 use borrow.Author.Needs.{needs}
 use Rattle.operands.proofs.rows.after_at.Statement.{statement}

@@ -1,4 +1,4 @@
--- `evaluation::rows::end_at` meets its contract: the word is one of the rows.
+-- `operands::rows::end_at` meets its contract: the word is one of the rows.
 -- Assumes nothing.
 use borrow.Author.Needs.{needs}
 use Rattle.operands.proofs.rows.end_at.Statement.{statement}

@@ -1,4 +1,4 @@
--- `evaluation::rows::start_at` meets its contract: the word is one of the rows.
+-- `operands::rows::start_at` meets its contract: the word is one of the rows.
 -- Assumes nothing.
 use borrow.Author.Needs.{needs}
 use Rattle.operands.proofs.rows.start_at.Statement.{statement}

@@ -1,4 +1,4 @@
--- `evaluation::search::compare` meets its contract: by the next byte of both.
+-- `operands::search::compare` meets its contract: by the next byte of both.
 -- Assumes nothing.
 use borrow.Author.Needs.{needs}
 use Rattle.operands.proofs.search.compare.Statement.{statement}

@@ -1,4 +1,4 @@
--- `evaluation::search::ends_with` meets its contract: from each start on the part is compared with the rest of the text.
+-- `operands::search::ends_with` meets its contract: from each start on the part is compared with the rest of the text.
 -- Assumes nothing.
 use Rattle.operands.proofs.search.ends_with.Statement.{statement}
 use Rattle.operands.proofs.search.ends_with.Tie as tie

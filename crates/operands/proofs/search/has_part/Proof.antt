@@ -1,4 +1,4 @@
--- `evaluation::search::has_part` meets its contract: from each start on the part is looked for in the rest of the text.
+-- `operands::search::has_part` meets its contract: from each start on the part is looked for in the rest of the text.
 -- Assumes nothing.
 use Rattle.operands.proofs.search.has_part.Statement.{statement}
 use Rattle.operands.proofs.search.has_part.Tie as tie

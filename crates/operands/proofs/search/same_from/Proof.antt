@@ -1,4 +1,4 @@
--- `evaluation::search::same_from` meets its contract: what is left of both compares as the whole.
+-- `operands::search::same_from` meets its contract: what is left of both compares as the whole.
 -- Assumes nothing.
 use Rattle.operands.proofs.search.same_from.Statement.{statement}
 use Rattle.operands.proofs.search.same_from.Tie as tie

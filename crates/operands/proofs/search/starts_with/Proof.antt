@@ -1,4 +1,4 @@
--- `evaluation::search::starts_with` meets its contract: what is left of the part and of the text answers as the whole.
+-- `operands::search::starts_with` meets its contract: what is left of the part and of the text answers as the whole.
 -- Assumes nothing.
 use Rattle.operands.proofs.search.starts_with.Statement.{statement}
 use Rattle.operands.proofs.search.starts_with.Tie as tie

@@ -1,4 +1,4 @@
--- `evaluation::written::classify` meets its contract: by the first two units of the text.
+-- `operands::written::classify` meets its contract: by the first two units of the text.
 -- Assumes nothing.
 use borrow.Author.Needs.{needs}
 use Rattle.operands.proofs.written.classify.Statement.{statement}

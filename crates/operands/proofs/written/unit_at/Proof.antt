@@ -1,4 +1,4 @@
--- `evaluation::written::unit_at` meets its contract: by the byte at the place, a law for each.
+-- `operands::written::unit_at` meets its contract: by the byte at the place, a law for each.
 -- Assumes nothing.
 use borrow.Author.Needs.{needs}
 use Rattle.operands.proofs.written.unit_at.Statement.{statement}

@@ -1,4 +1,4 @@
--- `evaluation::children::Children::next` meets its contract: by whether the walk goes over names.
+-- `operands::children::Children::next` meets its contract: by whether the walk goes over names.
 -- Assumes nothing.
 use Rattle.operands.proofs.children.Children.next.Statement.{statement}
 use Rattle.operands.proofs.children.Children.next.Tie as tie

@@ -1,4 +1,4 @@
--- `evaluation::children::Children::of` starts a walk: by whether it goes over names.
+-- `operands::children::Children::of` starts a walk: by whether it goes over names.
 -- Assumes nothing.
 use borrow.Author.Needs.{needs}
 use Rattle.operands.proofs.children.Children.of.Statement.{statement}

@@ -1,4 +1,4 @@
--- `evaluation::frames::Frames::find` meets its contract: what is found among the frames left is the answer.
+-- `operands::frames::Frames::find` meets its contract: what is found among the frames left is the answer.
 -- Assumes nothing.
 use Rattle.operands.proofs.frames.Frames.find.Statement.{statement}
 use Rattle.operands.proofs.frames.Frames.find.Tie as tie

@@ -1,4 +1,4 @@
--- `evaluation::frames::Frames::outer` keeps the first slots.
+-- `operands::frames::Frames::outer` keeps the first slots.
 -- Assumes nothing.
 use Rattle.operands.proofs.frames.Frames.outer.Statement.{statement}
 use Rattle.operands.proofs.frames.Frames.outer.Tie as tie

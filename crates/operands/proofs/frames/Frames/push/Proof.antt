@@ -1,4 +1,4 @@
--- `evaluation::frames::Frames::push` puts a frame in front.
+-- `operands::frames::Frames::push` puts a frame in front.
 -- Assumes nothing.
 use borrow.Author.Needs.{needs}
 use Rattle.operands.proofs.frames.Frames.push.Statement.{statement}
