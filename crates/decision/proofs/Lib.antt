@@ -15,3 +15,4 @@ pub mod Clearing
 pub mod Opening
 pub mod Calls
 pub mod Entries
+pub mod AlikeRules

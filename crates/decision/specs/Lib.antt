@@ -10,3 +10,4 @@ pub mod Selection
 pub mod Demand
 pub mod Opening
 pub mod Called
+pub mod AlikeRules
