@@ -135,6 +135,7 @@ module _ {s : Bytes} {w : List ℕ} (t : Stored s w) (k : ℕ) (p : k ≡ kindAt
           accepted-by sheet y =
               record {
                 reads = read-object ∙ checked-ok (membersAt s w 1 e) (sym i ∙ f) sheet g (y .whole);
+                stored = t;
                 id = may-give aText (membersAt s w 1 e) tidy-members (ascii "id") (m .id) (n .id) (sheet .id) (y .id);
                 entity = gives aText (membersAt s w 1 e) tidy-members (ascii "entity") (m .entity) (n .entity) (sheet .entity) (y .entity);
                 version = gives aVersion (membersAt s w 1 e) tidy-members (ascii "version") (m .version) (n .version) (sheet .version) (y .version);

@@ -72,6 +72,7 @@ membersOf m =
 -- the sheet that is read, and the node that gives each of its members
 pub record Accepted (s : Bytes) (w : List ℕ) (m : Members) (sheet : Sheet Condition) : Type 0 where
   pub reads : readSheet s ≡ ok sheet
+  pub stored : Stored s w
   pub id : MayGive aText s w (m .id) (sheet .id)
   pub entity : Gives aText s w (m .entity) (sheet .entity)
   pub version : Gives aVersion s w (m .version) (sheet .version)
