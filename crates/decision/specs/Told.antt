@@ -3,10 +3,12 @@
 use mathlib.Core.List.{List}
 use mathlib.Core.Path.{_≡_}
 use Prim.Native.Nat.{ℕ}
+use lib.ListN.{drop, length}
 use Rattle.line.specs.Meaning.{Held, meaning}
 use Rattle.line.specs.Verdict.{Verdict}
 use Rattle.line.specs.declared.answer.Answer.{Answer}
 use Rattle.line.specs.declared.answer.Outcome.{Outcome as Entry}
+use Rattle.operands.specs.Stored.{table}
 use Rattle.reader.specs.Bytes.{Bytes}
 use Rattle.reader.specs.Cursor.{OnText}
 use Rattle.reader.specs.Refusal.{Result, _>>=_, ok}
@@ -28,3 +30,10 @@ pub record Entered (s : Bytes) (place : ℕ) (name : Bytes) (r : Entry) : Type 0
 pub record Told (s : Bytes) (w : List ℕ) (whole : Result Verdict) (r : Answer) : Type 0 where
   pub means : meaning s w r ≡ whole
   pub held : Held s w r
+
+-- an answer told over the table that it leaves: the rows stay, and so do the words behind the marks
+pub record Answered (s : Bytes) (w w′ : List ℕ) (whole : Result Verdict) (r : Answer) : Type 0 where
+  pub told : Told s w′ whole r
+  pub rows : table w′ ≡ table w
+  pub long : length w′ ≡ length w
+  pub further : drop 16384 w′ ≡ drop 16384 w
