@@ -80,7 +80,7 @@ module _ (quiet : Bool) (sheet : Sheet Condition) (fs : lazy.Frames) (s : Bytes)
 
     pub text-nothing : {w′ : List ℕ} {x : code.Resolved} → 16384 ≤ length w → n < 4096 → r ≡ lookeds.Nothing → x ≡ answers.Missing → w′ ≡ missed quiet w n → ResolvedAs quiet s w w′ x (operand sheet fs (tree s (table w) n))
     unfolding lookedOf observe
-    text-nothing long small z y p = rw (looked, z, y, p) (record { names = (36 ∷ e) ∷ []; met = heard quiet ((36 ∷ e) ∷ []); means = refl; left = left-missed s w n long small quiet (36 ∷ e) dollar; hears = refl })
+    text-nothing long small z y p = rw (looked, z, y, p) (record { names = (36 ∷ e) ∷ []; met = heard quiet ((36 ∷ e) ∷ []); means = refl; left = left-missed s w n long small row quiet (36 ∷ e) dollar; hears = refl })
 
     pub text-unknown : r ≡ lookeds.Unknown → ResolvedAs quiet s w w (answers.Unknown n) (operand sheet fs (tree s (table w) n))
     unfolding lookedOf
@@ -92,7 +92,7 @@ module _ (quiet : Bool) (sheet : Sheet Condition) (fs : lazy.Frames) (s : Bytes)
 
     pub text-found : {w′ : List ℕ} {x : code.Resolved} (o : Operand) → 16384 ≤ length w → n < 4096 → r ≡ lookeds.At o → Observed quiet w w′ o n x → ResolvedAs quiet s w w′ x (operand sheet fs (tree s (table w) n))
     unfolding lookedOf observe LookedFits meant
-    text-found {w′} {x} o long small z (inl (k, y, p)) = rw (looked, z, y, p, k) (record { names = (36 ∷ e) ∷ []; met = heard quiet ((36 ∷ e) ∷ []); means = refl; left = left-missed s w n long small quiet (36 ∷ e) dollar; hears = refl })
+    text-found {w′} {x} o long small z (inl (k, y, p)) = rw (looked, z, y, p, k) (record { names = (36 ∷ e) ∷ []; met = heard quiet ((36 ∷ e) ∷ []); means = refl; left = left-missed s w n long small row quiet (36 ∷ e) dollar; hears = refl })
     text-found {w′} {x} o long small z (inr (k, y, p)) = rw (looked, z, y, p) (present-as quiet (subst (LookedFits s (table w)) z (l .fits)) (seen (o .kind) k))
       where
         seen : (c : Kind) → (c ≡ kinds.Null → ⊥) → ok (present (meant s (table w) (o .node) (o .depth) c)) ≡ ok (observe e (some (meant s (table w) (o .node) (o .depth) c)))

@@ -17,12 +17,12 @@ use Rattle.operands.specs.Marks.{Left, Marked, Working, heard, missed}
 use Rattle.semantics.specs.Names.{Named, Names}
 use Rattle.operands.specs.Ready.{Ready}
 use Rattle.operands.specs.Rooted.{Rooted, sheetIn}
-use Rattle.operands.specs.Stored.{FramesAt, table}
+use Rattle.operands.specs.Stored.{FramesAt, HasKind, table}
 use Rattle.operands.specs.declared.frames.Frames.{Frames}
 use Rattle.operands.specs.declared.roots.Roots.{Roots}
 
 pub left-none : (s : Bytes) (w : List ℕ) → Left s w w []
-left-none s w = record { rows = refl; long = refl; further = refl; only = λ x m. inl m; still = λ x m. m; added = λ x n. absurd (List·Memᴰ·not-nil n) }
+left-none s w = record { rows = refl; long = refl; further = refl; only = λ x m. inl m; still = λ x m. m; added = λ x n. absurd (List·Memᴰ·not-nil n); texts = λ k h m. inl m }
 
 pub left-then : {s : Bytes} {w w′ w″ : List ℕ} {ns ms : Names} → Left s w w′ ns → Left s w′ w″ ms → Left s w w″ (ns ++ ms)
 left-then {s} {w} {w′} {w″} {ns} {ms} a b = record {
@@ -32,6 +32,7 @@ left-then {s} {w} {w′} {w″} {ns} {ms} a b = record {
   only = λ x m. go x (b .only x m);
   still = λ x m. b .still x (a .still x m);
   added = λ x n. pick x (List·Memᴰ·append-cases ns n);
+  texts = λ k h m. text k h (b .texts k h m);
 }
   where
     earlier : (x : Bytes) → Marked s w x ⊎ Named x ns → Marked s w x ⊎ Named x (ns ++ ms)
@@ -46,8 +47,12 @@ left-then {s} {w} {w′} {w″} {ns} {ms} a b = record {
     pick x (inl n) = b .still x (a .added x n)
     pick x (inr n) = b .added x n
 
+    text : (k : ℕ) → k < 4096 → (getD w′ (12288 + k) 0 ≡ 1) ⊎ HasKind s (table w′) k 4 → (getD w (12288 + k) 0 ≡ 1) ⊎ HasKind s (table w) k 4
+    text k h (inl m) = a .texts k h m
+    text k h (inr i) = inr (subst (λ (t : List ℕ). HasKind s t k 4) (a .rows) i)
+
 -- one mark
-module _ (s : Bytes) (w : List ℕ) (n : ℕ) (long : 16384 ≤ length w) (small : n < 4096) where
+module _ (s : Bytes) (w : List ℕ) (n : ℕ) (long : 16384 ≤ length w) (small : n < 4096) (row : HasKind s (table w) n 4) where
   abbrev w′ : List ℕ
   w′ = set w (12288 + n) 1
 
@@ -68,8 +73,13 @@ module _ (s : Bytes) (w : List ℕ) (n : ℕ) (long : 16384 ≤ length w) (small
     only = λ y m. only y m (eqb (m .node) n) refl;
     still = λ y m. still y m (eqb (m .node) n) refl;
     added = λ y k. record { node = n; small = small; mark = here; text = ap (λ (t : List ℕ). textAt s (startAt t n)) same-rows ∙ e ∙ sym (List·Memᴰ·eq-of-singleton k) };
+    texts = λ k h m. text k m (eqb k n) refl;
   }
     where
+      text : (k : ℕ) → getD w′ (12288 + k) 0 ≡ 1 → (b : Bool) → eqb k n ≡ b → (getD w (12288 + k) 0 ≡ 1) ⊎ HasKind s (table w) k 4
+      text k m true q = inr (subst (λ (i : ℕ). HasKind s (table w) i 4) (sym (eqb-true k n q)) row)
+      text k m false q = inl (sym (there k (eqb-false k n q)) ∙ m)
+
       moved : (y : Bytes) (m : ℕ) → textAt s (startAt (table w′) m) ≡ y → textAt s (startAt (table w) m) ≡ y
       moved y m q = ap (λ (t : List ℕ). textAt s (startAt t m)) (sym same-rows) ∙ q
 

@@ -43,7 +43,7 @@ pub record Marked (s : Bytes) (w : List ℕ) (x : Bytes) : Type 0 where
   pub mark : getD w (marks + node) 0 ≡ 1
   pub text : textAt s (startAt (table w) node) ≡ x
 
--- the rows stay, and words further on; marked is what was marked, and these names
+-- the rows stay, and words further on; marked is what was marked, and these names; a node newly marked is a text's
 pub record Left (s : Bytes) (w w′ : List ℕ) (ns : Names) : Type 0 where
   pub rows : table w′ ≡ table w
   pub long : length w′ ≡ length w
@@ -51,6 +51,7 @@ pub record Left (s : Bytes) (w w′ : List ℕ) (ns : Names) : Type 0 where
   pub only : (x : Bytes) → Marked s w′ x → Marked s w x ⊎ Named x ns
   pub still : (x : Bytes) → Marked s w x → Marked s w′ x
   pub added : (x : Bytes) → Named x ns → Marked s w′ x
+  pub texts : (n : ℕ) → n < 4096 → getD w′ (marks + n) 0 ≡ 1 → (getD w (marks + n) 0 ≡ 1) ⊎ HasKind s (table w) n 4
 
 -- quietly nothing is marked
 abbrev pub missed : Bool → List ℕ → ℕ → List ℕ
