@@ -2,3 +2,4 @@ pub mod Judge
 pub mod Limits
 pub mod Samples
 pub mod Judging
+pub mod After

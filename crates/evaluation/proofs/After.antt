@@ -1,0 +1,145 @@
+-- Marking leaves what the rows give: a node, nodes one after the other, the sheet's members; and the names that are marked.
+-- Assumes nothing.
+use mathlib.Core.Bool.{Bool, false, true}
+use mathlib.Core.List.{List, List·Memᴰ·cases-cons, List·Memᴰ·head, List·Memᴰ·not-nil, List·Memᴰ·tail, _++_}
+use mathlib.Core.Logic.{⊎-elim}
+use mathlib.Core.Option.{Option}
+use mathlib.Core.Path.{ap, refl, sym, _∙_, _≡_}
+use Prim.Native.Nat.{suc, zero, ℕ, _*_, _+_, _/_, _<_, _≤_}
+use native.Mathlib.Omega.{arith}
+use lib.Dec.{eqb}
+use lib.ListN.{drop, getD, length, take, take-append-drop}
+use lib.Seq.{drop-append-seam, take-add, take-append-seam, take-take}
+use borrow.Author.Tests.{eqb-false, eqb-true}
+use Rattle.reader.proofs.Decoded.{length-rows, length-rowsIn}
+use Rattle.reader.proofs.Walk.{value-is, values-are}
+use Rattle.reader.specs.Bytes.{Bytes}
+use Rattle.reader.specs.Held.{AreNodes, Begins, IsNode, NodeAt, NodesAt}
+use Rattle.reader.specs.Json.{Value, Values, elements}
+use Rattle.reader.specs.Limits.{maxNumber, tidy, tidyIn}
+use Rattle.reader.specs.Marks.{isMarked, marked, markedFrom}
+use Rattle.reader.specs.Refusal.{Result, ok}
+use Rattle.reader.specs.Sorted.{sorted, sortedIn}
+use Rattle.reader.specs.Spans.{textAt}
+use Rattle.reader.specs.Table.{rows, rowsIn, startAt, valueAt, valuesAt}
+use Rattle.reader.specs.declared.rows.Found.{Found}
+use Rattle.reader.specs.declared.rows.Found.the-variants as founds
+use Rattle.sheet.proofs.GivenConditions.{ConditionsGive}
+use Rattle.sheet.specs.Accepted.{Accepted, EachGives, Gives, MayGive, Stored}
+use Rattle.sheet.specs.Condition.{Condition, Conditions, condition, conditionsIn}
+use Rattle.sheet.specs.Kinds.{aText, eachOf}
+use Rattle.sheet.specs.Sheet.{Sheet}
+use Rattle.sheet.specs.declared.shape.Members.{Members}
+use Rattle.semantics.proofs.Names.{ascending-set}
+use Rattle.semantics.specs.Names.{Named, Names, ascending}
+use Rattle.operands.proofs.Words.{row-word}
+use Rattle.operands.specs.Marks.{Left, Marked}
+use Rattle.operands.specs.Stored.{table}
+
+-- ---- words among the first n
+part-of : (n i m : ℕ) (w : List ℕ) → i + m ≤ n → take m (drop i w) ≡ drop (length (take i (take n w))) (take (i + m) (take n w))
+part-of n i m w h = let l : i ≤ n = omega arith in rw (take-take i n w l, take-take (i + m) n w h, take-add i m w) (sym (drop-append-seam (take i w) (take m (drop i w))))
+
+part-same : (n i m : ℕ) (w w′ : List ℕ) → i + m ≤ n → take n w′ ≡ take n w → take m (drop i w′) ≡ take m (drop i w)
+part-same n i m w w′ h e = part-of n i m w′ h ∙ ap (λ (l : List ℕ). drop (length (take i l)) (take (i + m) l)) e ∙ sym (part-of n i m w h)
+
+begins-rows : (w w′ : List ℕ) (i : ℕ) (vs : List ℕ) → table w′ ≡ table w → i + length vs ≤ 12288 → Begins w i vs → Begins w′ i vs
+begins-rows w w′ i vs e h (r, b) = (
+  drop (length vs) (drop i w′),
+  sym (take-append-drop (length vs) (drop i w′)) ∙ ap (λ (l : List ℕ). l ++ drop (length vs) (drop i w′)) (part-same 12288 i (length vs) w w′ h e ∙ ap (take (length vs)) b ∙ take-append-seam vs r),
+)
+
+-- ---- nodes
+node-rows : {s : Bytes} {w w′ : List ℕ} {left n : ℕ} → table w′ ≡ table w → IsNode s w left n → IsNode s w′ left n × (valueAt s w′ n ≡ valueAt s w n)
+node-rows {s} {w} {w′} {left} {n} e h = (record { tree = h .tree; held = held; depth = h .depth; most = h .most }, value-is s w′ (h .depth) held ∙ sym (value-is s w (h .depth) (h .held)))
+  where
+    held : NodeAt s w′ left n (h .tree)
+    held = record { words = begins-rows w w′ (3 * n) (rows (h .tree) n) e (omega (arith, length-rows (h .tree) n, h .most)) (h .held .words); shallow = h .held .shallow; fits = h .held .fits }
+
+nodes-rows : {s : Bytes} {w w′ : List ℕ} {left k e : ℕ} → table w′ ≡ table w → AreNodes s w left k e → AreNodes s w′ left k e × (valuesAt s w′ k e ≡ valuesAt s w k e)
+nodes-rows {s} {w} {w′} {left} {k} {e} q h = (record { tree = h .tree; held = held; depth = h .depth; most = h .most }, values-are s w′ (h .depth) held ∙ sym (values-are s w (h .depth) (h .held)))
+  where
+    held : NodesAt s w′ left k e (h .tree)
+    held = record { words = begins-rows w w′ (3 * k) (rowsIn (h .tree) k) q (omega (arith, length-rowsIn (h .tree) k, h .held .upto, h .most)) (h .held .words); upto = h .held .upto; shallow = h .held .shallow; fits = h .held .fits }
+
+-- ---- what they give
+pub gives-rows : {A : Type 0} {kind : Value → Result A} {s : Bytes} {w w′ : List ℕ} {n : ℕ} {a : A} → table w′ ≡ table w → Gives kind s w n a → Gives kind s w′ n a
+gives-rows {kind = kind} e g = let x = node-rows e (g .node) in record { node = x .0; isTidy = ap (tidy maxNumber) (x .1) ∙ g .isTidy; is = ap (λ (v : Value). kind (sorted v)) (x .1) ∙ g .is }
+
+pub may-give-rows : {A : Type 0} (kind : Value → Result A) (s : Bytes) (w w′ : List ℕ) (f : Found) (o : Option A) → table w′ ≡ table w → MayGive kind s w f o → MayGive kind s w′ f o
+unfolding MayGive
+may-give-rows kind s w w′ founds.Nothing o e g = g
+may-give-rows kind s w w′ (founds.At n) o e (a, i, g) = (a, i, gives-rows e g)
+
+pub each-gives-rows : {A : Type 0} {kind : Value → Result A} {s : Bytes} {w w′ : List ℕ} {k e : ℕ} {xs : List A} → table w′ ≡ table w → EachGives kind s w k e xs → EachGives kind s w′ k e xs
+each-gives-rows {kind = kind} q g = let x = nodes-rows q (g .nodes) in record { nodes = x .0; isTidy = ap (tidyIn maxNumber) (x .1) ∙ g .isTidy; is = ap (λ (v : Values). eachOf kind (elements (sortedIn v))) (x .1) ∙ g .is }
+
+pub conditions-rows : {s : Bytes} {w w′ : List ℕ} {k e : ℕ} {cs : Conditions} → table w′ ≡ table w → ConditionsGive s w k e cs → ConditionsGive s w′ k e cs
+conditions-rows q g = let x = nodes-rows q (g .nodes) in record { nodes = x .0; isTidy = ap (tidyIn maxNumber) (x .1) ∙ g .isTidy; is = ap (λ (v : Values). conditionsIn (sortedIn v)) (x .1) ∙ g .is }
+
+stored-rows : {s : Bytes} {w w′ : List ℕ} → table w′ ≡ table w → Stored s w → Stored s w′
+stored-rows e g = let x = node-rows e (g .node) in record { reads = g .reads ∙ ap {B = Result Value} (λ v. ok v) (sym (x .1)); node = x .0 }
+
+pub accepted-rows : {s : Bytes} {w w′ : List ℕ} {m : Members} {sheet : Sheet Condition} → table w′ ≡ table w → Accepted s w m sheet → Accepted s w′ m sheet
+accepted-rows {s} {w} {w′} {m} {sheet} e a =
+    record {
+      reads = a .reads;
+      stored = stored-rows e (a .stored);
+      id = may-give-rows aText s w w′ (m .id) (sheet .id) e (a .id);
+      entity = gives-rows e (a .entity);
+      version = gives-rows e (a .version);
+      args = gives-rows e (a .args);
+      fields = gives-rows e (a .fields);
+      oldFields = gives-rows e (a .oldFields);
+      fromState = may-give-rows aText s w w′ (m .«from_state») (sheet .fromState) e (a .fromState);
+      toState = gives-rows e (a .toState);
+      state = may-give-rows aText s w w′ (m .state) (sheet .state) e (a .state);
+      states = gives-rows e (a .states);
+      itsCondition = may-give-rows condition s w w′ (m .condition) (sheet .condition) e (a .itsCondition);
+      preconditions = gives-rows e (a .preconditions);
+      invariants = gives-rows e (a .invariants);
+      outcomes = gives-rows e (a .outcomes);
+    }
+
+-- the rows alone give the same
+table-twice : (w : List ℕ) → table (table w) ≡ table w
+table-twice w = take-take 12288 12288 w (omega arith)
+
+pub gives-table : {A : Type 0} {kind : Value → Result A} {s : Bytes} {w : List ℕ} {n : ℕ} {a : A} → Gives kind s w n a → Gives kind s (table w) n a
+gives-table {w = w} g = gives-rows (table-twice w) g
+
+pub table-gives : {A : Type 0} {kind : Value → Result A} {s : Bytes} {w : List ℕ} {n : ℕ} {a : A} → Gives kind s (table w) n a → Gives kind s w n a
+table-gives {w = w} g = gives-rows (sym (table-twice w)) g
+
+-- ---- the texts of the marked nodes are those that are marked
+module _ (s : Bytes) (w : List ℕ) (x : Bytes) where
+  same-text : (n : ℕ) → n < 4096 → textAt s (startAt w n) ≡ textAt s (startAt (table w) n)
+  same-text n h = ap (λ (y : ℕ). textAt s (y / 8)) (row-word w (3 * n) (omega arith))
+
+  from-marked : (m k : ℕ) → k + m ≤ 4096 → Named x (markedFrom s w m k) → Marked s w x
+  unfolding markedFrom
+  from-marked zero k h n = absurd (List·Memᴰ·not-nil n)
+  from-marked (suc m) k h n = go (λ j. from-marked m (k + 1) (omega arith) j) (isMarked w k) refl n
+    where
+      go : (Named x (markedFrom s w m (k + 1)) → Marked s w x) → (b : Bool) → isMarked w k ≡ b → Named x (markedFrom s w (suc m) k) → Marked s w x
+      go below true q j = ⊎-elim (λ e. record { node = k; small = omega arith; mark = eqb-true (getD w (12288 + k) 0) 1 q; text = sym (same-text k (omega arith)) ∙ sym e }) below (List·Memᴰ·cases-cons (rw (q, markedFrom) at j))
+      go below false q j = below (rw (q, markedFrom) at j)
+
+  to-marked : (m k : ℕ) (y : Marked s w x) → k ≤ y .node → y .node < k + m → Named x (markedFrom s w m k)
+  unfolding markedFrom
+  to-marked zero k y l h = absurd (omega arith)
+  to-marked (suc m) k y l h = go (λ i. to-marked m (k + 1) y i (omega arith)) (isMarked w k) refl (eqb k (y .node)) refl
+    where
+      go : (k + 1 ≤ y .node → Named x (markedFrom s w m (k + 1))) → (b : Bool) → isMarked w k ≡ b → (d : Bool) → eqb k (y .node) ≡ d → Named x (markedFrom s w (suc m) k)
+      go below true q true r = let e = eqb-true k (y .node) r in rw (q, markedFrom) (List·Memᴰ·head (sym (y .text) ∙ sym (same-text (y .node) (y .small)) ∙ ap (λ (n : ℕ). textAt s (startAt w n)) (sym e)))
+      go below true q false r = let e = eqb-false k (y .node) r in rw (q, markedFrom) (List·Memᴰ·tail (below (omega arith)))
+      go below false q true r = let e = eqb-true k (y .node) r in absurd (eqb-false (getD w (12288 + k) 0) 1 q (ap (λ (n : ℕ). getD w (12288 + n) 0) e ∙ y .mark))
+      go below false q false r = let e = eqb-false k (y .node) r in rw (q, markedFrom) (below (omega arith))
+
+-- over a table without marks, what is marked after are the names met
+pub names-marked : {s : Bytes} {w w′ : List ℕ} {ns : Names} → ((i : ℕ) → 12288 ≤ i → i < 16384 → getD w i 0 ≡ 0) → Left s w w′ ns → ascending (marked s w′) ≡ ascending ns
+unfolding marked
+names-marked {s} {w} {w′} {ns} z l = ascending-set (marked s w′) ns λ x. (λ n. ⊎-elim (λ m. none x m) (λ m. m) (l .only x (from-marked s w′ x 4096 0 (omega arith) n)), λ n. let y = l .added x n in to-marked s w′ x 4096 0 y (omega arith) (omega (arith, y .small)))
+  where
+    none : (x : Bytes) → Marked s w x → Named x ns
+    none x y = absurd (omega (arith, z (12288 + y .node) (omega arith) (omega (arith, y .small)), y .mark))
