@@ -3,3 +3,4 @@ pub mod Limits
 pub mod Samples
 pub mod Judging
 pub mod After
+pub mod Entering
