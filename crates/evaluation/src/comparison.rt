@@ -2,6 +2,7 @@
 use operands::frames::Frames;
 use operands::operand::Operand;
 use operands::resolve::Resolved;
+use operands::resolve::resolve;
 use operands::roots::Roots;
 use semantics::truth::Truth;
 use sheet::condition::Form;
@@ -36,7 +37,7 @@ pub fn exists_at(
     requires { ⌜ Working (now s) (now work) roots frames × HasNode (now s) (table (now work)) node × (depth (tree (now s) (table (now work)) node) ≤ left) ⌝ }
     ensures { λ r. ⌜ EvaluatedAs (now (s .entry)) (now (work .entry)) (now (work .exit)) r (judge (sheetIn (now (s .entry))) (framesOf (now (s .entry)) (table (now (work .entry))) frames) (exists (tree (now (s .entry)) (table (now (work .entry))) node))) ⌝ }
 {
-    match operands::resolve::resolve(s, work, roots, frames, node, true, left) {
+    match resolve(s, work, roots, frames, node, true, left) {
         Resolved::Present(_o) => Outcome::Judged(Truth::True),
         Resolved::Missing => Outcome::Judged(Truth::False),
         Resolved::Unknown(n) => Outcome::Unknown(n),
@@ -77,32 +78,16 @@ pub fn pair_at(
     requires { ⌜ Working (now s) (now work) roots frames × HasNode (now s) (table (now work)) m × HasNode (now s) (table (now work)) n × (depth (tree (now s) (table (now work)) m) ≤ left) × (depth (tree (now s) (table (now work)) n) ≤ left) ⌝ }
     ensures { λ r. ⌜ EvaluatedAs (now (s .entry)) (now (work .entry)) (now (work .exit)) r (judge (sheetIn (now (s .entry))) (framesOf (now (s .entry)) (table (now (work .entry))) frames) (pair (formOf form) (tree (now (s .entry)) (table (now (work .entry))) m) (tree (now (s .entry)) (table (now (work .entry))) n))) ⌝ }
 {
-    match operands::resolve::resolve(s, work, roots, frames, m, false, left) {
+    match resolve(s, work, roots, frames, m, false, left) {
         Resolved::Unknown(k) => Outcome::Unknown(k),
         Resolved::NoId => Outcome::NoId,
-        Resolved::Present(a) => match operands::resolve::resolve(
-            s,
-            work,
-            roots,
-            frames,
-            n,
-            false,
-            left,
-        ) {
+        Resolved::Present(a) => match resolve(s, work, roots, frames, n, false, left) {
             Resolved::Present(b) => judged(s, work, roots, frames, form, a, b),
             Resolved::Missing => Outcome::Judged(Truth::Unknown),
             Resolved::Unknown(k) => Outcome::Unknown(k),
             Resolved::NoId => Outcome::NoId,
         },
-        Resolved::Missing => match operands::resolve::resolve(
-            s,
-            work,
-            roots,
-            frames,
-            n,
-            false,
-            left,
-        ) {
+        Resolved::Missing => match resolve(s, work, roots, frames, n, false, left) {
             Resolved::Present(_b) => Outcome::Judged(Truth::Unknown),
             Resolved::Missing => Outcome::Judged(Truth::Unknown),
             Resolved::Unknown(k) => Outcome::Unknown(k),
