@@ -33,7 +33,7 @@ module _ {quiet : Bool} {s : Bytes} {w w′ : List ℕ} {r : code.Resolved} {m :
   pub is-present : (o : Operand) → r ≡ answers.Present o → (m ≡ ok (present (operandOf s (table w) o))) × Fits s (table w) (o .node) (o .kind) × (a .met ≡ [])
   is-present o e = let h = subst (Heard quiet s (table w) (a .names) (a .met)) e (a .hears) in (sym (a .means) ∙ ap (resolvedOf s (table w) (a .names)) e, h .0, h .1)
 
-  is-missing : r ≡ answers.Missing → (m ≡ ok (missing (a .names))) × (a .met ≡ heard quiet (a .names))
+  pub is-missing : r ≡ answers.Missing → (m ≡ ok (missing (a .names))) × (a .met ≡ heard quiet (a .names))
   is-missing e = (sym (a .means) ∙ ap (resolvedOf s (table w) (a .names)) e, subst (Heard quiet s (table w) (a .names) (a .met)) e (a .hears))
 
   -- a refusal comes before all that follows

@@ -4,3 +4,6 @@ pub mod Samples
 pub mod Judging
 pub mod After
 pub mod Entering
+pub mod Joined
+pub mod Junctions
+pub mod Quantifiers

@@ -183,6 +183,9 @@ unfolding depthOf
 entries-low n empty h = tt
 entries-low n (member k v ms) h = (omega arith, entries-low n ms (omega arith))
 
+pub find-shallow : (k : Bytes) (ms : Members) (v : Value) → find k (entries ms) ≡ some v → depth v ≤ depthOf ms
+find-shallow k ms v e = find-entry (λ x. depth x ≤ depthOf ms) k (entries ms) (entries-low (depthOf ms) ms (omega arith)) e
+
 object-inv : (v : Value) {ms : Members} → anObject v ≡ ok ms → v ≡ object ms
 object-inv null e = absurd (impossible (cc))
 object-inv (bool b) e = absurd (impossible (cc))

@@ -298,7 +298,7 @@ quantified-by {s} {w} ms t m c e rIn rAs rThat fIn fAs fThat = go (parts m (sort
           is = v ∙ ap (λ (o : Value). quantified m o (p .name) (b .0)) (sym (x .is));
         }
 
-quantified-here : {s : Bytes} {w : List ℕ} {n : ℕ} → IsNode s w 64 n → tidy maxNumber (valueAt s w n) ≡ true → (m : Mode) (c : Condition) → (conditionObject (sorted (valueAt s w n)) >>= quantifier m) ≡ ok c → ObjectHere s w n × ((rIn rAs rThat : Found) → FoundTold s w (find (ascii "in") (entries (membersAt s w (n + 1) (afterAt w n)))) rIn → FoundTold s w (find (ascii "as") (entries (membersAt s w (n + 1) (afterAt w n)))) rAs → FoundTold s w (find (ascii "that") (entries (membersAt s w (n + 1) (afterAt w n)))) rThat → QuantifiedHere s w m rIn rAs rThat c)
+pub quantified-here : {s : Bytes} {w : List ℕ} {n : ℕ} → IsNode s w 64 n → tidy maxNumber (valueAt s w n) ≡ true → (m : Mode) (c : Condition) → (conditionObject (sorted (valueAt s w n)) >>= quantifier m) ≡ ok c → ObjectHere s w n × ((rIn rAs rThat : Found) → FoundTold s w (find (ascii "in") (entries (membersAt s w (n + 1) (afterAt w n)))) rIn → FoundTold s w (find (ascii "as") (entries (membersAt s w (n + 1) (afterAt w n)))) rAs → FoundTold s w (find (ascii "that") (entries (membersAt s w (n + 1) (afterAt w n)))) rThat → QuantifiedHere s w m rIn rAs rThat c)
 unfolding conditionObject sorted
 quantified-here {s} {w} {n} h t m c e = go (valueAt s w n) refl e
   where

@@ -1,0 +1,559 @@
+-- A condition, a junction, a quantifier and the walk over what it binds meet their contracts. What falls is the brackets left.
+-- Assumes nothing.
+use Prim.Native.Nat.{ℕ, _*_, _+_, _-_, _<_}
+use native.Mathlib.Omega.{arith}
+use borrow.Author.Needs.{needs}
+use borrow.Fn.Kinds.{In}
+use borrow.Fn.PlainCycle.{Measures, is, falls, and}
+use Rattle.evaluation.proofs.condition.each.Reads as each
+use Rattle.evaluation.proofs.condition.each.Kinds as each-kinds
+use Rattle.evaluation.proofs.condition.+each+evaluate+junction+quantify.Lts-each as each-lts
+use Rattle.evaluation.proofs.condition.evaluate.Reads as evaluate
+use Rattle.evaluation.proofs.condition.evaluate.Kinds as evaluate-kinds
+use Rattle.evaluation.proofs.condition.+each+evaluate+junction+quantify.Lts-evaluate as evaluate-lts
+use Rattle.evaluation.proofs.condition.junction.Reads as junction
+use Rattle.evaluation.proofs.condition.junction.Kinds as junction-kinds
+use Rattle.evaluation.proofs.condition.+each+evaluate+junction+quantify.Lts-junction as junction-lts
+use Rattle.evaluation.proofs.condition.quantify.Reads as quantify
+use Rattle.evaluation.proofs.condition.quantify.Kinds as quantify-kinds
+use Rattle.evaluation.proofs.condition.+each+evaluate+junction+quantify.Lts-quantify as quantify-lts
+use Rattle.evaluation.proofs.comparison.exists_at.Reads as exists-at-reads
+use Rattle.evaluation.proofs.comparison.pair_at.Reads as pair-at-reads
+use Rattle.evaluation.proofs.condition.join.Reads as join-reads
+use Rattle.evaluation.proofs.condition.negated.Reads as negated-reads
+use Rattle.evaluation.proofs.condition.quantifier_at.Reads as quantifier-at-reads
+use Rattle.evaluation.proofs.condition.settles.Reads as settles-reads
+use Rattle.evaluation.proofs.condition.start.Reads as start-reads
+use Rattle.operands.proofs.children.Children.next.Reads as next-reads
+use Rattle.operands.proofs.children.Children.of.Reads as of-reads
+use Rattle.operands.proofs.frames.Frames.push.Reads as push-reads
+use Rattle.operands.proofs.layer.class_of.Reads as class-of-reads
+use Rattle.operands.proofs.layer.part_of.Reads as part-of-reads
+use Rattle.operands.proofs.layer.value_node.Reads as value-node-reads
+use Rattle.operands.proofs.resolve.resolve.Reads as resolve-reads
+use Rattle.operands.proofs.rows.after_at.Reads as after-at-reads
+use Rattle.operands.proofs.rows.kind_at.Reads as kind-at-reads
+use Rattle.operands.proofs.rows.start_at.Reads as start-at-reads
+use Rattle.sheet.proofs.condition.operator_at.Reads as operator-at-reads
+use Rattle.evaluation.proofs.condition.+each+evaluate+junction+quantify.{statement}
+use Rattle.evaluation.proofs.condition.+each+evaluate+junction+quantify.Tie.{close}
+use lib.Dec.{eqb}
+use Rattle.sheet.proofs.GivenConditions.{given-carried, given-known}
+use Rattle.sheet.specs.Answers.{modeOf}
+use Rattle.operands.proofs.Alike.{begin-room}
+use Rattle.operands.proofs.Marking.{working-after}
+use Rattle.operands.proofs.Slices.{node-room}
+use Rattle.operands.proofs.Trees.{text-row}
+use Rattle.operands.specs.Rooted.{sheetIn}
+use Rattle.operands.specs.Stored.{framesOf, table}
+use Rattle.evaluation.proofs.Junctions.{Collecting, a-junction, a-negation, a-pair, child, child-below, child-falls, child-shallow, collect-begin, collect-end, collect-less, collect-long, collect-no-id, collect-on, collect-one, collect-unknown, element-falls, inner-falls, inner-node, inner-shallow, judged-exists, judged-false, judged-junction, judged-negation, judged-pair, judged-quantifier, judged-true, known-quantifier, operands-shallow, the-member}
+use Rattle.evaluation.proofs.Quantifiers.{Turning, body-known, body-shallow, each-falls, each-holds, each-unknown, over-fits, pushed, quantify-each, quantify-falls, quantify-long, quantify-missing, quantify-no-id, quantify-unknown, turn-begin, turn-below, turn-end, turn-given, turn-gives, turn-long, turn-no-id, turn-node, turn-on, turn-settled, turn-unknown}
+
+abbrev μ-each : Measures 2 each-kinds.ps ℕ
+μ-each κs a = 3 * a .1 .1 .1 .1 .1 .1 .1 .1 .0 + 1
+
+abbrev μ-evaluate : Measures 2 evaluate-kinds.ps ℕ
+μ-evaluate κs a = 3 * a .1 .1 .1 .1 .1 .0
+
+abbrev μ-junction : Measures 2 junction-kinds.ps ℕ
+μ-junction κs a = 3 * a .1 .1 .1 .1 .1 .1 .0 + 1
+
+abbrev μ-quantify : Measures 2 quantify-kinds.ps ℕ
+μ-quantify κs a = 3 * a .1 .1 .1 .1 .1 .1 .0 + 2
+
+abbrev each-at : ℕ → In 2 each-kinds.ps
+each-at t = and 2 each-kinds.ps (is 2 each-kinds.ps μ-each t) each.Pre
+
+abbrev each-below : ℕ → In 2 each-kinds.ps
+each-below t = and 2 each-kinds.ps (falls 2 each-kinds.ps _<_ μ-each t) each.Pre
+
+abbrev evaluate-at : ℕ → In 2 evaluate-kinds.ps
+evaluate-at t = and 2 evaluate-kinds.ps (is 2 evaluate-kinds.ps μ-evaluate t) evaluate.Pre
+
+abbrev evaluate-below : ℕ → In 2 evaluate-kinds.ps
+evaluate-below t =
+    and 2 evaluate-kinds.ps (falls 2 evaluate-kinds.ps _<_ μ-evaluate t) evaluate.Pre
+
+abbrev junction-at : ℕ → In 2 junction-kinds.ps
+junction-at t = and 2 junction-kinds.ps (is 2 junction-kinds.ps μ-junction t) junction.Pre
+
+abbrev junction-below : ℕ → In 2 junction-kinds.ps
+junction-below t =
+    and 2 junction-kinds.ps (falls 2 junction-kinds.ps _<_ μ-junction t) junction.Pre
+
+abbrev quantify-at : ℕ → In 2 quantify-kinds.ps
+quantify-at t = and 2 quantify-kinds.ps (is 2 quantify-kinds.ps μ-quantify t) quantify.Pre
+
+abbrev quantify-below : ℕ → In 2 quantify-kinds.ps
+quantify-below t =
+    and 2 quantify-kinds.ps (falls 2 quantify-kinds.ps _<_ μ-quantify t) quantify.Pre
+
+abbrev each-claims : ℕ → each-lts.Claims
+each-claims t = (class-of-reads.Asked, class-of-reads.Learnt, start-reads.Asked, start-reads.Learnt, of-reads.Asked, of-reads.Learnt, next-reads.Asked, next-reads.Learnt, value-node-reads.Asked, value-node-reads.Learnt, part-of-reads.Asked, part-of-reads.Learnt, push-reads.Asked, push-reads.Learnt, evaluate-below t, evaluate.Post, join-reads.Asked, join-reads.Learnt, settles-reads.Asked, settles-reads.Learnt)
+
+abbrev each-Inv-loop : each-lts.InvT-loop
+each-Inv-loop s work₀ roots frames mode o name body left class truth₀ c₀ work truth c = Turning s work₀ (sheetIn s) frames (modeOf mode) name body o (eqb class 6) work truth c
+
+abbrev each-μ-loop : each-lts.MeasureT-loop
+each-μ-loop s work₀ roots frames mode o name body left class truth₀ c₀ work truth c = c .left
+
+abbrev evaluate-claims : ℕ → evaluate-lts.Claims
+evaluate-claims t = (kind-at-reads.Asked, kind-at-reads.Learnt, start-at-reads.Asked, start-at-reads.Learnt, operator-at-reads.Asked, operator-at-reads.Learnt, junction-below t, junction.Post, evaluate-below t, evaluate.Post, negated-reads.Asked, negated-reads.Learnt, exists-at-reads.Asked, exists-at-reads.Learnt, after-at-reads.Asked, after-at-reads.Learnt, pair-at-reads.Asked, pair-at-reads.Learnt, quantify-below t, quantify.Post)
+
+abbrev quantify-claims : ℕ → quantify-lts.Claims
+quantify-claims t = (quantifier-at-reads.Asked, quantifier-at-reads.Learnt, start-at-reads.Asked, start-at-reads.Learnt, resolve-reads.Asked, resolve-reads.Learnt, each-below t, each.Post)
+
+each-class-of-requires : (t : ℕ) → each-lts.Need-class-of-requires (each-claims t) (each-at t) each.Post each-Inv-loop each-μ-loop
+each-class-of-requires t c κs = search needs
+
+each-returns : (t : ℕ) → each-lts.Need-returns (each-claims t) (each-at t) each.Post each-Inv-loop each-μ-loop
+each-returns t c = each-unknown (c .before .before .before .before .args .s .now) (c .before .before .before .before .args .work .now) (sheetIn (c .before .before .before .before .args .s .now)) (c .before .before .before .before .args .frames) (modeOf (c .before .before .before .before .args .mode)) (c .before .before .before .before .args .name) (c .before .before .before .before .args .body) (c .before .before .before .before .args .o) (c .before .class-of .ensures) (c .if1 .taken)
+
+each-start-requires : (t : ℕ) → each-lts.Need-start-requires (each-claims t) (each-at t) each.Post each-Inv-loop each-μ-loop
+each-start-requires t c κs = search needs
+
+each-of-requires : (t : ℕ) → each-lts.Need-of-requires (each-claims t) (each-at t) each.Post each-Inv-loop each-μ-loop
+each-of-requires t c κs = begin-room (c .before .before .before .before .before .before .args .s .now) (c .before .before .before .before .before .before .args .work .now) (eqb (c .before .before .before .class-of .result) 6) (c .before .before .before .before .before .before .pre .1 .0 .ready .rows) (each-holds (c .before .before .before .before .before .before .args .s .now) (table (c .before .before .before .before .before .before .args .work .now)) (c .before .before .before .before .before .before .args .o) (c .before .before .before .class-of .ensures) (c .before .before .if1 .left) (c .before .before .before .before .before .before .pre .1 .2))
+
+each-loop-holds : (t : ℕ) → each-lts.Need-loop-holds (each-claims t) (each-at t) each.Post each-Inv-loop each-μ-loop
+each-loop-holds t c = turn-begin (c .before .before .before .before .before .before .before .args .s .now) (c .before .before .before .before .before .before .before .args .work .now) (sheetIn (c .before .before .before .before .before .before .before .args .s .now)) (c .before .before .before .before .before .before .before .args .frames) (modeOf (c .before .before .before .before .before .before .before .args .mode)) (c .before .before .before .before .before .before .before .args .name) (c .before .before .before .before .before .before .before .args .body) (c .before .before .before .before .before .before .before .args .o) (c .before .before .before .before .class-of .ensures) (c .before .before .before .if1 .left) (c .before .before .before .before .before .before .before .pre .1 .2) (c .before .before .before .before .before .before .before .pre .1 .4) (c .before .before .start .ensures) _ (c .of .ensures)
+
+each-next-requires : (t : ℕ) → each-lts.Need-next-requires (each-claims t) (each-at t) each.Post each-Inv-loop each-μ-loop
+each-next-requires t c κs = (record { rows = working-after (c .before .before .before .before .before .before .before .before .before .pre .1 .0) (c .before .loop .inv .left) .ready .rows; node = omega arith }, rw (c .before .loop .inv .left .rows) (c .before .loop .inv .walk))
+
+each-enum-told : (t : ℕ) → each-lts.Need-enum-told (each-claims t) (each-at t) each.Post each-Inv-loop each-μ-loop
+each-enum-told t c = search needs
+
+each-same-length : (t : ℕ) → each-lts.Need-same-length (each-claims t) (each-at t) each.Post each-Inv-loop each-μ-loop
+each-same-length t c = c .before .before .before .before .loop .inv .left .long
+
+each-returns-2 : (t : ℕ) → each-lts.Need-returns-2 (each-claims t) (each-at t) each.Post each-Inv-loop each-μ-loop
+each-returns-2 t c = turn-end (c .before .before .before .before .loop .inv) (c .before .before .next .ensures) (c .enum-told .given .1)
+
+each-enum-known-x : (t : ℕ) → each-lts.Need-enum-known-x (each-claims t) (each-at t) each.Post each-Inv-loop each-μ-loop
+each-enum-known-x t c = search needs
+
+each-value-node-requires : (t : ℕ) → each-lts.Need-value-node-requires (each-claims t) (each-at t) each.Post each-Inv-loop each-μ-loop
+each-value-node-requires t c κs = turn-below (c .before .before .before .before .before .loop .inv) (turn-given (c .before .before .before .before .before .loop .inv) (c .before .before .before .next .ensures) (c .before .x .given .0 .0) (c .before .x .given .1))
+
+each-part-of-requires : (t : ℕ) → each-lts.Need-part-of-requires (each-claims t) (each-at t) each.Post each-Inv-loop each-μ-loop
+each-part-of-requires t c κs = (working-after (c .before .before .before .before .before .before .before .before .before .before .before .before .before .before .before .pre .1 .0) (c .before .before .before .before .before .before .before .loop .inv .left) .ready, turn-node (c .before .before .before .before .before .before .before .loop .inv) (turn-given (c .before .before .before .before .before .before .before .loop .inv) (c .before .before .before .before .before .next .ensures) (c .before .before .before .x .given .0 .0) (c .before .before .before .x .given .1)) (c .before .value-node .ensures))
+
+each-push-requires : (t : ℕ) → each-lts.Need-push-requires (each-claims t) (each-at t) each.Post each-Inv-loop each-μ-loop
+each-push-requires t c κs = omega (arith, c .before .before .before .before .before .before .before .before .before .before .before .before .before .before .before .before .pre .1 .1)
+
+each-evaluate-requires : (t : ℕ) → each-lts.Need-evaluate-requires (each-claims t) (each-at t) each.Post each-Inv-loop each-μ-loop
+each-evaluate-requires t c κs = (each-falls (c .before .before .before .before .before .before .before .before .before .before .before .before .before .before .before .before .before .before .args .left) (c .before .before .before .before .before .before .before .before .before .before .before .before .before .before .before .before .before .before .pre .0), (pushed (working-after (c .before .before .before .before .before .before .before .before .before .before .before .before .before .before .before .before .before .before .pre .1 .0) (c .before .before .before .before .before .before .before .before .before .before .loop .inv .left)) (omega (arith, c .before .before .before .before .before .before .before .before .before .before .before .before .before .before .before .before .before .before .pre .1 .1)) (c .before .before .before .before .before .before .before .before .before .before .before .before .before .before .before .before .before .before .pre .1 .3) (c .before .before .part-of .ensures .fits) (c .before .push .ensures .0) (c .before .push .ensures .1), omega (arith, c .before .before .before .before .before .before .before .before .before .before .before .before .before .before .before .before .before .before .pre .1 .1, c .before .push .ensures .0), turn-gives (c .before .before .before .before .before .before .before .before .before .before .loop .inv), rw (c .before .before .before .before .before .before .before .before .before .before .loop .inv .left .rows) (c .before .before .before .before .before .before .before .before .before .before .before .before .before .before .before .before .before .before .pre .1 .5)))
+
+each-enum-known-t : (t : ℕ) → each-lts.Need-enum-known-t (each-claims t) (each-at t) each.Post each-Inv-loop each-μ-loop
+each-enum-known-t t c = search needs
+
+each-join-requires : (t : ℕ) → each-lts.Need-join-requires (each-claims t) (each-at t) each.Post each-Inv-loop each-μ-loop
+each-join-requires t c κs = search needs
+
+each-settles-requires : (t : ℕ) → each-lts.Need-settles-requires (each-claims t) (each-at t) each.Post each-Inv-loop each-μ-loop
+each-settles-requires t c κs = search needs
+
+each-same-length-2 : (t : ℕ) → each-lts.Need-same-length-2 (each-claims t) (each-at t) each.Post each-Inv-loop each-μ-loop
+each-same-length-2 t c = turn-long (c .before .before .before .before .before .before .before .before .before .before .before .before .before .before .before .before .before .before .before .loop .inv) (c .before .before .before .before .before .before .before .before .evaluate .ensures)
+
+each-returns-3 : (t : ℕ) → each-lts.Need-returns-3 (each-claims t) (each-at t) each.Post each-Inv-loop each-μ-loop
+each-returns-3 t c = turn-settled (c .before .before .before .before .before .before .before .before .before .before .before .before .before .before .before .before .before .before .before .loop .inv) (turn-given (c .before .before .before .before .before .before .before .before .before .before .before .before .before .before .before .before .before .before .before .loop .inv) (c .before .before .before .before .before .before .before .before .before .before .before .before .before .before .before .before .before .next .ensures) (c .before .before .before .before .before .before .before .before .before .before .before .before .before .before .before .x .given .0 .0) (c .before .before .before .before .before .before .before .before .before .before .before .before .before .before .before .x .given .1)) (c .before .before .before .before .before .before .before .before .before .before .push .result) (c .before .before .before .before .before .before .before .before .before .before .before .before .before .value-node .ensures) (c .before .before .before .before .before .before .before .before .before .before .before .part-of .ensures) (c .before .before .before .before .before .before .before .before .before .before .push .ensures .1) (c .before .before .before .before .before .before .before .before .evaluate .ensures) _ (c .before .before .before .before .t .given .1) (c .before .before .join .result) (c .before .before .join .ensures) (c .before .settles .ensures) (c .if2 .taken)
+
+each-enum-known-n : (t : ℕ) → each-lts.Need-enum-known-n (each-claims t) (each-at t) each.Post each-Inv-loop each-μ-loop
+each-enum-known-n t c = search needs
+
+each-same-length-3 : (t : ℕ) → each-lts.Need-same-length-3 (each-claims t) (each-at t) each.Post each-Inv-loop each-μ-loop
+each-same-length-3 t c = turn-long (c .before .before .before .before .before .before .before .before .before .before .before .before .before .before .before .before .loop .inv) (c .before .before .before .before .before .evaluate .ensures)
+
+each-returns-4 : (t : ℕ) → each-lts.Need-returns-4 (each-claims t) (each-at t) each.Post each-Inv-loop each-μ-loop
+each-returns-4 t c = turn-unknown (c .before .before .before .before .before .before .before .before .before .before .before .before .before .before .before .before .loop .inv) (turn-given (c .before .before .before .before .before .before .before .before .before .before .before .before .before .before .before .before .loop .inv) (c .before .before .before .before .before .before .before .before .before .before .before .before .before .before .next .ensures) (c .before .before .before .before .before .before .before .before .before .before .before .before .x .given .0 .0) (c .before .before .before .before .before .before .before .before .before .before .before .before .x .given .1)) (c .before .before .before .before .before .before .before .push .result) (c .before .before .before .before .before .before .before .before .before .before .value-node .ensures) (c .before .before .before .before .before .before .before .before .part-of .ensures) (c .before .before .before .before .before .before .before .push .ensures .1) (c .before .before .before .before .before .evaluate .ensures) _ (c .before .n .given .1)
+
+each-enum-told-2 : (t : ℕ) → each-lts.Need-enum-told-2 (each-claims t) (each-at t) each.Post each-Inv-loop each-μ-loop
+each-enum-told-2 t c = search needs
+
+each-same-length-4 : (t : ℕ) → each-lts.Need-same-length-4 (each-claims t) (each-at t) each.Post each-Inv-loop each-μ-loop
+each-same-length-4 t c = turn-long (c .before .before .before .before .before .before .before .before .before .before .before .before .before .before .before .loop .inv) (c .before .before .before .before .evaluate .ensures)
+
+each-returns-5 : (t : ℕ) → each-lts.Need-returns-5 (each-claims t) (each-at t) each.Post each-Inv-loop each-μ-loop
+each-returns-5 t c = turn-no-id (c .before .before .before .before .before .before .before .before .before .before .before .before .before .before .before .loop .inv) (turn-given (c .before .before .before .before .before .before .before .before .before .before .before .before .before .before .before .loop .inv) (c .before .before .before .before .before .before .before .before .before .before .before .before .before .next .ensures) (c .before .before .before .before .before .before .before .before .before .before .before .x .given .0 .0) (c .before .before .before .before .before .before .before .before .before .before .before .x .given .1)) (c .before .before .before .before .before .before .push .result) (c .before .before .before .before .before .before .before .before .before .value-node .ensures) (c .before .before .before .before .before .before .before .part-of .ensures) (c .before .before .before .before .before .before .push .ensures .1) (c .before .before .before .before .evaluate .ensures) (c .enum-told2 .given .1)
+
+each-loop-less : (t : ℕ) → each-lts.Need-loop-less (each-claims t) (each-at t) each.Post each-Inv-loop each-μ-loop
+each-loop-less t c = turn-given (c .before .before .before .before .before .before .before .before .before .before .before .before .before .before .before .before .before .before .before .before .loop .inv) (c .before .before .before .before .before .before .before .before .before .before .before .before .before .before .before .before .before .before .next .ensures) (c .before .before .before .before .before .before .before .before .before .before .before .before .before .before .before .before .x .given .0 .0) (c .before .before .before .before .before .before .before .before .before .before .before .before .before .before .before .before .x .given .1) .falls
+
+each-loop-again : (t : ℕ) → each-lts.Need-loop-again (each-claims t) (each-at t) each.Post each-Inv-loop each-μ-loop
+each-loop-again t c = turn-on (c .before .before .before .before .before .before .before .before .before .before .before .before .before .before .before .before .before .before .before .before .loop .inv) (turn-given (c .before .before .before .before .before .before .before .before .before .before .before .before .before .before .before .before .before .before .before .before .loop .inv) (c .before .before .before .before .before .before .before .before .before .before .before .before .before .before .before .before .before .before .next .ensures) (c .before .before .before .before .before .before .before .before .before .before .before .before .before .before .before .before .x .given .0 .0) (c .before .before .before .before .before .before .before .before .before .before .before .before .before .before .before .before .x .given .1)) (c .before .before .before .before .before .before .before .before .before .before .before .push .result) (c .before .before .before .before .before .before .before .before .before .before .before .before .before .before .value-node .ensures) (c .before .before .before .before .before .before .before .before .before .before .before .before .part-of .ensures) (c .before .before .before .before .before .before .before .before .before .before .before .push .ensures .1) (c .before .before .before .before .before .before .before .before .before .evaluate .ensures) _ (c .before .before .before .before .before .t .given .1) (c .before .before .before .join .result) (c .before .before .before .join .ensures) (c .before .before .settles .ensures) (c .before .if2 .left)
+
+evaluate-kind-at-requires : (t : ℕ) → evaluate-lts.Need-kind-at-requires (evaluate-claims t) (evaluate-at t) evaluate.Post
+evaluate-kind-at-requires t c κs = node-room (c .before .before .before .pre .1 .0 .ready) (record { left = 64; isNode = c .before .before .before .pre .1 .2 .known .node })
+
+evaluate-same-length : (t : ℕ) → evaluate-lts.Need-same-length (evaluate-claims t) (evaluate-at t) evaluate.Post
+evaluate-same-length t c = search needs
+
+evaluate-returns : (t : ℕ) → evaluate-lts.Need-returns (evaluate-claims t) (evaluate-at t) evaluate.Post
+evaluate-returns t c = λ d g. judged-true (sheetIn (c .before .before .before .before .before .args .s .now)) (framesOf (c .before .before .before .before .before .args .s .now) (table (c .before .before .before .before .before .args .work .now)) (c .before .before .before .before .before .args .frames)) g (c .before .kind-at .ensures) (c .if1 .taken)
+
+evaluate-same-length-2 : (t : ℕ) → evaluate-lts.Need-same-length-2 (evaluate-claims t) (evaluate-at t) evaluate.Post
+evaluate-same-length-2 t c = search needs
+
+evaluate-returns-2 : (t : ℕ) → evaluate-lts.Need-returns-2 (evaluate-claims t) (evaluate-at t) evaluate.Post
+evaluate-returns-2 t c = λ d g. judged-false (sheetIn (c .before .before .before .before .before .before .args .s .now)) (framesOf (c .before .before .before .before .before .before .args .s .now) (table (c .before .before .before .before .before .before .args .work .now)) (c .before .before .before .before .before .before .args .frames)) g (c .before .before .kind-at .ensures) (c .if2 .taken)
+
+evaluate-add-start-at : (t : ℕ) → evaluate-lts.Need-add-start-at (evaluate-claims t) (evaluate-at t) evaluate.Post
+evaluate-add-start-at t c = omega (arith, the-member (c .before .before .before .before .before .before .before .pre .1 .2 .known) (c .before .before .before .kind-at .ensures) (c .before .before .if1 .left) (c .before .if2 .left) .namePlace .1)
+
+evaluate-start-at-requires : (t : ℕ) → evaluate-lts.Need-start-at-requires (evaluate-claims t) (evaluate-at t) evaluate.Post
+evaluate-start-at-requires t c κs = record { rows = c .before .before .before .before .before .before .before .pre .1 .0 .ready .rows; node = the-member (c .before .before .before .before .before .before .before .pre .1 .2 .known) (c .before .before .before .kind-at .ensures) (c .before .before .if1 .left) (c .before .if2 .left) .namePlace .1 }
+
+evaluate-add-inner : (t : ℕ) → evaluate-lts.Need-add-inner (evaluate-claims t) (evaluate-at t) evaluate.Post
+evaluate-add-inner t c = omega (arith, the-member (c .before .before .before .before .before .before .before .before .pre .1 .2 .known) (c .before .before .before .before .kind-at .ensures) (c .before .before .before .if1 .left) (c .before .before .if2 .left) .namePlace .1)
+
+evaluate-operator-at-requires : (t : ℕ) → evaluate-lts.Need-operator-at-requires (evaluate-claims t) (evaluate-at t) evaluate.Post
+evaluate-operator-at-requires t c κs = rw (c .start-at .ensures) (the-member (c .before .before .before .before .before .before .before .before .pre .1 .2 .known) (c .before .before .before .before .kind-at .ensures) (c .before .before .before .if1 .left) (c .before .before .if2 .left) .name)
+
+evaluate-enum-known-m : (t : ℕ) → evaluate-lts.Need-enum-known-m (evaluate-claims t) (evaluate-at t) evaluate.Post
+evaluate-enum-known-m t c = search needs
+
+evaluate-sub-junction : (t : ℕ) → evaluate-lts.Need-sub-junction (evaluate-claims t) (evaluate-at t) evaluate.Post
+evaluate-sub-junction t c = inner-shallow (c .before .before .before .before .before .before .before .before .before .before .before .before .before .pre .1 .2 .known) (c .before .before .before .before .before .before .before .before .before .kind-at .ensures) (c .before .before .before .before .before .before .before .before .if1 .left) (c .before .before .before .before .before .before .before .if2 .left) (c .before .before .before .before .before .before .before .before .before .before .before .before .before .pre .1 .3) .0
+
+evaluate-junction-requires : (t : ℕ) → evaluate-lts.Need-junction-requires (evaluate-claims t) (evaluate-at t) evaluate.Post
+evaluate-junction-requires t c κs = (child-falls (c .before .before .before .before .before .before .before .before .before .before .before .before .before .args .left) 1 (c .before .before .before .before .before .before .before .before .before .before .before .before .before .pre .0) (inner-shallow (c .before .before .before .before .before .before .before .before .before .before .before .before .before .pre .1 .2 .known) (c .before .before .before .before .before .before .before .before .before .kind-at .ensures) (c .before .before .before .before .before .before .before .before .if1 .left) (c .before .before .before .before .before .before .before .if2 .left) (c .before .before .before .before .before .before .before .before .before .before .before .before .before .pre .1 .3) .0) (omega arith), (c .before .before .before .before .before .before .before .before .before .before .before .before .before .pre .1 .0, omega (arith, c .before .before .before .before .before .before .before .before .before .before .before .before .before .pre .1 .1), a-junction (c .before .before .before .before .before .before .before .before .before .before .before .before .before .pre .1 .2 .known) (c .before .before .before .before .before .before .before .before .before .kind-at .ensures) (c .before .before .before .before .before .before .before .before .if1 .left) (c .before .before .before .before .before .before .before .if2 .left) (c .before .before .before .before .before .start-at .ensures) (c .before .before .before .before .operator-at .ensures) _ (c .before .before .m .given .1) .0, a-junction (c .before .before .before .before .before .before .before .before .before .before .before .before .before .pre .1 .2 .known) (c .before .before .before .before .before .before .before .before .before .kind-at .ensures) (c .before .before .before .before .before .before .before .before .if1 .left) (c .before .before .before .before .before .before .before .if2 .left) (c .before .before .before .before .before .start-at .ensures) (c .before .before .before .before .operator-at .ensures) _ (c .before .before .m .given .1) .1, inner-shallow (c .before .before .before .before .before .before .before .before .before .before .before .before .before .pre .1 .2 .known) (c .before .before .before .before .before .before .before .before .before .kind-at .ensures) (c .before .before .before .before .before .before .before .before .if1 .left) (c .before .before .before .before .before .before .before .if2 .left) (c .before .before .before .before .before .before .before .before .before .before .before .before .before .pre .1 .3) .1))
+
+evaluate-enum-told : (t : ℕ) → evaluate-lts.Need-enum-told (evaluate-claims t) (evaluate-at t) evaluate.Post
+evaluate-enum-told t c = search needs
+
+evaluate-sub-evaluate : (t : ℕ) → evaluate-lts.Need-sub-evaluate (evaluate-claims t) (evaluate-at t) evaluate.Post
+evaluate-sub-evaluate t c = inner-shallow (c .before .before .before .before .before .before .before .before .before .before .before .before .pre .1 .2 .known) (c .before .before .before .before .before .before .before .before .kind-at .ensures) (c .before .before .before .before .before .before .before .if1 .left) (c .before .before .before .before .before .before .if2 .left) (c .before .before .before .before .before .before .before .before .before .before .before .before .pre .1 .3) .0
+
+evaluate-evaluate-requires : (t : ℕ) → evaluate-lts.Need-evaluate-requires (evaluate-claims t) (evaluate-at t) evaluate.Post
+evaluate-evaluate-requires t c κs = (inner-falls (c .before .before .before .before .before .before .before .before .before .before .before .before .args .left) (c .before .before .before .before .before .before .before .before .before .before .before .before .pre .0) (inner-shallow (c .before .before .before .before .before .before .before .before .before .before .before .before .pre .1 .2 .known) (c .before .before .before .before .before .before .before .before .kind-at .ensures) (c .before .before .before .before .before .before .before .if1 .left) (c .before .before .before .before .before .before .if2 .left) (c .before .before .before .before .before .before .before .before .before .before .before .before .pre .1 .3) .0), (c .before .before .before .before .before .before .before .before .before .before .before .before .pre .1 .0, omega (arith, c .before .before .before .before .before .before .before .before .before .before .before .before .pre .1 .1), a-negation (c .before .before .before .before .before .before .before .before .before .before .before .before .pre .1 .2 .known) (c .before .before .before .before .before .before .before .before .kind-at .ensures) (c .before .before .before .before .before .before .before .if1 .left) (c .before .before .before .before .before .before .if2 .left) (c .before .before .before .before .start-at .ensures) (c .before .before .before .operator-at .ensures) (c .before .enum-told .given .1), inner-shallow (c .before .before .before .before .before .before .before .before .before .before .before .before .pre .1 .2 .known) (c .before .before .before .before .before .before .before .before .kind-at .ensures) (c .before .before .before .before .before .before .before .if1 .left) (c .before .before .before .before .before .before .if2 .left) (c .before .before .before .before .before .before .before .before .before .before .before .before .pre .1 .3) .1))
+
+evaluate-negated-requires : (t : ℕ) → evaluate-lts.Need-negated-requires (evaluate-claims t) (evaluate-at t) evaluate.Post
+evaluate-negated-requires t c κs = search needs
+
+evaluate-enum-told-2 : (t : ℕ) → evaluate-lts.Need-enum-told-2 (evaluate-claims t) (evaluate-at t) evaluate.Post
+evaluate-enum-told-2 t c = search needs
+
+evaluate-sub-exists-at : (t : ℕ) → evaluate-lts.Need-sub-exists-at (evaluate-claims t) (evaluate-at t) evaluate.Post
+evaluate-sub-exists-at t c = inner-shallow (c .before .before .before .before .before .before .before .before .before .before .before .before .pre .1 .2 .known) (c .before .before .before .before .before .before .before .before .kind-at .ensures) (c .before .before .before .before .before .before .before .if1 .left) (c .before .before .before .before .before .before .if2 .left) (c .before .before .before .before .before .before .before .before .before .before .before .before .pre .1 .3) .0
+
+evaluate-exists-at-requires : (t : ℕ) → evaluate-lts.Need-exists-at-requires (evaluate-claims t) (evaluate-at t) evaluate.Post
+evaluate-exists-at-requires t c κs = (c .before .before .before .before .before .before .before .before .before .before .before .before .pre .1 .0, inner-node (c .before .before .before .before .before .before .before .before .before .before .before .before .pre .1 .2 .known) (c .before .before .before .before .before .before .before .before .kind-at .ensures) (c .before .before .before .before .before .before .before .if1 .left) (c .before .before .before .before .before .before .if2 .left), inner-shallow (c .before .before .before .before .before .before .before .before .before .before .before .before .pre .1 .2 .known) (c .before .before .before .before .before .before .before .before .kind-at .ensures) (c .before .before .before .before .before .before .before .if1 .left) (c .before .before .before .before .before .before .if2 .left) (c .before .before .before .before .before .before .before .before .before .before .before .before .pre .1 .3) .1)
+
+evaluate-enum-known-f : (t : ℕ) → evaluate-lts.Need-enum-known-f (evaluate-claims t) (evaluate-at t) evaluate.Post
+evaluate-enum-known-f t c = search needs
+
+evaluate-add-after-at : (t : ℕ) → evaluate-lts.Need-add-after-at (evaluate-claims t) (evaluate-at t) evaluate.Post
+evaluate-add-after-at t c = omega (arith, the-member (c .before .before .before .before .before .before .before .before .before .before .before .before .before .pre .1 .2 .known) (c .before .before .before .before .before .before .before .before .before .kind-at .ensures) (c .before .before .before .before .before .before .before .before .if1 .left) (c .before .before .before .before .before .before .before .if2 .left) .namePlace .1)
+
+evaluate-after-at-requires : (t : ℕ) → evaluate-lts.Need-after-at-requires (evaluate-claims t) (evaluate-at t) evaluate.Post
+evaluate-after-at-requires t c κs = node-room (c .before .before .before .before .before .before .before .before .before .before .before .before .before .pre .1 .0 .ready) (a-pair (c .before .before .before .before .before .before .before .before .before .before .before .before .before .pre .1 .2 .known) (c .before .before .before .before .before .before .before .before .before .kind-at .ensures) (c .before .before .before .before .before .before .before .before .if1 .left) (c .before .before .before .before .before .before .before .if2 .left) (c .before .before .before .before .before .start-at .ensures) (c .before .before .before .before .operator-at .ensures) _ (c .before .before .f .given .1) .0)
+
+evaluate-add-pair-at : (t : ℕ) → evaluate-lts.Need-add-pair-at (evaluate-claims t) (evaluate-at t) evaluate.Post
+evaluate-add-pair-at t c = omega (arith, the-member (c .before .before .before .before .before .before .before .before .before .before .before .before .before .before .before .pre .1 .2 .known) (c .before .before .before .before .before .before .before .before .before .before .before .kind-at .ensures) (c .before .before .before .before .before .before .before .before .before .before .if1 .left) (c .before .before .before .before .before .before .before .before .before .if2 .left) .namePlace .1)
+
+evaluate-sub-pair-at : (t : ℕ) → evaluate-lts.Need-sub-pair-at (evaluate-claims t) (evaluate-at t) evaluate.Post
+evaluate-sub-pair-at t c = inner-shallow (c .before .before .before .before .before .before .before .before .before .before .before .before .before .before .before .pre .1 .2 .known) (c .before .before .before .before .before .before .before .before .before .before .before .kind-at .ensures) (c .before .before .before .before .before .before .before .before .before .before .if1 .left) (c .before .before .before .before .before .before .before .before .before .if2 .left) (c .before .before .before .before .before .before .before .before .before .before .before .before .before .before .before .pre .1 .3) .0
+
+evaluate-pair-at-requires : (t : ℕ) → evaluate-lts.Need-pair-at-requires (evaluate-claims t) (evaluate-at t) evaluate.Post
+evaluate-pair-at-requires t c κs = (c .before .before .before .before .before .before .before .before .before .before .before .before .before .before .before .pre .1 .0, a-pair (c .before .before .before .before .before .before .before .before .before .before .before .before .before .before .before .pre .1 .2 .known) (c .before .before .before .before .before .before .before .before .before .before .before .kind-at .ensures) (c .before .before .before .before .before .before .before .before .before .before .if1 .left) (c .before .before .before .before .before .before .before .before .before .if2 .left) (c .before .before .before .before .before .before .before .start-at .ensures) (c .before .before .before .before .before .before .operator-at .ensures) _ (c .before .before .before .before .f .given .1) .0, rw (c .before .after-at .ensures) (a-pair (c .before .before .before .before .before .before .before .before .before .before .before .before .before .before .before .pre .1 .2 .known) (c .before .before .before .before .before .before .before .before .before .before .before .kind-at .ensures) (c .before .before .before .before .before .before .before .before .before .before .if1 .left) (c .before .before .before .before .before .before .before .before .before .if2 .left) (c .before .before .before .before .before .before .before .start-at .ensures) (c .before .before .before .before .before .before .operator-at .ensures) _ (c .before .before .before .before .f .given .1) .1), operands-shallow (c .before .before .before .before .before .before .before .before .before .before .before .before .before .before .before .pre .1 .2 .known) (c .before .before .before .before .before .before .before .before .before .before .before .kind-at .ensures) (c .before .before .before .before .before .before .before .before .before .before .if1 .left) (c .before .before .before .before .before .before .before .before .before .if2 .left) (c .before .before .before .before .before .before .before .start-at .ensures) (c .before .before .before .before .before .before .operator-at .ensures) _ (c .before .before .before .before .f .given .1) (c .before .before .before .before .before .before .before .before .before .before .before .before .before .before .before .pre .1 .3) .0, rw (c .before .after-at .ensures) (operands-shallow (c .before .before .before .before .before .before .before .before .before .before .before .before .before .before .before .pre .1 .2 .known) (c .before .before .before .before .before .before .before .before .before .before .before .kind-at .ensures) (c .before .before .before .before .before .before .before .before .before .before .if1 .left) (c .before .before .before .before .before .before .before .before .before .if2 .left) (c .before .before .before .before .before .before .before .start-at .ensures) (c .before .before .before .before .before .before .operator-at .ensures) _ (c .before .before .before .before .f .given .1) (c .before .before .before .before .before .before .before .before .before .before .before .before .before .before .before .pre .1 .3) .1))
+
+evaluate-enum-known-m-2 : (t : ℕ) → evaluate-lts.Need-enum-known-m-2 (evaluate-claims t) (evaluate-at t) evaluate.Post
+evaluate-enum-known-m-2 t c = search needs
+
+evaluate-sub-quantify : (t : ℕ) → evaluate-lts.Need-sub-quantify (evaluate-claims t) (evaluate-at t) evaluate.Post
+evaluate-sub-quantify t c = inner-shallow (c .before .before .before .before .before .before .before .before .before .before .before .before .before .pre .1 .2 .known) (c .before .before .before .before .before .before .before .before .before .kind-at .ensures) (c .before .before .before .before .before .before .before .before .if1 .left) (c .before .before .before .before .before .before .before .if2 .left) (c .before .before .before .before .before .before .before .before .before .before .before .before .before .pre .1 .3) .0
+
+evaluate-quantify-requires : (t : ℕ) → evaluate-lts.Need-quantify-requires (evaluate-claims t) (evaluate-at t) evaluate.Post
+evaluate-quantify-requires t c κs = (child-falls (c .before .before .before .before .before .before .before .before .before .before .before .before .before .args .left) 2 (c .before .before .before .before .before .before .before .before .before .before .before .before .before .pre .0) (inner-shallow (c .before .before .before .before .before .before .before .before .before .before .before .before .before .pre .1 .2 .known) (c .before .before .before .before .before .before .before .before .before .kind-at .ensures) (c .before .before .before .before .before .before .before .before .if1 .left) (c .before .before .before .before .before .before .before .if2 .left) (c .before .before .before .before .before .before .before .before .before .before .before .before .before .pre .1 .3) .0) (omega arith), (c .before .before .before .before .before .before .before .before .before .before .before .before .before .pre .1 .0, omega (arith, c .before .before .before .before .before .before .before .before .before .before .before .before .before .pre .1 .1, inner-shallow (c .before .before .before .before .before .before .before .before .before .before .before .before .before .pre .1 .2 .known) (c .before .before .before .before .before .before .before .before .before .kind-at .ensures) (c .before .before .before .before .before .before .before .before .if1 .left) (c .before .before .before .before .before .before .before .if2 .left) (c .before .before .before .before .before .before .before .before .before .before .before .before .before .pre .1 .3) .0), known-quantifier (c .before .before .before .before .before .before .before .before .before .before .before .before .before .pre .1 .2 .known) (c .before .before .before .before .before .before .before .before .before .kind-at .ensures) (c .before .before .before .before .before .before .before .before .if1 .left) (c .before .before .before .before .before .before .before .if2 .left) (c .before .before .before .before .before .start-at .ensures) (c .before .before .before .before .operator-at .ensures) _ (c .before .before .m2 .given .1), inner-shallow (c .before .before .before .before .before .before .before .before .before .before .before .before .before .pre .1 .2 .known) (c .before .before .before .before .before .before .before .before .before .kind-at .ensures) (c .before .before .before .before .before .before .before .before .if1 .left) (c .before .before .before .before .before .before .before .if2 .left) (c .before .before .before .before .before .before .before .before .before .before .before .before .before .pre .1 .3) .1))
+
+evaluate-enum-told-3 : (t : ℕ) → evaluate-lts.Need-enum-told-3 (evaluate-claims t) (evaluate-at t) evaluate.Post
+evaluate-enum-told-3 t c = search needs
+
+evaluate-enum-told-4 : (t : ℕ) → evaluate-lts.Need-enum-told-4 (evaluate-claims t) (evaluate-at t) evaluate.Post
+evaluate-enum-told-4 t c = search needs
+
+evaluate-same-length-3 : (t : ℕ) → evaluate-lts.Need-same-length-3 (evaluate-claims t) (evaluate-at t) evaluate.Post
+evaluate-same-length-3 t c = c .before .before .junction .ensures (a-junction (c .before .before .before .before .before .before .before .before .before .before .before .before .before .before .before .before .pre .1 .2 .known) (c .before .before .before .before .before .before .before .before .before .before .before .before .kind-at .ensures) (c .before .before .before .before .before .before .before .before .before .before .before .if1 .left) (c .before .before .before .before .before .before .before .before .before .before .if2 .left) (c .before .before .before .before .before .before .before .before .start-at .ensures) (c .before .before .before .before .before .before .before .operator-at .ensures) _ (c .before .before .before .before .before .m .given .1) .1 .given) (a-junction (c .before .before .before .before .before .before .before .before .before .before .before .before .before .before .before .before .pre .1 .2 .known) (c .before .before .before .before .before .before .before .before .before .before .before .before .kind-at .ensures) (c .before .before .before .before .before .before .before .before .before .before .before .if1 .left) (c .before .before .before .before .before .before .before .before .before .before .if2 .left) (c .before .before .before .before .before .before .before .before .start-at .ensures) (c .before .before .before .before .before .before .before .operator-at .ensures) _ (c .before .before .before .before .before .m .given .1) .1 .known) .left .long
+
+evaluate-returns-3 : (t : ℕ) → evaluate-lts.Need-returns-3 (evaluate-claims t) (evaluate-at t) evaluate.Post
+evaluate-returns-3 t c = λ d g. judged-junction g (c .before .before .before .before .before .before .before .before .before .before .before .before .kind-at .ensures) (c .before .before .before .before .before .before .before .before .before .before .before .if1 .left) (c .before .before .before .before .before .before .before .before .before .before .if2 .left) (c .before .before .before .before .before .before .before .before .start-at .ensures) (c .before .before .before .before .before .before .before .operator-at .ensures) (sheetIn (c .before .before .before .before .before .before .before .before .before .before .before .before .before .before .before .before .args .s .now)) (framesOf (c .before .before .before .before .before .before .before .before .before .before .before .before .before .before .before .before .args .s .now) (table (c .before .before .before .before .before .before .before .before .before .before .before .before .before .before .before .before .args .work .now)) (c .before .before .before .before .before .before .before .before .before .before .before .before .before .before .before .before .args .frames)) _ (c .before .before .before .before .before .m .given .1) (c .before .before .junction .ensures)
+
+evaluate-same-length-4 : (t : ℕ) → evaluate-lts.Need-same-length-4 (evaluate-claims t) (evaluate-at t) evaluate.Post
+evaluate-same-length-4 t c = c .before .before .before .evaluate .ensures (a-negation (c .before .before .before .before .before .before .before .before .before .before .before .before .before .before .before .before .pre .1 .2 .known) (c .before .before .before .before .before .before .before .before .before .before .before .before .kind-at .ensures) (c .before .before .before .before .before .before .before .before .before .before .before .if1 .left) (c .before .before .before .before .before .before .before .before .before .before .if2 .left) (c .before .before .before .before .before .before .before .before .start-at .ensures) (c .before .before .before .before .before .before .before .operator-at .ensures) (c .before .before .before .before .before .enum-told .given .1) .given) (a-negation (c .before .before .before .before .before .before .before .before .before .before .before .before .before .before .before .before .pre .1 .2 .known) (c .before .before .before .before .before .before .before .before .before .before .before .before .kind-at .ensures) (c .before .before .before .before .before .before .before .before .before .before .before .if1 .left) (c .before .before .before .before .before .before .before .before .before .before .if2 .left) (c .before .before .before .before .before .before .before .before .start-at .ensures) (c .before .before .before .before .before .before .before .operator-at .ensures) (c .before .before .before .before .before .enum-told .given .1) .known) .left .long
+
+evaluate-returns-4 : (t : ℕ) → evaluate-lts.Need-returns-4 (evaluate-claims t) (evaluate-at t) evaluate.Post
+evaluate-returns-4 t c = λ d g. judged-negation g (c .before .before .before .before .before .before .before .before .before .before .before .before .kind-at .ensures) (c .before .before .before .before .before .before .before .before .before .before .before .if1 .left) (c .before .before .before .before .before .before .before .before .before .before .if2 .left) (c .before .before .before .before .before .before .before .before .start-at .ensures) (c .before .before .before .before .before .before .before .operator-at .ensures) (sheetIn (c .before .before .before .before .before .before .before .before .before .before .before .before .before .before .before .before .args .s .now)) (framesOf (c .before .before .before .before .before .before .before .before .before .before .before .before .before .before .before .before .args .s .now) (table (c .before .before .before .before .before .before .before .before .before .before .before .before .before .before .before .before .args .work .now)) (c .before .before .before .before .before .before .before .before .before .before .before .before .before .before .before .before .args .frames)) (c .before .before .before .before .before .enum-told .given .1) (c .before .before .before .evaluate .ensures) (c .negated .ensures)
+
+evaluate-same-length-5 : (t : ℕ) → evaluate-lts.Need-same-length-5 (evaluate-claims t) (evaluate-at t) evaluate.Post
+evaluate-same-length-5 t c = c .before .before .exists-at .ensures .left .long
+
+evaluate-returns-5 : (t : ℕ) → evaluate-lts.Need-returns-5 (evaluate-claims t) (evaluate-at t) evaluate.Post
+evaluate-returns-5 t c = λ d g. judged-exists g (c .before .before .before .before .before .before .before .before .before .before .before .kind-at .ensures) (c .before .before .before .before .before .before .before .before .before .before .if1 .left) (c .before .before .before .before .before .before .before .before .before .if2 .left) (c .before .before .before .before .before .before .before .start-at .ensures) (c .before .before .before .before .before .before .operator-at .ensures) (sheetIn (c .before .before .before .before .before .before .before .before .before .before .before .before .before .before .before .args .s .now)) (framesOf (c .before .before .before .before .before .before .before .before .before .before .before .before .before .before .before .args .s .now) (table (c .before .before .before .before .before .before .before .before .before .before .before .before .before .before .before .args .work .now)) (c .before .before .before .before .before .before .before .before .before .before .before .before .before .before .before .args .frames)) (c .before .before .before .before .enum-told2 .given .1) (c .before .before .exists-at .ensures)
+
+evaluate-same-length-6 : (t : ℕ) → evaluate-lts.Need-same-length-6 (evaluate-claims t) (evaluate-at t) evaluate.Post
+evaluate-same-length-6 t c = c .before .before .pair-at .ensures .left .long
+
+evaluate-returns-6 : (t : ℕ) → evaluate-lts.Need-returns-6 (evaluate-claims t) (evaluate-at t) evaluate.Post
+evaluate-returns-6 t c = λ d g. judged-pair g (c .before .before .before .before .before .before .before .before .before .before .before .before .before .before .kind-at .ensures) (c .before .before .before .before .before .before .before .before .before .before .before .before .before .if1 .left) (c .before .before .before .before .before .before .before .before .before .before .before .before .if2 .left) (c .before .before .before .before .before .before .before .before .before .before .start-at .ensures) (c .before .before .before .before .before .before .before .before .before .operator-at .ensures) (sheetIn (c .before .before .before .before .before .before .before .before .before .before .before .before .before .before .before .before .before .before .args .s .now)) (framesOf (c .before .before .before .before .before .before .before .before .before .before .before .before .before .before .before .before .before .before .args .s .now) (table (c .before .before .before .before .before .before .before .before .before .before .before .before .before .before .before .before .before .before .args .work .now)) (c .before .before .before .before .before .before .before .before .before .before .before .before .before .before .before .before .before .before .args .frames)) _ (c .before .before .before .before .before .before .before .f .given .1) (rw (c .before .before .before .before .after-at .ensures) at (c .before .before .pair-at .ensures))
+
+evaluate-same-length-7 : (t : ℕ) → evaluate-lts.Need-same-length-7 (evaluate-claims t) (evaluate-at t) evaluate.Post
+evaluate-same-length-7 t c = c .before .before .quantify .ensures (known-quantifier (c .before .before .before .before .before .before .before .before .before .before .before .before .before .before .before .before .pre .1 .2 .known) (c .before .before .before .before .before .before .before .before .before .before .before .before .kind-at .ensures) (c .before .before .before .before .before .before .before .before .before .before .before .if1 .left) (c .before .before .before .before .before .before .before .before .before .before .if2 .left) (c .before .before .before .before .before .before .before .before .start-at .ensures) (c .before .before .before .before .before .before .before .operator-at .ensures) _ (c .before .before .before .before .before .m2 .given .1) .given) (known-quantifier (c .before .before .before .before .before .before .before .before .before .before .before .before .before .before .before .before .pre .1 .2 .known) (c .before .before .before .before .before .before .before .before .before .before .before .before .kind-at .ensures) (c .before .before .before .before .before .before .before .before .before .before .before .if1 .left) (c .before .before .before .before .before .before .before .before .before .before .if2 .left) (c .before .before .before .before .before .before .before .before .start-at .ensures) (c .before .before .before .before .before .before .before .operator-at .ensures) _ (c .before .before .before .before .before .m2 .given .1) .known) .left .long
+
+evaluate-returns-7 : (t : ℕ) → evaluate-lts.Need-returns-7 (evaluate-claims t) (evaluate-at t) evaluate.Post
+evaluate-returns-7 t c = λ d g. judged-quantifier g (c .before .before .before .before .before .before .before .before .before .before .before .before .kind-at .ensures) (c .before .before .before .before .before .before .before .before .before .before .before .if1 .left) (c .before .before .before .before .before .before .before .before .before .before .if2 .left) (c .before .before .before .before .before .before .before .before .start-at .ensures) (c .before .before .before .before .before .before .before .operator-at .ensures) (sheetIn (c .before .before .before .before .before .before .before .before .before .before .before .before .before .before .before .before .args .s .now)) (framesOf (c .before .before .before .before .before .before .before .before .before .before .before .before .before .before .before .before .args .s .now) (table (c .before .before .before .before .before .before .before .before .before .before .before .before .before .before .before .before .args .work .now)) (c .before .before .before .before .before .before .before .before .before .before .before .before .before .before .before .before .args .frames)) _ (c .before .before .before .before .before .m2 .given .1) (c .before .before .quantify .ensures)
+
+evaluate-same-length-8 : (t : ℕ) → evaluate-lts.Need-same-length-8 (evaluate-claims t) (evaluate-at t) evaluate.Post
+evaluate-same-length-8 t c = search needs
+
+evaluate-returns-8 : (t : ℕ) → evaluate-lts.Need-returns-8 (evaluate-claims t) (evaluate-at t) evaluate.Post
+evaluate-returns-8 t c = λ d g. absurd (given-carried (the-member g (c .before .before .before .before .before .before .before .kind-at .ensures) (c .before .before .before .before .before .before .if1 .left) (c .before .before .before .before .before .if2 .left)) _ (c .before .before .before .start-at .ensures) _ (c .before .before .operator-at .ensures) (c .enum-told3 .given .1))
+
+evaluate-same-length-9 : (t : ℕ) → evaluate-lts.Need-same-length-9 (evaluate-claims t) (evaluate-at t) evaluate.Post
+evaluate-same-length-9 t c = search needs
+
+evaluate-returns-9 : (t : ℕ) → evaluate-lts.Need-returns-9 (evaluate-claims t) (evaluate-at t) evaluate.Post
+evaluate-returns-9 t c = λ d g. absurd (given-known (the-member g (c .before .before .before .before .before .before .before .kind-at .ensures) (c .before .before .before .before .before .before .if1 .left) (c .before .before .before .before .before .if2 .left)) _ (c .before .before .before .start-at .ensures) _ (c .before .before .operator-at .ensures) (c .enum-told4 .given .1))
+
+abbrev junction-claims : ℕ → junction-lts.Claims
+junction-claims t = (after-at-reads.Asked, after-at-reads.Learnt, start-reads.Asked, start-reads.Learnt, evaluate-below t, evaluate.Post, join-reads.Asked, join-reads.Learnt)
+
+abbrev junction-Inv-loop : junction-lts.InvT-loop
+junction-Inv-loop s work₀ roots frames mode node left end truth₀ k₀ work truth k = Collecting s work₀ (sheetIn s) (framesOf s (table work₀) frames) (modeOf mode) node (left - 1) end work truth k
+
+abbrev junction-μ-loop : junction-lts.MeasureT-loop
+junction-μ-loop s work₀ roots frames mode node left end truth₀ k₀ work truth k = end - k
+
+junction-after-at-requires : (t : ℕ) → junction-lts.Need-after-at-requires (junction-claims t) (junction-at t) junction.Post junction-Inv-loop junction-μ-loop
+junction-after-at-requires t c κs = node-room (c .before .before .before .pre .1 .0 .ready) (c .before .before .before .pre .1 .2 .node)
+
+junction-start-requires : (t : ℕ) → junction-lts.Need-start-requires (junction-claims t) (junction-at t) junction.Post junction-Inv-loop junction-μ-loop
+junction-start-requires t c κs = search needs
+
+junction-add-k : (t : ℕ) → junction-lts.Need-add-k (junction-claims t) (junction-at t) junction.Post junction-Inv-loop junction-μ-loop
+junction-add-k t c = omega (arith, node-room (c .before .before .before .before .before .pre .1 .0 .ready) (c .before .before .before .before .before .pre .1 .2 .node) .node)
+
+junction-loop-holds : (t : ℕ) → junction-lts.Need-loop-holds (junction-claims t) (junction-at t) junction.Post junction-Inv-loop junction-μ-loop
+junction-loop-holds t c = collect-begin (c .before .before .before .before .before .args .s .now) (c .before .before .before .before .before .args .work .now) (sheetIn (c .before .before .before .before .before .args .s .now)) (framesOf (c .before .before .before .before .before .args .s .now) (table (c .before .before .before .before .before .args .work .now)) (c .before .before .before .before .before .args .frames)) (modeOf (c .before .before .before .before .before .args .mode)) (c .before .before .before .before .before .pre .1 .2) (c .before .before .before .before .before .pre .1 .3) (c .before .before .before .before .before .pre .1 .4) (c .before .after-at .ensures) (c .start .ensures)
+
+junction-sub-evaluate : (t : ℕ) → junction-lts.Need-sub-evaluate (junction-claims t) (junction-at t) junction.Post junction-Inv-loop junction-μ-loop
+junction-sub-evaluate t c = collect-one (c .before .before .before .before .before .before .before .before .pre .1 .2) (c .before .before .before .before .before .before .before .before .pre .1 .4)
+
+junction-evaluate-requires : (t : ℕ) → junction-lts.Need-evaluate-requires (junction-claims t) (junction-at t) junction.Post junction-Inv-loop junction-μ-loop
+junction-evaluate-requires t c κs = (element-falls (c .before .before .before .before .before .before .before .before .args .left) (c .before .before .before .before .before .before .before .before .pre .0) (collect-one (c .before .before .before .before .before .before .before .before .pre .1 .2) (c .before .before .before .before .before .before .before .before .pre .1 .4)), (working-after (c .before .before .before .before .before .before .before .before .pre .1 .0) (c .before .before .loop .inv .left), omega (arith, c .before .before .before .before .before .before .before .before .pre .1 .1), rw (c .before .before .loop .inv .left .rows) (record { given = child (c .before .before .loop .inv) (c .before .loop-test .taken) .first; known = child (c .before .before .loop .inv) (c .before .loop-test .taken) .here }), rw (c .before .before .loop .inv .left .rows) (child-shallow (c .before .before .loop .inv) (c .before .loop-test .taken))))
+
+junction-enum-known-t : (t : ℕ) → junction-lts.Need-enum-known-t (junction-claims t) (junction-at t) junction.Post junction-Inv-loop junction-μ-loop
+junction-enum-known-t t c = search needs
+
+junction-join-requires : (t : ℕ) → junction-lts.Need-join-requires (junction-claims t) (junction-at t) junction.Post junction-Inv-loop junction-μ-loop
+junction-join-requires t c κs = search needs
+
+junction-enum-known-n : (t : ℕ) → junction-lts.Need-enum-known-n (junction-claims t) (junction-at t) junction.Post junction-Inv-loop junction-μ-loop
+junction-enum-known-n t c = search needs
+
+junction-same-length : (t : ℕ) → junction-lts.Need-same-length (junction-claims t) (junction-at t) junction.Post junction-Inv-loop junction-μ-loop
+junction-same-length t c = collect-long (c .before .before .before .before .before .before .before .before .loop .inv) (c .before .before .before .before .before .before .before .loop-test .taken) (rw (c .before .before .before .before .before .before .before .before .loop .inv .left .rows) at (c .before .before .before .before .before .evaluate .ensures))
+
+junction-returns : (t : ℕ) → junction-lts.Need-returns (junction-claims t) (junction-at t) junction.Post junction-Inv-loop junction-μ-loop
+junction-returns t c = collect-unknown (c .before .before .before .before .before .before .before .before .loop .inv) (c .before .before .before .before .before .before .before .loop-test .taken) (rw (c .before .before .before .before .before .before .before .before .loop .inv .left .rows) at (c .before .before .before .before .before .evaluate .ensures)) _ (c .before .n .given .1)
+
+junction-enum-told : (t : ℕ) → junction-lts.Need-enum-told (junction-claims t) (junction-at t) junction.Post junction-Inv-loop junction-μ-loop
+junction-enum-told t c = search needs
+
+junction-same-length-2 : (t : ℕ) → junction-lts.Need-same-length-2 (junction-claims t) (junction-at t) junction.Post junction-Inv-loop junction-μ-loop
+junction-same-length-2 t c = collect-long (c .before .before .before .before .before .before .before .loop .inv) (c .before .before .before .before .before .before .loop-test .taken) (rw (c .before .before .before .before .before .before .before .loop .inv .left .rows) at (c .before .before .before .before .evaluate .ensures))
+
+junction-returns-2 : (t : ℕ) → junction-lts.Need-returns-2 (junction-claims t) (junction-at t) junction.Post junction-Inv-loop junction-μ-loop
+junction-returns-2 t c = collect-no-id (c .before .before .before .before .before .before .before .loop .inv) (c .before .before .before .before .before .before .loop-test .taken) (rw (c .before .before .before .before .before .before .before .loop .inv .left .rows) at (c .before .before .before .before .evaluate .ensures)) (c .enum-told .given .1)
+
+junction-after-at-requires-2 : (t : ℕ) → junction-lts.Need-after-at-requires-2 (junction-claims t) (junction-at t) junction.Post junction-Inv-loop junction-μ-loop
+junction-after-at-requires-2 t c κs = record { rows = omega (arith, c .before .before .before .before .before .before .before .before .before .before .before .before .before .before .before .before .pre .1 .0 .long, collect-long (c .before .before .before .before .before .before .before .before .before .before .loop .inv) (c .before .before .before .before .before .before .before .before .before .loop-test .taken) (rw (c .before .before .before .before .before .before .before .before .before .before .loop .inv .left .rows) at (c .before .before .before .before .before .before .before .evaluate .ensures))); node = child-below (c .before .before .before .before .before .before .before .before .before .before .loop .inv) (c .before .before .before .before .before .before .before .before .before .loop-test .taken) }
+
+junction-loop-less : (t : ℕ) → junction-lts.Need-loop-less (junction-claims t) (junction-at t) junction.Post junction-Inv-loop junction-μ-loop
+junction-loop-less t c = collect-less (c .before .before .before .before .before .before .before .before .before .before .before .loop .inv) (c .before .before .before .before .before .before .before .before .before .before .loop-test .taken) (rw (c .before .before .before .before .before .before .before .before .before .before .before .loop .inv .left .rows) at (c .before .before .before .before .before .before .before .before .evaluate .ensures)) (c .after-at2 .ensures)
+
+junction-loop-again : (t : ℕ) → junction-lts.Need-loop-again (junction-claims t) (junction-at t) junction.Post junction-Inv-loop junction-μ-loop
+junction-loop-again t c = collect-on (c .before .before .before .before .before .before .before .before .before .before .before .loop .inv) (c .before .before .before .before .before .before .before .before .before .before .loop-test .taken) (rw (c .before .before .before .before .before .before .before .before .before .before .before .loop .inv .left .rows) at (c .before .before .before .before .before .before .before .before .evaluate .ensures)) (c .before .before .before .before .t .given .1) (c .before .before .join .ensures) (c .after-at2 .ensures)
+
+junction-same-length-3 : (t : ℕ) → junction-lts.Need-same-length-3 (junction-claims t) (junction-at t) junction.Post junction-Inv-loop junction-μ-loop
+junction-same-length-3 t c = c .before .loop .inv .left .long
+
+junction-returns-3 : (t : ℕ) → junction-lts.Need-returns-3 (junction-claims t) (junction-at t) junction.Post junction-Inv-loop junction-μ-loop
+junction-returns-3 t c = collect-end (c .before .loop .inv) (c .loop-test .left)
+
+quantify-quantifier-at-requires : (t : ℕ) → quantify-lts.Need-quantifier-at-requires (quantify-claims t) (quantify-at t) quantify.Post
+quantify-quantifier-at-requires t c κs = (node-room (c .before .before .before .pre .1 .0 .ready) (record { left = 64; isNode = c .before .before .before .pre .1 .2 .known .node }), record { given = modeOf (c .before .before .before .args .mode); known = c .before .before .before .pre .1 .2 })
+
+quantify-start-at-requires : (t : ℕ) → quantify-lts.Need-start-at-requires (quantify-claims t) (quantify-at t) quantify.Post
+quantify-start-at-requires t c κs = node-room (c .before .before .before .before .before .pre .1 .0 .ready) (c .before .quantifier-at .ensures _ _ (c .before .before .before .before .before .pre .1 .2 .known) .bind .node)
+
+quantify-sub-resolve : (t : ℕ) → quantify-lts.Need-sub-resolve (quantify-claims t) (quantify-at t) quantify.Post
+quantify-sub-resolve t c = let p = c .before .before .before .quantifier-at .ensures _ _ (c .before .before .before .before .before .before .before .pre .1 .2 .known) in omega (arith, p .overDepth, c .before .before .before .before .before .before .before .pre .1 .3)
+
+quantify-resolve-requires : (t : ℕ) → quantify-lts.Need-resolve-requires (quantify-claims t) (quantify-at t) quantify.Post
+quantify-resolve-requires t c κs = let p = c .before .before .before .quantifier-at .ensures _ _ (c .before .before .before .before .before .before .before .pre .1 .2 .known) in (c .before .before .before .before .before .before .before .pre .1 .0, p .over, omega (arith, p .overDepth, c .before .before .before .before .before .before .before .pre .1 .3))
+
+quantify-enum-known-o : (t : ℕ) → quantify-lts.Need-enum-known-o (quantify-claims t) (quantify-at t) quantify.Post
+quantify-enum-known-o t c = search needs
+
+quantify-sub-each : (t : ℕ) → quantify-lts.Need-sub-each (quantify-claims t) (quantify-at t) quantify.Post
+quantify-sub-each t c = let p = c .before .before .before .before .before .before .before .before .before .before .quantifier-at .ensures _ _ (c .before .before .before .before .before .before .before .before .before .before .before .before .before .before .pre .1 .2 .known) in omega (arith, p .overDepth, c .before .before .before .before .before .before .before .before .before .before .before .before .before .before .pre .1 .3)
+
+quantify-each-requires : (t : ℕ) → quantify-lts.Need-each-requires (quantify-claims t) (quantify-at t) quantify.Post
+quantify-each-requires t c κs =
+    let p = c .before .before .before .before .before .before .before .before .before .before .quantifier-at .ensures _ _ (c .before .before .before .before .before .before .before .before .before .before .before .before .before .before .pre .1 .2 .known) in
+    let sheet = sheetIn (c .before .before .before .before .before .before .before .before .before .before .before .before .before .before .args .s .now) in
+    (quantify-falls (c .before .before .before .before .before .before .before .before .before .before .before .before .before .before .args .left) (c .before .before .before .before .before .before .before .before .before .before .before .before .before .before .pre .0), (working-after (c .before .before .before .before .before .before .before .before .before .before .before .before .before .before .pre .1 .0) (c .before .before .before .before .before .before .resolve .ensures .left), omega (arith, p .overDepth, c .before .before .before .before .before .before .before .before .before .before .before .before .before .before .pre .1 .1, c .before .before .before .before .before .before .before .before .before .before .before .before .before .before .pre .1 .3), over-fits sheet (c .before .before .before .before .before .before .before .before .before .before .before .before .before .before .args .frames) p (c .before .before .before .before .before .before .resolve .ensures) _ (c .before .before .o .given .1), rw (c .before .before .before .before .before .before .before .before .start-at .ensures) (text-row (p .bind) .onText), body-known sheet (c .before .before .before .before .before .before .before .before .before .before .before .before .before .before .args .frames) p (c .before .before .before .before .before .before .resolve .ensures), body-shallow sheet (c .before .before .before .before .before .before .before .before .before .before .before .before .before .before .args .frames) p (c .before .before .before .before .before .before .resolve .ensures) (c .before .before .before .before .before .before .before .before .before .before .before .before .before .before .pre .1 .3)))
+
+quantify-enum-told : (t : ℕ) → quantify-lts.Need-enum-told (quantify-claims t) (quantify-at t) quantify.Post
+quantify-enum-told t c = search needs
+
+quantify-enum-known-n : (t : ℕ) → quantify-lts.Need-enum-known-n (quantify-claims t) (quantify-at t) quantify.Post
+quantify-enum-known-n t c = search needs
+
+quantify-enum-told-2 : (t : ℕ) → quantify-lts.Need-enum-told-2 (quantify-claims t) (quantify-at t) quantify.Post
+quantify-enum-told-2 t c = search needs
+
+quantify-same-length : (t : ℕ) → quantify-lts.Need-same-length (quantify-claims t) (quantify-at t) quantify.Post
+quantify-same-length t c = quantify-long (sheetIn (c .before .before .before .before .before .before .before .before .before .before .before .before .before .before .before .before .before .args .s .now)) (c .before .before .before .before .before .before .before .before .before .before .before .before .before .before .before .before .before .args .frames) (c .before .before .before .before .before .before .before .before .before .before .before .before .before .quantifier-at .ensures _ _ (c .before .before .before .before .before .before .before .before .before .before .before .before .before .before .before .before .before .pre .1 .2 .known)) (c .before .before .before .before .before .before .before .before .before .resolve .ensures) (c .before .before .each .ensures)
+
+quantify-returns : (t : ℕ) → quantify-lts.Need-returns (quantify-claims t) (quantify-at t) quantify.Post
+quantify-returns t c = λ d h. quantify-each (sheetIn (c .before .before .before .before .before .before .before .before .before .before .before .before .before .before .before .before .before .args .s .now)) (c .before .before .before .before .before .before .before .before .before .before .before .before .before .before .before .before .before .args .frames) (c .before .before .before .before .before .before .before .before .before .before .before .before .before .quantifier-at .ensures _ _ h) (c .before .before .before .before .before .before .before .before .before .resolve .ensures) _ (c .before .before .before .before .before .o .given .1) (c .before .before .before .before .before .before .before .before .before .before .before .start-at .ensures) (c .before .before .each .ensures)
+
+quantify-same-length-2 : (t : ℕ) → quantify-lts.Need-same-length-2 (quantify-claims t) (quantify-at t) quantify.Post
+quantify-same-length-2 t c = c .before .before .before .before .resolve .ensures .left .long
+
+quantify-returns-2 : (t : ℕ) → quantify-lts.Need-returns-2 (quantify-claims t) (quantify-at t) quantify.Post
+quantify-returns-2 t c = λ d h. quantify-missing (sheetIn (c .before .before .before .before .before .before .before .before .before .before .before .before .args .s .now)) (c .before .before .before .before .before .before .before .before .before .before .before .before .args .frames) (c .before .before .before .before .before .before .before .before .quantifier-at .ensures _ _ h) (c .before .before .before .before .resolve .ensures) (c .enum-told .given .1)
+
+quantify-same-length-3 : (t : ℕ) → quantify-lts.Need-same-length-3 (quantify-claims t) (quantify-at t) quantify.Post
+quantify-same-length-3 t c = c .before .before .before .before .before .resolve .ensures .left .long
+
+quantify-returns-3 : (t : ℕ) → quantify-lts.Need-returns-3 (quantify-claims t) (quantify-at t) quantify.Post
+quantify-returns-3 t c = λ d h. quantify-unknown (sheetIn (c .before .before .before .before .before .before .before .before .before .before .before .before .before .args .s .now)) (c .before .before .before .before .before .before .before .before .before .before .before .before .before .args .frames) (c .before .before .before .before .before .before .before .before .before .quantifier-at .ensures _ _ h) (c .before .before .before .before .before .resolve .ensures) _ (c .before .n .given .1)
+
+quantify-same-length-4 : (t : ℕ) → quantify-lts.Need-same-length-4 (quantify-claims t) (quantify-at t) quantify.Post
+quantify-same-length-4 t c = c .before .before .before .before .resolve .ensures .left .long
+
+quantify-returns-4 : (t : ℕ) → quantify-lts.Need-returns-4 (quantify-claims t) (quantify-at t) quantify.Post
+quantify-returns-4 t c = λ d h. quantify-no-id (sheetIn (c .before .before .before .before .before .before .before .before .before .before .before .before .args .s .now)) (c .before .before .before .before .before .before .before .before .before .before .before .before .args .frames) (c .before .before .before .before .before .before .before .before .quantifier-at .ensures _ _ h) (c .before .before .before .before .resolve .ensures) (c .enum-told2 .given .1)
+
+pub +each+evaluate+junction+quantify-spec : {M : Type 1} → statement M
++each+evaluate+junction+quantify-spec =
+    close μ-each μ-evaluate μ-junction μ-quantify (λ t. each-lts.spec (each-claims t) (each-at t) each.Post
+    each-Inv-loop
+    each-μ-loop
+    (each-class-of-requires t)
+    (each-returns t)
+    (each-start-requires t)
+    (each-of-requires t)
+    (each-loop-holds t)
+    (each-next-requires t)
+    (each-enum-told t)
+    (each-same-length t)
+    (each-returns-2 t)
+    (each-enum-known-x t)
+    (each-value-node-requires t)
+    (each-part-of-requires t)
+    (each-push-requires t)
+    (each-evaluate-requires t)
+    (each-enum-known-t t)
+    (each-join-requires t)
+    (each-settles-requires t)
+    (each-same-length-2 t)
+    (each-returns-3 t)
+    (each-enum-known-n t)
+    (each-same-length-3 t)
+    (each-returns-4 t)
+    (each-enum-told-2 t)
+    (each-same-length-4 t)
+    (each-returns-5 t)
+    (each-loop-less t)
+    (each-loop-again t))
+    (λ t. evaluate-lts.spec (evaluate-claims t) (evaluate-at t) evaluate.Post
+    (evaluate-kind-at-requires t)
+    (evaluate-same-length t)
+    (evaluate-returns t)
+    (evaluate-same-length-2 t)
+    (evaluate-returns-2 t)
+    (evaluate-add-start-at t)
+    (evaluate-start-at-requires t)
+    (evaluate-add-inner t)
+    (evaluate-operator-at-requires t)
+    (evaluate-enum-known-m t)
+    (evaluate-sub-junction t)
+    (evaluate-junction-requires t)
+    (evaluate-enum-told t)
+    (evaluate-sub-evaluate t)
+    (evaluate-evaluate-requires t)
+    (evaluate-negated-requires t)
+    (evaluate-enum-told-2 t)
+    (evaluate-sub-exists-at t)
+    (evaluate-exists-at-requires t)
+    (evaluate-enum-known-f t)
+    (evaluate-add-after-at t)
+    (evaluate-after-at-requires t)
+    (evaluate-add-pair-at t)
+    (evaluate-sub-pair-at t)
+    (evaluate-pair-at-requires t)
+    (evaluate-enum-known-m-2 t)
+    (evaluate-sub-quantify t)
+    (evaluate-quantify-requires t)
+    (evaluate-enum-told-3 t)
+    (evaluate-enum-told-4 t)
+    (evaluate-same-length-3 t)
+    (evaluate-returns-3 t)
+    (evaluate-same-length-4 t)
+    (evaluate-returns-4 t)
+    (evaluate-same-length-5 t)
+    (evaluate-returns-5 t)
+    (evaluate-same-length-6 t)
+    (evaluate-returns-6 t)
+    (evaluate-same-length-7 t)
+    (evaluate-returns-7 t)
+    (evaluate-same-length-8 t)
+    (evaluate-returns-8 t)
+    (evaluate-same-length-9 t)
+    (evaluate-returns-9 t))
+    (λ t. junction-lts.spec (junction-claims t) (junction-at t) junction.Post
+    junction-Inv-loop
+    junction-μ-loop
+    (junction-after-at-requires t)
+    (junction-start-requires t)
+    (junction-add-k t)
+    (junction-loop-holds t)
+    (junction-sub-evaluate t)
+    (junction-evaluate-requires t)
+    (junction-enum-known-t t)
+    (junction-join-requires t)
+    (junction-enum-known-n t)
+    (junction-same-length t)
+    (junction-returns t)
+    (junction-enum-told t)
+    (junction-same-length-2 t)
+    (junction-returns-2 t)
+    (junction-after-at-requires-2 t)
+    (junction-loop-less t)
+    (junction-loop-again t)
+    (junction-same-length-3 t)
+    (junction-returns-3 t))
+    λ t. quantify-lts.spec (quantify-claims t) (quantify-at t) quantify.Post
+    (quantify-quantifier-at-requires t)
+    (quantify-start-at-requires t)
+    (quantify-sub-resolve t)
+    (quantify-resolve-requires t)
+    (quantify-enum-known-o t)
+    (quantify-sub-each t)
+    (quantify-each-requires t)
+    (quantify-enum-told t)
+    (quantify-enum-known-n t)
+    (quantify-enum-told-2 t)
+    (quantify-same-length t)
+    (quantify-returns t)
+    (quantify-same-length-2 t)
+    (quantify-returns-2 t)
+    (quantify-same-length-3 t)
+    (quantify-returns-3 t)
+    (quantify-same-length-4 t)
+    (quantify-returns-4 t)
