@@ -12,12 +12,12 @@ use Rattle.reader.proofs.Laws.{bind-ok, bind-refused, ok-injective, sameBytes-r
 use Rattle.reader.proofs.Walk.{find-here, members-done, values-more}
 use Rattle.reader.specs.Bytes.{Bytes, find}
 use Rattle.reader.specs.Held.{HasNode}
-use Rattle.reader.specs.Json.{Value, Values, array, bool, cons, nil, null, number, object, text}
-use Rattle.reader.specs.Limits.{depth, depthIn, depthOf}
+use Rattle.reader.specs.Json.{Value, Values, object}
+use Rattle.reader.specs.Limits.{depth, depthIn}
 use Rattle.reader.specs.Refusal.{Result, ok, wrongShape, _>>=_}
-use Rattle.reader.specs.Sorted.{sorted, sortedIn, sortedOf}
+use Rattle.reader.specs.Sorted.{sorted, sortedIn}
 use Rattle.reader.specs.Spans.{textAt}
-use Rattle.reader.specs.Table.{afterAt, kindAt, membersAt, startAt, valueAt, valuesAt}
+use Rattle.reader.specs.Table.{afterAt, kindAt, startAt, valueAt, valuesAt}
 use Rattle.semantics.specs.Evaluate.{Answer}
 use Rattle.semantics.specs.Names.{Names}
 use Rattle.semantics.specs.Told.{truthOf}
@@ -27,11 +27,10 @@ use Rattle.semantics.specs.declared.truth.Truth.the-variants as truths
 use Rattle.sheet.proofs.Given.{ObjectHere, object-here}
 use Rattle.sheet.proofs.GivenConditions.{ConditionsGive, NextCondition, OneMember, conditions-done, conditions-next, given-exists, given-junction, given-negation, given-pair, literal-false, literal-true, one-member}
 use Rattle.sheet.proofs.Shapes.{object-at}
-use Rattle.sheet.proofs.SortedMembers.{find-sorted, mapped}
 use Rattle.sheet.proofs.Verdicts.{never}
 use Rattle.sheet.specs.Accepted.{Gives, Known}
 use Rattle.sheet.specs.Answers.{formOf, modeOf, operatorOf}
-use Rattle.sheet.specs.Condition.{Condition, Conditions, Form, Mode, condition, conditionArray, conditionObject, exists, formed, negation, oneMember, operators, pair, twoOf}
+use Rattle.sheet.specs.Condition.{Condition, Conditions, Mode, condition, conditionArray, conditionObject, exists, formed, negation, oneMember, operators, pair}
 use Rattle.sheet.specs.Sheet.{Sheet}
 use Rattle.sheet.specs.declared.condition.Form.{Form as CodeForm}
 use Rattle.sheet.specs.declared.condition.Mode.{Mode as CodeMode}
@@ -39,60 +38,16 @@ use Rattle.sheet.specs.declared.condition.Operator.{Operator as CodeOperator}
 use Rattle.sheet.specs.declared.condition.Operator.the-variants as ops
 use Rattle.operands.proofs.Marking.{left-none, left-then}
 use Rattle.operands.proofs.Ordered.{node-below}
-use Rattle.operands.proofs.Trees.{array-row}
 use Rattle.operands.specs.Lazy as lazy
 use Rattle.operands.specs.Marks.{Left}
-use Rattle.operands.specs.Stored.{HasKind, itemsOf, table, tree}
+use Rattle.operands.specs.Stored.{HasKind, table, tree}
 use Rattle.evaluation.specs.Answers.{EvaluatedAs, Marks, outcomeOf}
 use Rattle.evaluation.specs.Conditions.{Negated, QuantifierAt}
 use Rattle.evaluation.specs.Judge.{judge, judgeAll}
 use Rattle.evaluation.specs.declared.comparison.Outcome.{Outcome}
 use Rattle.evaluation.specs.declared.comparison.Outcome.the-variants as outcomes
 use Rattle.evaluation.proofs.Joined.{Joining, joining-last, joining-none, joining-twice}
-use Rattle.evaluation.proofs.Limits.{find-shallow}
-
--- ---- how deep what is inside nests
-module _ {s : Bytes} {t : List ℕ} {n : ℕ} where
-  array-depth : HasKind s t n 5 → depth (tree s t n) ≡ 1 + depthIn (sortedIn (valuesAt s t (n + 1) (afterAt t n)))
-  unfolding depth itemsOf
-  array-depth h = ap depth (array-row h .value)
-
-  member-shallow : {c : Condition} → Gives condition s t n c → OneMember s t n c → depth (tree s t (n + 1 + 1)) < depth (tree s t n)
-  unfolding tree sorted depth condition oneMember
-  member-shallow {c} g o = go (ltb (n + 1) (afterAt t n)) refl
-    where
-      x : ObjectHere s t n
-      x = object-here (g .node) (g .isTidy) _ (object-at (g .node) (o .isKind) .0)
-
-      go : (b : Bool) → ltb (n + 1) (afterAt t n) ≡ b → depth (sorted (valueAt s t (n + 1 + 1))) < depth (sorted (valueAt s t n))
-      go true q =
-          let name = textAt s (startAt t (n + 1)) in
-          let f = find-sorted name (membersAt s t (n + 1) (afterAt t n)) (x .isTidy) ∙ ap (mapped sorted) (find-here s t name (x .members) (ltb-true (n + 1) (afterAt t n) q) (sameBytes-refl name)) in
-          let d : depth (sorted (valueAt s t n)) ≡ 1 + depthOf (sortedOf (membersAt s t (n + 1) (afterAt t n))) = ap (λ (v : Value). depth (sorted v)) (x .value) in
-          let h = find-shallow name (sortedOf (membersAt s t (n + 1) (afterAt t n))) (sorted (valueAt s t (n + 1 + 1))) f in
-          omega arith
-      go false q = never wrongShape c (sym (ap (λ (v : Value). condition (sorted v)) (x .value ∙ ap object (members-done s t (x .members) (ltb-false (n + 1) (afterAt t n) q)))) ∙ g .is)
-
--- the two operands of a pair form
-two-of : (f : Form) (v : Value) (c : Condition) → twoOf f v ≡ ok c → (a : Value) × (b : Value) × (v ≡ array (cons a (cons b nil))) × (c ≡ pair f a b)
-two-of f null c e = never wrongShape c e
-two-of f (bool b) c e = never wrongShape c e
-two-of f (number s) c e = never wrongShape c e
-two-of f (text s) c e = never wrongShape c e
-two-of f (object ms) c e = never wrongShape c e
-two-of f (array nil) c e = never wrongShape c e
-two-of f (array (cons v nil)) c e = never wrongShape c e
-two-of f (array (cons v (cons w nil))) c e = (v, w, refl, sym (ok-injective e))
-two-of f (array (cons v (cons w (cons x vs)))) c e = never wrongShape c e
-
-pair-shallow : (f : Form) (v a b : Value) (c : Condition) → twoOf f v ≡ ok c → c ≡ pair f a b → (depth a < depth v) × (depth b < depth v)
-unfolding depth
-pair-shallow f v a b c e q =
-    let x = two-of f v c e in
-    let i : x .0 ≡ a = cc (x .3, q) in
-    let j : x .1 ≡ b = cc (x .3, q) in
-    let d = ap depth (x .2) in
-    (omega (arith, ap depth i), omega (arith, ap depth j))
+use Rattle.evaluation.proofs.Shallow.{array-depth, member-shallow, pair-shallow}
 
 -- ---- a condition by its kind
 module _ (sheet : Sheet Condition) (fs : lazy.Frames) {s : Bytes} {w : List ℕ} {n : ℕ} {c : Condition} (g : Gives condition s (table w) n c) {k : ℕ} (q : k ≡ kindAt (table w) n) where
@@ -109,6 +64,18 @@ module _ {s : Bytes} {t : List ℕ} {n : ℕ} {c : Condition} (g : Gives conditi
   pub the-member : OneMember s t n c
   the-member = one-member g (λ e. notTrue (q ∙ e)) (λ e. notFalse (q ∙ e))
 
+  -- it nests less deep
+  less-deep : depth (tree s t (n + 1 + 1)) < depth (tree s t n)
+  unfolding sorted condition oneMember
+  less-deep = go (ltb (n + 1) (afterAt t n)) refl
+    where
+      x : ObjectHere s t n
+      x = object-here (g .node) (g .isTidy) _ (object-at (g .node) (the-member .isKind) .0)
+
+      go : (b : Bool) → ltb (n + 1) (afterAt t n) ≡ b → depth (tree s t (n + 1 + 1)) < depth (tree s t n)
+      go true i = let name = textAt s (startAt t (n + 1)) in member-shallow x name (n + 1 + 1) (find-here s t name (x .members) (ltb-true (n + 1) (afterAt t n) i) (sameBytes-refl name))
+      go false i = never wrongShape c (sym (ap (λ (v : Value). condition (sorted v)) (x .value ∙ ap object (members-done s t (x .members) (ltb-false (n + 1) (afterAt t n) i)))) ∙ g .is)
+
   two-on : n + 1 + 1 ≡ n + 2
   two-on = omega arith
 
@@ -117,7 +84,7 @@ module _ {s : Bytes} {t : List ℕ} {n : ℕ} {c : Condition} (g : Gives conditi
 
   pub inner-shallow : {l : ℕ} → depth (tree s t n) ≤ l → (1 ≤ l) × (depth (tree s t (n + 2)) ≤ l - 1)
   inner-shallow h =
-      let d = member-shallow g the-member in
+      let d = less-deep in
       let e = ap (λ (i : ℕ). depth (tree s t i)) two-on in
       (omega arith, omega arith)
 
@@ -140,7 +107,7 @@ module _ {s : Bytes} {t : List ℕ} {n : ℕ} {c : Condition} (g : Gives conditi
     operands-shallow m e {l} h =
         let x = given-pair the-member a p r f m e in
         let d = pair-shallow (formOf m) (sorted (valueAt s t (n + 1 + 1))) (sorted (valueAt s t (n + 1 + 1 + 1))) (sorted (valueAt s t (afterAt t (n + 1 + 1 + 1)))) c (made (ops.Pair m) e) (x .is) in
-        let b = member-shallow g the-member in
+        let b = less-deep in
         subst (λ (i : ℕ). (depth (tree s t (i + 1)) ≤ l - 1) × (depth (tree s t (afterAt t (i + 1))) ≤ l - 1)) two-on (omega arith, omega arith)
 
     a-quantifier : (m : CodeMode) → r ≡ ops.Quantified m → QuantifierAt s t (modeOf m) (n + 2) c

@@ -5,5 +5,6 @@ pub mod Judging
 pub mod After
 pub mod Entering
 pub mod Joined
+pub mod Shallow
 pub mod Junctions
 pub mod Quantifiers

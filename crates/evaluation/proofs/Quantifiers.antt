@@ -17,9 +17,8 @@ use Rattle.reader.specs.Bytes.{Bytes, ascii, find}
 use Rattle.reader.specs.Cursor.{OnText}
 use Rattle.reader.specs.Held.{AreMembers, HasNode, IsNode}
 use Rattle.reader.specs.Json.{Members, Value, entries, object}
-use Rattle.reader.specs.Limits.{depth, depthOf}
+use Rattle.reader.specs.Limits.{depth}
 use Rattle.reader.specs.Refusal.{Refusal, Result, ok, refused, _>>=_}
-use Rattle.reader.specs.Sorted.{sorted, sortedOf}
 use Rattle.reader.specs.Spans.{textAt}
 use Rattle.reader.specs.Table.{afterAt, kindAt, membersAt, startAt, valueAt}
 use Rattle.reader.specs.declared.rows.Found.{Found}
@@ -34,7 +33,6 @@ use Rattle.semantics.specs.declared.truth.Truth.the-variants as truths
 use Rattle.sheet.proofs.Given.{ObjectHere, text-given}
 use Rattle.sheet.proofs.GivenConditions.{quantified-here}
 use Rattle.sheet.proofs.Shapes.{object-at}
-use Rattle.sheet.proofs.SortedMembers.{find-sorted, mapped}
 use Rattle.sheet.proofs.Walks.{full-members}
 use Rattle.sheet.specs.Accepted.{Gives, Known, nodeOf}
 use Rattle.sheet.specs.Answers.{Located}
@@ -72,7 +70,7 @@ use Rattle.evaluation.specs.declared.comparison.Outcome.the-variants as 
 use Rattle.evaluation.specs.declared.condition.Quantifier.{Quantifier}
 use Rattle.evaluation.proofs.Joined.{Joining, joining-last, joining-none, joining-twice}
 use Rattle.evaluation.proofs.Judging.{is-missing, is-present, no-id-first, unknown-first}
-use Rattle.evaluation.proofs.Limits.{find-shallow}
+use Rattle.evaluation.proofs.Shallow.{member-shallow}
 
 -- ---- its members
 -- a node is the same among the rows and among all words
@@ -105,14 +103,9 @@ module _ (s : Bytes) (w : List ℕ) (long : 12288 ≤ length w) where
       let p : membersAt s w (n + 1) (afterAt w n) ≡ membersAt s (table w) (n + 1) (afterAt (table w) n) = cc (q) in
       (subst (AreMembers s w 64 (n + 1)) e (full-members (o .1)), ap (membersAt s w (n + 1)) (sym e) ∙ p)
 
--- a member nests less deep than its object
-member-shallow : {s : Bytes} {t : List ℕ} {n : ℕ} → ObjectHere s t n → (k : Bytes) (j : ℕ) {r : Found} → FoundTold s t (find k (entries (membersAt s t (n + 1) (afterAt t n)))) r → r ≡ founds.At j → depth (tree s t j) < depth (tree s t n)
-unfolding foundOf tree sorted depth
-member-shallow {s} {t} {n} x k j {r} f e =
-    let i : find k (entries (sortedOf (membersAt s t (n + 1) (afterAt t n)))) ≡ some (sorted (valueAt s t j)) = find-sorted k (membersAt s t (n + 1) (afterAt t n)) (x .isTidy) ∙ ap (mapped sorted) (f .answers ∙ ap (foundOf s t) e) in
-    let d : depth (sorted (valueAt s t n)) ≡ 1 + depthOf (sortedOf (membersAt s t (n + 1) (afterAt t n))) = ap (λ (v : Value). depth (sorted v)) (x .value) in
-    let l = find-shallow k (sortedOf (membersAt s t (n + 1) (afterAt t n))) (sorted (valueAt s t j)) i in
-    omega arith
+found-shallow : {s : Bytes} {t : List ℕ} {n : ℕ} → ObjectHere s t n → (k : Bytes) (j : ℕ) {r : Found} → FoundTold s t (find k (entries (membersAt s t (n + 1) (afterAt t n)))) r → r ≡ founds.At j → depth (tree s t j) < depth (tree s t n)
+unfolding foundOf
+found-shallow {s} {t} x k j f e = member-shallow x k j (f .answers ∙ ap (foundOf s t) e)
 
 node-is : {r : Found} {j : ℕ} (q : ℕ) → q ≡ nodeOf r → r ≡ founds.At j → q ≡ j
 unfolding nodeOf
@@ -152,8 +145,8 @@ module _ {s : Bytes} (w : List ℕ) {m : Mode} {n : ℕ} {c : Condition} (long :
         body = x .that;
         gives = subst (λ (j : ℕ). Gives condition s (table w) j (x .that)) (sym isBody) (x .inside);
         is = x .is ∙ ap (λ (y : Bytes). quantified m (tree s (table w) (x .over)) y (x .that)) (b .bytes) ∙ ap (λ (j : ℕ). quantified m (tree s (table w) (x .over)) (textAt s (startAt (table w) j)) (x .that)) (sym isBind) ∙ ap (λ (j : ℕ). quantified m (tree s (table w) j) (textAt s (startAt (table w) (q .bind))) (x .that)) (sym isOver);
-        overDepth = subst (λ (j : ℕ). depth (tree s (table w) j) < depth (tree s (table w) n)) (sym isOver) (member-shallow here (ascii "in") (x .over) fIn (x .isIn));
-        bodyDepth = subst (λ (j : ℕ). depth (tree s (table w) j) < depth (tree s (table w) n)) (sym isBody) (member-shallow here (ascii "that") (x .body) fThat (x .isThat));
+        overDepth = subst (λ (j : ℕ). depth (tree s (table w) j) < depth (tree s (table w) n)) (sym isOver) (found-shallow here (ascii "in") (x .over) fIn (x .isIn));
+        bodyDepth = subst (λ (j : ℕ). depth (tree s (table w) j) < depth (tree s (table w) n)) (sym isBody) (found-shallow here (ascii "that") (x .body) fThat (x .isThat));
       }
 
 -- ---- what it goes over
