@@ -16,3 +16,4 @@ pub mod Opening
 pub mod Calls
 pub mod Entries
 pub mod AlikeRules
+pub mod Unmarking

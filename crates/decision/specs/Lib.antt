@@ -11,3 +11,4 @@ pub mod Demand
 pub mod Opening
 pub mod Called
 pub mod AlikeRules
+pub mod Alone

@@ -1,8 +1,10 @@
 // Decisions on an accepted sheet. The definitions stand in specs/, the laws in proofs/.
 pub mod admit;
+pub mod alone;
 pub mod call;
 pub mod eligible;
 pub mod entry;
+pub mod marks;
 pub mod open;
 pub mod outcomes;
 pub mod sources;
