@@ -38,16 +38,12 @@ use Rattle.decision.specs.Told.{Entered, Told, admission}
 use Rattle.decision.specs.declared.outcomes.Chosen.{Chosen}
 use Rattle.decision.specs.declared.outcomes.Chosen.the-variants as chosen
 use Rattle.decision.specs.declared.outcomes.Placed.{Placed as Spot}
-use Rattle.decision.proofs.Starting.{outcome-members}
+use Rattle.decision.proofs.Starting.{given-node, outcome-members}
 
 -- ---- an outcome's name
 module _ {s : Bytes} {w : List ℕ} {n e : ℕ} (p : e ≡ afterAt w n) {m : OutcomeMembers} (named : OutcomeNamed s w (membersAt s w (n + 1) e) m) {x : ℕ} (q : x ≡ nodeOf (m .name)) where
   name-node : {o : Outcome Condition} → Gives (anOutcome condition) s w n o → Gives aText s w x (o .name)
-  unfolding nodeOf
-  name-node {o} g =
-      let y = outcome-members p named g .name in
-      let z : x ≡ y .node = q ∙ ap nodeOf (y .found) in
-      subst (λ (i : ℕ). Gives aText s w i (o .name)) (sym z) (y .gives)
+  name-node g = given-node (outcome-members p named g .name) q
 
   pub name-room : Known (Gives (anOutcome condition) s w n) → (3 * x + 3 ≤ length w) × (x < 4096)
   name-room g = room (name-node (g .known) .node)

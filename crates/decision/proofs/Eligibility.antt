@@ -70,7 +70,7 @@ module _ (w : List ℕ) {f : Found} where
 
 -- ---- states
 module _ (s : Bytes) (w : List ℕ) {f : Found} where
-  state-text : {o : Option Bytes} (n : ℕ) → f ≡ founds.At n → MayGive aText s w f o → {a : ℕ} → a ≡ startAt w n → o ≡ some (textAt s a)
+  pub state-text : {o : Option Bytes} (n : ℕ) → f ≡ founds.At n → MayGive aText s w f o → {a : ℕ} → a ≡ startAt w n → o ≡ some (textAt s a)
   state-text n q g p = let t = there aText s w n q g in t .1 ∙ ap some (text-given (t .2) .bytes ∙ ap (textAt s) (sym p))
 
   pub state-on-text : (n : ℕ) → f ≡ founds.At n → Known (MayGive aText s w f) → {a : ℕ} → a ≡ startAt w n → OnText s a 0

@@ -8,7 +8,7 @@ use mathlib.Core.Path.{ap, refl, sym, _∙_, _≡_}
 use Prim.Native.Nat.{ℕ, suc, _+_, _≤_}
 use native.Mathlib.Nat.{le-refl, le-trans}
 use native.Mathlib.Omega.{arith}
-use Rattle.decision.proofs.Rules.{lost-ascending}
+use Rattle.decision.proofs.LaterRules.{lost-ascending}
 use Rattle.decision.specs.Outcomes.{Placed, at, eligible, guard as Decide·guard, select}
 use Rattle.decision.specs.Demand.{isGuarded}
 use Rattle.semantics.proofs.Later.{Both, Every, Fact, Later, Lost, every-left, every-right, later-evaluate, truthGone, truthKept}

@@ -1,4 +1,4 @@
-pub mod Rules
+pub mod LaterRules
 pub mod Guards
 pub mod Repeat
 pub mod Selected
@@ -17,3 +17,5 @@ pub mod Calls
 pub mod Entries
 pub mod AlikeRules
 pub mod Unmarking
+pub mod Settling
+pub mod Checking

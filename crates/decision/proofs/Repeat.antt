@@ -10,7 +10,7 @@ use native.Mathlib.Omega.{arith}
 use lib.Dec.{leb}
 use lib.ListN.{length}
 use Rattle.decision.proofs.Guards.{GuardRefused, GuardShape, GuardTried, GuardsLater, chosen, exhausted, guard-at, later-select, stopped}
-use Rattle.decision.proofs.Rules.{RuleRefused, RuleShape, RulesLater, later-check, rule-at}
+use Rattle.decision.proofs.LaterRules.{RuleRefused, RuleShape, RulesLater, later-check, rule-at}
 use Rattle.decision.specs.Decide.{asAdmitted, decideCall}
 use Rattle.decision.specs.Outcomes.{Placed, at, eligible, firstFrom, guard as Decide·guard, select}
 use Rattle.decision.specs.Rules.{check}

@@ -9,12 +9,13 @@ use native.Mathlib.Omega.{arith}
 use Rattle.reader.specs.Answers.{FoundTold}
 use Rattle.reader.specs.Bytes.{Bytes, ascii, find, isOneOf}
 use Rattle.reader.specs.Held.{AreMembers}
-use Rattle.reader.specs.Json.{entries}
+use Rattle.reader.specs.Json.{Value, entries}
+use Rattle.reader.specs.Refusal.{Result}
 use Rattle.reader.specs.Table.{afterAt, kindAt, membersAt}
 use Rattle.reader.specs.declared.rows.Found.{Found}
 use Rattle.reader.specs.declared.rows.Found.the-variants as founds
 use Rattle.sheet.proofs.Given.{EffectHere, ObjectHere, byMove, byWord, effect-given, move-given, outcome-given}
-use Rattle.sheet.specs.Accepted.{EachGives, Given, Gives, MayGive, OutcomeGives}
+use Rattle.sheet.specs.Accepted.{EachGives, Given, Gives, MayGive, OutcomeGives, nodeOf}
 use Rattle.sheet.specs.Condition.{Condition, condition}
 use Rattle.sheet.specs.Kinds.{someTexts}
 use Rattle.sheet.specs.Named.{MoveNamed, OutcomeNamed}
@@ -30,6 +31,11 @@ use Rattle.decision.proofs.Walking.{Walking, ended, goes-on, next, sett
 -- the members behind a node, up to a number that is the node after it
 pub members-behind : {s : Bytes} {w : List ℕ} {n e : ℕ} → ObjectHere s w n → e ≡ afterAt w n → AreMembers s w 64 (n + 1) e
 members-behind {s} {w} {n} h q = subst (λ (x : ℕ). AreMembers s w 64 (n + 1) x) (sym q) (h .members)
+
+-- the node of a member that must be there
+pub given-node : {A : Type 0} {kind : Value → Result A} {s : Bytes} {w : List ℕ} {f : Found} {a : A} → Given kind s w f a → {x : ℕ} → x ≡ nodeOf f → Gives kind s w x a
+unfolding nodeOf
+given-node {A} {kind} {s} {w} {f} {a} g q = subst (λ (i : ℕ). Gives kind s w i a) (sym (q ∙ ap nodeOf (g .found))) (g .gives)
 
 -- ---- a move
 pub move-sources : (s : Bytes) (w : List ℕ) {n e : ℕ} (m : MoveMembers) → e ≡ afterAt w n → MoveNamed s w (membersAt s w (n + 1) e) m → (f : Effect) → Gives aMove s w n f → SourcesAt s w f (m .from)

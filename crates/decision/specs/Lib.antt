@@ -12,3 +12,4 @@ pub mod Opening
 pub mod Called
 pub mod AlikeRules
 pub mod Alone
+pub mod Ruled

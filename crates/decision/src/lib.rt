@@ -7,6 +7,7 @@ pub mod entry;
 pub mod marks;
 pub mod open;
 pub mod outcomes;
+pub mod rules;
 pub mod sources;
 pub mod texts;
 pub mod work;
