@@ -35,7 +35,7 @@ use Rattle.decision.specs.declared.outcomes.Placed.{Placed as Spot}
 use Rattle.decision.proofs.Eligibility.{missing, there}
 use Rattle.decision.proofs.Walking.{behind-array}
 
-told-no-input : (s : Bytes) (w : List ℕ) → Told s w (refused noInput) answers.NoInput
+pub told-no-input : (s : Bytes) (w : List ℕ) → Told s w (refused noInput) answers.NoInput
 unfolding meaning Held
 told-no-input s w = record { means = refl; held = tt }
 

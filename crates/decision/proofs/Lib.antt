@@ -19,3 +19,4 @@ pub mod AlikeRules
 pub mod Unmarking
 pub mod Settling
 pub mod Checking
+pub mod Evaluating

@@ -7,12 +7,15 @@ use lib.ListN.{drop, length}
 use Rattle.line.specs.Meaning.{Held, meaning}
 use Rattle.line.specs.Verdict.{Verdict}
 use Rattle.line.specs.declared.answer.Answer.{Answer}
+use Rattle.line.specs.declared.answer.Answer.the-variants as answers
 use Rattle.line.specs.declared.answer.Outcome.{Outcome as Entry}
 use Rattle.operands.specs.Stored.{table}
 use Rattle.reader.specs.Bytes.{Bytes}
 use Rattle.reader.specs.Cursor.{OnText}
 use Rattle.reader.specs.Refusal.{Result, _>>=_, ok}
 use Rattle.reader.specs.Spans.{textAt}
+use Rattle.semantics.specs.declared.truth.Truth.{Truth}
+use Rattle.semantics.specs.declared.truth.Truth.the-variants as truths
 use Rattle.decision.specs.Decide.{asAdmitted}
 use Rattle.decision.specs.Outcomes.{Placed}
 
@@ -30,6 +33,12 @@ pub record Entered (s : Bytes) (place : ℕ) (name : Bytes) (r : Entry) : Type 0
 pub record Told (s : Bytes) (w : List ℕ) (whole : Result Verdict) (r : Answer) : Type 0 where
   pub means : meaning s w r ≡ whole
   pub held : Held s w r
+
+-- the answer of a truth
+abbrev pub answerOf : Truth → Answer
+answerOf truths.True = answers.True
+answerOf truths.False = answers.False
+answerOf truths.Unknown = answers.Unknown
 
 -- an answer told over the table that it leaves: the rows stay, and so do the words behind the marks
 pub record Answered (s : Bytes) (w w′ : List ℕ) (whole : Result Verdict) (r : Answer) : Type 0 where

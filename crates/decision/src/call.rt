@@ -1,18 +1,70 @@
 // The calls on an accepted sheet.
 use crate::admit::admit;
+use crate::alone::evaluate_alone;
 use crate::outcomes::Chosen;
 use crate::outcomes::outcome_at;
+use crate::rules::check;
+use evaluation::comparison::Outcome;
 use line::answer::Answer;
+use line::answer::Rules;
 use reader::rows::Found;
 use reader::rows::after_at;
 use reader::rows::start_at;
+use semantics::truth::Truth;
 use sheet::shape::Members;
-ghost use Rattle.sheet.specs.Accepted.{Accepted};
+ghost use mathlib.Core.Path.{_≡_};
+ghost use Prim.Native.Nat.{_≤_};
+ghost use lib.ListN.{length};
+ghost use Rattle.sheet.specs.Accepted.{Accepted, Known};
 ghost use Rattle.sheet.specs.Condition.{Condition};
 ghost use Rattle.sheet.specs.Sheet.{Sheet};
-ghost use Rattle.decision.specs.Decide.{admitCall};
-ghost use Rattle.sheet.specs.Accepted.{Known};
-ghost use Rattle.decision.specs.Told.{Told};
+ghost use Rattle.decision.specs.Decide.{admitCall, evaluateCall, invariantsCall, preconditionsCall};
+ghost use Rattle.decision.specs.Told.{Answered, Told, answerOf};
+
+// A truth as an answer.
+fn of_truth(t: Truth) -> Answer
+    ensures { λ r. ⌜ r ≡ answerOf t ⌝ }
+{
+    match t {
+        Truth::True => Answer::True,
+        Truth::False => Answer::False,
+        Truth::Unknown => Answer::Unknown,
+    }
+}
+
+// The truth of the sheet's condition.
+pub fn evaluate_call(s: &[u8], work: &mut [u32], m: Members) -> Answer
+    requires { ⌜ (16384 ≤ length (now work)) × Known (Accepted (now s) (now work) m) ⌝ }
+    ensures { λ r. ⌜ ((sheet : Sheet Condition) → Accepted (now (s .entry)) (now (work .entry)) m sheet → Answered (now (s .entry)) (now (work .entry)) (now (work .exit)) (evaluateCall sheet) r) ⌝ }
+{
+    let condition = m.condition;
+    match condition {
+        Found::Nothing => Answer::NoInput,
+        Found::At(node) => match evaluate_alone(s, work, m, node) {
+            Outcome::Judged(t) => of_truth(t),
+            Outcome::Unknown(n) => Answer::UnknownExpression(operands::rows::start_at(work, n)),
+            Outcome::NoId => Answer::NoId,
+        },
+    }
+}
+
+// The preconditions.
+pub fn preconditions_call(s: &[u8], work: &mut [u32], m: Members) -> Answer
+    requires { ⌜ (16384 ≤ length (now work)) × Known (Accepted (now s) (now work) m) ⌝ }
+    ensures { λ r. ⌜ ((sheet : Sheet Condition) → Accepted (now (s .entry)) (now (work .entry)) m sheet → Answered (now (s .entry)) (now (work .entry)) (now (work .exit)) (preconditionsCall sheet) r) ⌝ }
+{
+    let node = m.preconditions;
+    check(s, work, m, Rules::Preconditions, node)
+}
+
+// The invariants.
+pub fn invariants_call(s: &[u8], work: &mut [u32], m: Members) -> Answer
+    requires { ⌜ (16384 ≤ length (now work)) × Known (Accepted (now s) (now work) m) ⌝ }
+    ensures { λ r. ⌜ ((sheet : Sheet Condition) → Accepted (now (s .entry)) (now (work .entry)) m sheet → Answered (now (s .entry)) (now (work .entry)) (now (work .exit)) (invariantsCall sheet) r) ⌝ }
+{
+    let node = m.invariants;
+    check(s, work, m, Rules::Invariants, node)
+}
 
 // Admission of the outcome at a place.
 pub fn admit_call(s: &[u8], work: &[u32], m: Members, place: usize) -> Answer
