@@ -3,7 +3,8 @@
 use mathlib.Core.List.{List}
 use mathlib.Core.Option.{none}
 use mathlib.Core.Path.{ap, refl, subst, sym, _∙_, _≡_}
-use Prim.Native.Nat.{ℕ}
+use Prim.Native.Nat.{ℕ, _≤_}
+use native.Mathlib.Omega.{arith}
 use lib.ListN.{length}
 use Rattle.line.specs.Line.{refusalLine, refusalNumber}
 use Rattle.line.specs.Meaning.{Emitted, Held, meaning}
@@ -21,7 +22,7 @@ use Rattle.decision.specs.Called.{Called}
 use Rattle.decision.specs.Entry.{Reply, call, enough, fitted, outputAfter, reply, workAfter}
 use Rattle.sheet.specs.Accepted.{Known}
 use Rattle.decision.specs.Opening.{OpenedAs, Opening, Ready, Stopped, opening}
-use Rattle.decision.specs.Told.{Told}
+use Rattle.decision.specs.Told.{Answered}
 use Rattle.decision.specs.declared.open.Opened.{Opened}
 use Rattle.decision.specs.declared.open.Opened.the-variants as opened
 use Rattle.decision.proofs.Clearing.{same-left}
@@ -39,33 +40,37 @@ unlined : (size : ℕ) (why : Refusal) → refusalLine why ≡ none → reply si
 unfolding reply
 unlined size why e = ap (fitted size (refusalNumber why)) e
 
-module _ (f : Sheet Condition → Result Verdict) {s : Bytes} {w w₁ : List ℕ} {r : Opened} (t : Opening s w w₁ r) (size : length w₁ ≡ length w) {w′ : List ℕ} (z : w′ ≡ workAfter w₁) where
-  leaves : w′ ≡ workAfter w
-  leaves = z ∙ same-left w w₁ size (t .small) (t .past)
-
-  pub called-refused : (n : ℕ) → r ≡ opened.Refused n → (o : Bytes) → Called (call f s (length w) (length o)) w w′ o o (record { number = n; size = 0 })
+module _ (f : Sheet Condition → Result Verdict) {s : Bytes} {w w₁ : List ℕ} {r : Opened} (t : Opening s w w₁ r) (size : length w₁ ≡ length w) where
+  pub called-refused : {w′ : List ℕ} → w′ ≡ workAfter w₁ → (n : ℕ) → r ≡ opened.Refused n → (o : Bytes) → Called (call f s (length w) (length o)) w w′ o o (record { number = n; size = 0 })
   unfolding OpenedAs
-  called-refused n q o =
+  called-refused z n q o =
       let x : Stopped (opening (length w) s) n = subst (OpenedAs (length w) s w₁) q (t .is) in
       let e : call f s (length w) (length o) ≡ record { number = refusalNumber (x .why); line = none } = call-opened f s (length w) (length o) ∙ ap {B = Reply} (λ (y : Result (Sheet Condition)). reply (length o) (y >>= f)) (x .is) ∙ unlined (length o) (x .why) (x .noLine) in
-      record { isNumber = x .isNumber ∙ ap (λ (y : Reply). y .number) (sym e); isSize = ap lineSize (sym e); output = ap (λ (y : Reply). outputAfter y o) (sym e); work = leaves }
+      record { isNumber = x .isNumber ∙ ap (λ (y : Reply). y .number) (sym e); isSize = ap lineSize (sym e); output = ap (λ (y : Reply). outputAfter y o) (sym e); work = z ∙ same-left w w₁ size (t .small) (t .past) }
 
   module _ (m : Members) (q : r ≡ opened.Sheet m) where
     ready : Ready (length w) s w₁ m
     unfolding OpenedAs
     ready = subst (OpenedAs (length w) s w₁) q (t .is)
 
-    pub called-sheet : {a : Answer} → ((sheet : Sheet Condition) → Accepted s w₁ m sheet → Told s w₁ (f sheet) a) → {o o′ : Bytes} {n : Sent} → Emitted s w₁ a o o′ n → Called (call f s (length w) (length o)) w w′ o o′ n
-    called-sheet {a} h {o} {o′} {n} g =
-        let x = h (ready .sheet) (ready .accepted) in
-        let i : opening (length w) s ≡ ok (ready .sheet) = sheet-opened (length w) s (ready .long) ∙ ready .accepted .reads in
-        let e : reply (length o) (meaning s w₁ a) ≡ call f s (length w) (length o) = ap (reply (length o)) (x .means) ∙ sym (call-opened f s (length w) (length o) ∙ ap {B = Reply} (λ (y : Result (Sheet Condition)). reply (length o) (y >>= f)) i) in
-        record { isNumber = g .number ∙ ap (λ (y : Reply). y .number) e; isSize = g .size ∙ ap lineSize e; output = g .output ∙ ap (λ (y : Reply). outputAfter y o) e; work = leaves }
+    pub opened-large : (16384 ≤ length w₁) × Known (Accepted s w₁ m)
+    opened-large = (omega (arith, ready .long), record { given = ready .sheet; known = ready .accepted })
 
-module _ {s : Bytes} {w w₁ : List ℕ} {r : Opened} (t : Opening s w w₁ r) (m : Members) (q : r ≡ opened.Sheet m) where
-  pub accepted-sheet : Known (Accepted s w₁ m)
-  unfolding OpenedAs
-  accepted-sheet = let x : Ready (length w) s w₁ m = subst (OpenedAs (length w) s w₁) q (t .is) in record { given = x .sheet; known = x .accepted }
+    -- the call answers over the table that it leaves, w₂
+    module _ {w₂ : List ℕ} {a : Answer} (h : (sheet : Sheet Condition) → Accepted s w₁ m sheet → Answered s w₁ w₂ (f sheet) a) where
+      its : Answered s w₁ w₂ (f (ready .sheet)) a
+      its = h (ready .sheet) (ready .accepted)
 
-  pub held-answer : (f : Sheet Condition → Result Verdict) {a : Answer} → ((sheet : Sheet Condition) → Accepted s w₁ m sheet → Told s w₁ (f sheet) a) → Held s w₁ a
-  held-answer f h = h (accepted-sheet .given) (accepted-sheet .known) .held
+      pub held-answer : Held s w₂ a
+      held-answer = its .told .held
+
+      pub called-sheet : {o o′ : Bytes} {n : Sent} → Emitted s w₂ a o o′ n → {w′ : List ℕ} → w′ ≡ workAfter w₂ → Called (call f s (length w) (length o)) w w′ o o′ n
+      called-sheet {o} {o′} {n} g z =
+          let i : opening (length w) s ≡ ok (ready .sheet) = sheet-opened (length w) s (ready .long) ∙ ready .accepted .reads in
+          let e : reply (length o) (meaning s w₂ a) ≡ call f s (length w) (length o) = ap (reply (length o)) (its .told .means) ∙ sym (call-opened f s (length w) (length o) ∙ ap {B = Reply} (λ (y : Result (Sheet Condition)). reply (length o) (y >>= f)) i) in
+          record {
+            isNumber = g .number ∙ ap (λ (y : Reply). y .number) e;
+            isSize = g .size ∙ ap lineSize e;
+            output = g .output ∙ ap (λ (y : Reply). outputAfter y o) e;
+            work = z ∙ same-left w w₂ (its .long ∙ size) (λ k. absurd (omega (arith, ready .long))) (λ k. its .further ∙ t .past k);
+          }

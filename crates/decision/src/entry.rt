@@ -1,5 +1,8 @@
 // The calls on a sheet's bytes, with a lent work table and a lent output.
 use crate::call::admit_call;
+use crate::call::evaluate_call;
+use crate::call::invariants_call;
+use crate::call::preconditions_call;
 use crate::open::Opened;
 use crate::open::open;
 use crate::work::clear;
@@ -7,7 +10,61 @@ use line::emit::Sent;
 use line::emit::emit;
 ghost use lib.ListN.{length};
 ghost use Rattle.decision.specs.Called.{Called};
-ghost use Rattle.decision.specs.Entry.{admit};
+ghost use Rattle.decision.specs.Entry.{admit, checkInvariants, checkPreconditions, evaluate};
+
+// The truth of the sheet's condition, with its names.
+pub fn evaluate(sheet: &[u8], work: &mut [u32], out: &mut [u8]) -> Sent
+    ensures { λ r. ⌜ Called (evaluate (now (sheet .entry)) (length (now (work .entry))) (length (now (out .entry)))) (now (work .entry)) (now (work .exit)) (now (out .entry)) (now (out .exit)) r ⌝ }
+{
+    match open(sheet, work) {
+        Opened::Refused(n) => {
+            clear(work);
+            Sent { number: n, size: 0 }
+        }
+        Opened::Sheet(m) => {
+            let a = evaluate_call(sheet, work, m);
+            let sent = emit(sheet, work, out, a);
+            clear(work);
+            sent
+        }
+    }
+}
+
+// Whether the preconditions hold, or the first that does not.
+pub fn check_preconditions(sheet: &[u8], work: &mut [u32], out: &mut [u8]) -> Sent
+    ensures { λ r. ⌜ Called (checkPreconditions (now (sheet .entry)) (length (now (work .entry))) (length (now (out .entry)))) (now (work .entry)) (now (work .exit)) (now (out .entry)) (now (out .exit)) r ⌝ }
+{
+    match open(sheet, work) {
+        Opened::Refused(n) => {
+            clear(work);
+            Sent { number: n, size: 0 }
+        }
+        Opened::Sheet(m) => {
+            let a = preconditions_call(sheet, work, m);
+            let sent = emit(sheet, work, out, a);
+            clear(work);
+            sent
+        }
+    }
+}
+
+// Whether the invariants hold, or the first that does not.
+pub fn check_invariants(sheet: &[u8], work: &mut [u32], out: &mut [u8]) -> Sent
+    ensures { λ r. ⌜ Called (checkInvariants (now (sheet .entry)) (length (now (work .entry))) (length (now (out .entry)))) (now (work .entry)) (now (work .exit)) (now (out .entry)) (now (out .exit)) r ⌝ }
+{
+    match open(sheet, work) {
+        Opened::Refused(n) => {
+            clear(work);
+            Sent { number: n, size: 0 }
+        }
+        Opened::Sheet(m) => {
+            let a = invariants_call(sheet, work, m);
+            let sent = emit(sheet, work, out, a);
+            clear(work);
+            sent
+        }
+    }
+}
 
 // Whether the outcome at a place is kept in the sheet's state.
 pub fn admit_state(sheet: &[u8], work: &mut [u32], out: &mut [u8], place: usize) -> Sent

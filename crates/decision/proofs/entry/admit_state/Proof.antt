@@ -2,7 +2,9 @@
 -- Assumes nothing.
 use Rattle.decision.specs.Decide.{admitCall}
 use Rattle.decision.specs.Entry.{admit}
-use Rattle.decision.proofs.Entries.{accepted-sheet, called-refused, called-sheet, held-answer}
+use Rattle.decision.proofs.Checking.{answered-over}
+use Rattle.decision.proofs.Entries.{called-refused, called-sheet, held-answer, opened-large}
+use Rattle.decision.proofs.Unmarking.{marks-none}
 use borrow.Author.Needs.{needs}
 use Rattle.decision.proofs.entry.admit_state.Statement.{statement}
 use Rattle.decision.proofs.entry.admit_state.Tie as tie
@@ -20,10 +22,10 @@ enum-known-m : tie.Need-enum-known-m
 enum-known-m c = search needs
 
 admit-call-requires : tie.Need-admit-call-requires
-admit-call-requires c κs = accepted-sheet (c .before .before .before .before .before .before .«open» .ensures) (c .before .before .m .given .0 .0) (c .before .before .m .given .1)
+admit-call-requires c κs = opened-large (λ x. admitCall x (c .before .before .before .before .before .before .before .before .before .before .before .args .place)) (c .before .before .before .before .before .before .«open» .ensures) (c .before .before .before .before .before .before .«open» .kept .1 .0) (c .before .before .m .given .0 .0) (c .before .before .m .given .1) .1
 
 emit-requires : tie.Need-emit-requires
-emit-requires c κs = held-answer (c .before .before .before .before .before .before .before .before .before .«open» .ensures) (c .before .before .before .before .before .m .given .0 .0) (c .before .before .before .before .before .m .given .1) (λ x. admitCall x (c .before .before .before .before .before .before .before .before .before .before .before .before .before .before .args .place)) (c .before .before .admit-call .ensures)
+emit-requires c κs = held-answer (λ x. admitCall x (c .before .before .before .before .before .before .before .before .before .before .before .before .before .before .args .place)) (c .before .before .before .before .before .before .before .before .before .«open» .ensures) (c .before .before .before .before .before .before .before .before .before .«open» .kept .1 .0) (c .before .before .before .before .before .m .given .0 .0) (c .before .before .before .before .before .m .given .1) (λ x a. answered-over (marks-none _) (c .before .before .admit-call .ensures x a))
 
 clear-requires-2 : tie.Need-clear-requires-2
 clear-requires-2 c κs = search needs
@@ -43,7 +45,7 @@ same-length-3 c = search needs
 
 returns-2 : tie.Need-returns-2
 unfolding admit
-returns-2 c = called-sheet (λ x. admitCall x (c .before .before .before .before .before .before .before .before .before .before .before .before .before .before .before .before .before .before .before .before .before .args .place)) (c .before .before .before .before .before .before .before .before .before .before .before .before .before .before .before .before .«open» .ensures) (c .before .before .before .before .before .before .before .before .before .before .before .before .before .before .before .before .«open» .kept .1 .0) (c .before .before .clear2 .ensures) (c .before .before .before .before .before .before .before .before .before .before .before .before .m .given .0 .0) (c .before .before .before .before .before .before .before .before .before .before .before .before .m .given .1) (c .before .before .before .before .before .before .before .before .before .admit-call .ensures) (c .before .before .before .before .before .before .emit .ensures)
+returns-2 c = called-sheet (λ x. admitCall x (c .before .before .before .before .before .before .before .before .before .before .before .before .before .before .before .before .before .before .before .before .before .args .place)) (c .before .before .before .before .before .before .before .before .before .before .before .before .before .before .before .before .«open» .ensures) (c .before .before .before .before .before .before .before .before .before .before .before .before .before .before .before .before .«open» .kept .1 .0) (c .before .before .before .before .before .before .before .before .before .before .before .before .m .given .0 .0) (c .before .before .before .before .before .before .before .before .before .before .before .before .m .given .1) (λ x a. answered-over (marks-none _) (c .before .before .before .before .before .before .before .before .before .admit-call .ensures x a)) (c .before .before .before .before .before .before .emit .ensures) (c .before .before .clear2 .ensures)
 
 pub admit-state-spec : {M : Type 1} → statement M
 admit-state-spec =
