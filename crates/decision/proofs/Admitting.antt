@@ -8,7 +8,7 @@ use Prim.Native.Nat.{ℕ, _*_, _+_, _<_, _≤_}
 use lib.ListN.{length}
 use Rattle.line.specs.Meaning.{Held, meaning}
 use Rattle.line.specs.Texts.{orNone, textsIn}
-use Rattle.line.specs.Verdict.{Verdict, admitted}
+use Rattle.line.specs.Verdict.{Verdict, admitted, selected}
 use Rattle.line.specs.declared.answer.Answer.{Answer}
 use Rattle.line.specs.declared.answer.Answer.the-variants as answers
 use Rattle.line.specs.declared.answer.Outcome.{Outcome as Entry}
@@ -29,7 +29,7 @@ use Rattle.sheet.specs.Named.{OutcomeNamed}
 use Rattle.sheet.specs.Outcome.{Effect, Outcome, anEffect, anOutcome, moves, orStays, stays}
 use Rattle.sheet.specs.declared.outcome.OutcomeMembers.{OutcomeMembers}
 use Rattle.decision.specs.Admission.{admit, isSource, isWrong}
-use Rattle.decision.specs.Decide.{asAdmitted}
+use Rattle.decision.specs.Decide.{asAdmitted, asSelected}
 use Rattle.sheet.specs.Accepted.{Known}
 use Rattle.decision.specs.Given.{SourcesAt}
 use Rattle.decision.specs.Outcomes.{Placed, firstFrom}
@@ -61,13 +61,18 @@ pub undeclared : (ts : List Bytes) (os : List (Outcome Condition)) (t : Bytes) (
 undeclared ts os t a p e = ap {B = Bool} (λ (x : Bool). x && not (isSource t os)) (sym e ∙ p)
 
 -- ---- answers
+-- what is said of an outcome is said of its entry
+pub entered-as : {s : Bytes} {place : ℕ} {name : Bytes} {r : Entry} (f : ℕ → Bytes → Result Verdict) → Entered s place name r → f (r .place) (textAt s (r .name)) ≡ f place name
+entered-as {s} {place} {name} {r} f h = ap {B = Result Verdict} (λ (i : ℕ). f i (textAt s (r .name))) (h .isPlace) ∙ ap {B = Result Verdict} (f place) (h .isName)
+
 module _ (s : Bytes) (w : List ℕ) where
   pub told-admitted : (place : ℕ) (o : Outcome Condition) {r : Entry} → Entered s place (o .name) r → Told s w (ok (asAdmitted (record { place = place; outcome = o }))) (answers.Admitted r)
   unfolding meaning Held
-  told-admitted place o {r} h = record { means = it (h .isPlace) (h .isName); held = h .onText }
-    where
-      it : r .place ≡ place → textAt s (r .name) ≡ o .name → _≡_ {A = Result Verdict} (ok (admitted (r .place) (textAt s (r .name)))) (ok (admitted place (o .name)))
-      it p q = ap {B = Result Verdict} (λ (i : ℕ). ok (admitted i (textAt s (r .name)))) p ∙ ap {B = Result Verdict} (λ (x : Bytes). ok (admitted place x)) q
+  told-admitted place o h = record { means = entered-as (λ (i : ℕ) (n : Bytes). ok (admitted i n)) h; held = h .onText }
+
+  pub told-selected : (place : ℕ) (o : Outcome Condition) {r : Entry} → Entered s place (o .name) r → Told s w (ok (asSelected (record { place = place; outcome = o }))) (answers.Selected r)
+  unfolding meaning Held
+  told-selected place o h = record { means = entered-as (λ (i : ℕ) (n : Bytes). ok (selected i n)) h; held = h .onText }
 
   abbrev orAdmitted : ℕ → Option Placed → Result Verdict
   orAdmitted state x = admission (orElse x (wrongState (textAt s state)))

@@ -20,3 +20,4 @@ pub mod Unmarking
 pub mod Settling
 pub mod Checking
 pub mod Evaluating
+pub mod Trying

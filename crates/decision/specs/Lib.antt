@@ -13,3 +13,4 @@ pub mod Called
 pub mod AlikeRules
 pub mod Alone
 pub mod Ruled
+pub mod Trying

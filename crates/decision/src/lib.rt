@@ -8,6 +8,7 @@ pub mod marks;
 pub mod open;
 pub mod outcomes;
 pub mod rules;
+pub mod select;
 pub mod sources;
 pub mod texts;
 pub mod work;
