@@ -21,3 +21,4 @@ pub mod Settling
 pub mod Checking
 pub mod Evaluating
 pub mod Trying
+pub mod Deciding

@@ -101,7 +101,7 @@ module _ {s : Bytes} {w : List ℕ} {n e : ℕ} {m : RuleMembers} (q : e ≡ aft
 
 -- ---- one rule
 module _ (sheet : Sheet Condition) (kind : Rules) (i : ℕ) (x : Rule Condition) (xs : List (Rule Condition)) where
-  abbrev behind : Answer → Result Verdict
+  abbrev pub behind : Answer → Result Verdict
   behind a =
       elim
       (a .truth) [
