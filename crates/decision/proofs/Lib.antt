@@ -22,3 +22,4 @@ pub mod Checking
 pub mod Evaluating
 pub mod Trying
 pub mod Deciding
+pub mod Twofold

@@ -142,19 +142,23 @@ pub record Repeated (old new : Sheet Condition) (r : Reply) : Type 0 where
   pub upToSettled : settled old step ≡ true
   pub named : NamesVanished old new names ⊎ ((q : Refusal) × (ms : Names) × (decideCall old ≡ refused q) × Unobservable q step ms)
 
--- The demand. A reply depends on the bytes and the two sizes alone, so that it does not matter what work table and output hold at entry.
-unfoldable pub Demand : Type 0
-Demand =
-    (s s′ : Bytes) (work work′ output output′ : ℕ) (old new : Sheet Condition) →
+-- what two replies owe each other, the first to an old sheet and the second to a new one
+abbrev pub Repeats : Bytes → Bytes → ℕ → ℕ → Reply → Reply → Type 0
+Repeats s s′ work work′ was now =
+    (old new : Sheet Condition) →
     workWords ≤ work →
     workWords ≤ work′ →
     readSheet s ≡ ok old →
     readSheet s′ ≡ ok new →
-    (decide s work output) .number ≢ 23 →
-    (decide s′ work′ output′) .number ≢ 23 →
+    was .number ≢ 23 →
+    now .number ≢ 23 →
     SameRules old new →
     clean kernel old ≡ true →
     clean kernel new ≡ true →
     ((r : Reading) → IsReading old r → Kept old new r) →
-    ((decide s′ work′ output′ ≡ decide s work output) ⊎ Repeated old new (decide s′ work′ output′)) ×
-    (((r : Reading) → IsReading old r → Unchanged old new r) → decide s′ work′ output′ ≡ decide s work output)
+    ((now ≡ was) ⊎ Repeated old new now) ×
+    (((r : Reading) → IsReading old r → Unchanged old new r) → now ≡ was)
+
+-- The demand. A reply depends on the bytes and the two sizes alone, so that it does not matter what work table and output hold at entry.
+unfoldable pub Demand : Type 0
+Demand = (s s′ : Bytes) (work work′ output output′ : ℕ) → Repeats s s′ work work′ (decide s work output) (decide s′ work′ output′)

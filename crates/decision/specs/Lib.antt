@@ -14,3 +14,4 @@ pub mod AlikeRules
 pub mod Alone
 pub mod Ruled
 pub mod Trying
+pub mod Again

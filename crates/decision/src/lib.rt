@@ -1,5 +1,6 @@
 // Decisions on an accepted sheet. The definitions stand in specs/, the laws in proofs/.
 pub mod admit;
+pub mod again;
 pub mod alone;
 pub mod call;
 pub mod eligible;

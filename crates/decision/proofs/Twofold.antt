@@ -1,0 +1,84 @@
+-- Two calls that were made: what is seen of each is its reply, and so they are as the demand asks.
+-- Assumes nothing.
+use mathlib.Core.Bool.{Bool, false, true}
+use mathlib.Core.List.{List, [], _++_, _∷_}
+use mathlib.Core.Option.{Option, none, some}
+use mathlib.Core.Path.{ap, refl, subst, sym, _∙_, _≡_}
+use Prim.Native.Nat.{ℕ}
+use lib.Dec.{leb}
+use lib.ListN.{drop, length}
+use lib.Seq.{take-at}
+use Rattle.line.specs.Line.{endLine, eachLine, refusalForm, refusalLine, refusalNumber, verdictForm, verdictLine}
+use Rattle.line.specs.Reply.{lineSize}
+use Rattle.line.specs.Verdict.{Verdict}
+use Rattle.line.specs.declared.emit.Sent.{Sent}
+use Rattle.reader.specs.Bytes.{Bytes}
+use Rattle.reader.specs.Refusal.{Result, lineTooLong, ok, refused, _>>=_}
+use Rattle.sheet.specs.Sheet.{readSheet}
+use Rattle.decision.specs.Again.{Again, lineIn, seen}
+use Rattle.decision.specs.Called.{Called}
+use Rattle.decision.specs.Decide.{decideCall}
+use Rattle.decision.specs.Demand.{Demand, Repeats}
+use Rattle.decision.specs.Entry.{Reply, call, decide, enough, fitted, outputAfter, reply}
+use Rattle.decision.proofs.Clearing.{left-again}
+use Rattle.decision.proofs.Repeat.{demand}
+
+-- ---- a line ends
+data Ended : Option Bytes → Type 0 where
+  silent : Ended none
+  spoken : (f : Bytes) → Ended (some (endLine f))
+
+abbrev fit : ℕ → Bytes → Bool → Reply
+fit n f b = elim b [ true ↦ record { number = n; line = some (endLine f) } | false ↦ record { number = refusalNumber lineTooLong; line = none } ]
+
+fit-ended : (n : ℕ) (f : Bytes) (b : Bool) → Ended (fit n f b .line)
+fit-ended n f true = spoken f
+fit-ended n f false = silent
+
+fitted-ended : (size n : ℕ) (x : Option Bytes) → Ended (fitted size n (eachLine x) .line)
+fitted-ended size n none = silent
+fitted-ended size n (some f) = fit-ended n f (leb (length (endLine f)) size)
+
+reply-ended : (size : ℕ) (x : Result Verdict) → Ended (reply size x .line)
+unfolding reply verdictLine refusalLine
+reply-ended size (ok v) = fitted-ended size 0 (some (verdictForm v))
+reply-ended size (refused r) = fitted-ended size (refusalNumber r) (refusalForm r)
+
+decide-ended : (s : Bytes) (work size : ℕ) → Ended (decide s work size .line)
+unfolding decide call
+decide-ended s work size = reply-ended size (enough work >>= (λ _. readSheet s >>= (λ sheet. decideCall sheet)))
+
+-- ---- what is seen
+line-shown : (f out : Bytes) → lineIn (length (endLine f)) (endLine f ++ drop (length (endLine f)) out) ≡ some (endLine f)
+unfolding lineIn
+line-shown [] out = refl
+line-shown (c ∷ f) out = ap some (take-at (c ∷ endLine f) (drop (length (c ∷ endLine f)) out) (length (c ∷ endLine f)) refl)
+
+line-seen : (n size : ℕ) (x : Option Bytes) (o o′ : Bytes) → Ended x → size ≡ lineSize (record { number = n; line = x }) → o′ ≡ outputAfter (record { number = n; line = x }) o → lineIn size o′ ≡ x
+unfolding lineIn
+line-seen n size none o o′ silent p q = ap (λ (i : ℕ). lineIn i o′) p
+line-seen n size (some l) o o′ (spoken f) p q = ap (λ (i : ℕ). lineIn i o′) p ∙ ap (lineIn (length (endLine f))) q ∙ line-shown f o
+
+called-seen : (s : Bytes) (work : ℕ) {w w′ : List ℕ} {o o′ : Bytes} {r : Sent} → Called (decide s work (length o)) w w′ o o′ r → seen r o′ ≡ decide s work (length o)
+unfolding seen
+called-seen s work {w} {w′} {o} {o′} {r} h = ap {B = Reply} (λ (n : ℕ). record { number = n; line = lineIn (r .size) o′ }) (h .isNumber) ∙ ap {B = Reply} (λ (l : Option Bytes). record { number = decide s work (length o) .number; line = l }) (line-seen (decide s work (length o) .number) (r .size) (decide s work (length o) .line) o o′ (decide-ended s work (length o)) (h .isSize) (h .output))
+
+-- ---- twice
+module _ (old new : Bytes) {w w₁ w′ : List ℕ} (size : length w₁ ≡ length w) {o o′ p p′ : Bytes} {a b : Sent} (first : Called (decide old (length w) (length o)) w w₁ o o′ a) (second : Called (decide new (length w₁) (length p)) w₁ w′ p p′ b) where
+  second-called : Called (decide new (length w) (length p)) w w′ p p′ b
+  second-called =
+      let h : Called (decide new (length w) (length p)) w₁ w′ p p′ b = subst (λ (n : ℕ). Called (decide new n (length p)) w₁ w′ p p′ b) size second in
+      record { isNumber = h .isNumber; isSize = h .isSize; output = h .output; work = h .work ∙ left-again w w₁ size (first .work) }
+
+  pub again : Again old new w w′ o o′ p p′ (record { old = a; new = b })
+  unfolding Demand
+  again =
+      record {
+        first = record { isNumber = first .isNumber; isSize = first .isSize; output = first .output; work = refl };
+        second = second-called;
+        repeats =
+            subst
+            (λ (x : Reply). Repeats old new (length w) (length w) x (seen b p′))
+            (sym (called-seen old (length w) first))
+            (subst (λ (y : Reply). Repeats old new (length w) (length w) (decide old (length w) (length o)) y) (sym (called-seen new (length w) second-called)) (demand old new (length w) (length w) (length o) (length p)));
+      }
