@@ -23,3 +23,5 @@ pub mod Evaluating
 pub mod Trying
 pub mod Deciding
 pub mod Twofold
+pub mod Replies
+pub mod Numbers

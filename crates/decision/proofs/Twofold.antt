@@ -11,15 +11,16 @@ use lib.Seq.{take-at}
 use Rattle.line.specs.Line.{endLine, eachLine, refusalForm, refusalLine, refusalNumber, verdictForm, verdictLine}
 use Rattle.line.specs.Reply.{lineSize}
 use Rattle.line.specs.Verdict.{Verdict}
-use Rattle.line.specs.declared.emit.Sent.{Sent}
 use Rattle.reader.specs.Bytes.{Bytes}
 use Rattle.reader.specs.Refusal.{Result, lineTooLong, ok, refused, _>>=_}
 use Rattle.sheet.specs.Sheet.{readSheet}
 use Rattle.decision.specs.Again.{Again, lineIn, seen}
-use Rattle.decision.specs.Called.{Called}
+use Rattle.decision.specs.Called.{Replied}
 use Rattle.decision.specs.Decide.{decideCall}
 use Rattle.decision.specs.Demand.{Demand, Repeats}
 use Rattle.decision.specs.Entry.{Reply, call, decide, enough, fitted, outputAfter, reply}
+use Rattle.decision.specs.Replies.{numberOf, sizeOf}
+use Rattle.decision.specs.declared.reply.Reply.{Reply as Case}
 use Rattle.decision.proofs.Clearing.{left-again}
 use Rattle.decision.proofs.Repeat.{demand}
 
@@ -59,15 +60,15 @@ unfolding lineIn
 line-seen n size none o o′ silent p q = ap (λ (i : ℕ). lineIn i o′) p
 line-seen n size (some l) o o′ (spoken f) p q = ap (λ (i : ℕ). lineIn i o′) p ∙ ap (lineIn (length (endLine f))) q ∙ line-shown f o
 
-called-seen : (s : Bytes) (work : ℕ) {w w′ : List ℕ} {o o′ : Bytes} {r : Sent} → Called (decide s work (length o)) w w′ o o′ r → seen r o′ ≡ decide s work (length o)
+replied-seen : (s : Bytes) (work : ℕ) {w w′ : List ℕ} {o o′ : Bytes} {r : Case} → Replied (decide s work (length o)) w w′ o o′ r → seen r o′ ≡ decide s work (length o)
 unfolding seen
-called-seen s work {w} {w′} {o} {o′} {r} h = ap {B = Reply} (λ (n : ℕ). record { number = n; line = lineIn (r .size) o′ }) (h .isNumber) ∙ ap {B = Reply} (λ (l : Option Bytes). record { number = decide s work (length o) .number; line = l }) (line-seen (decide s work (length o) .number) (r .size) (decide s work (length o) .line) o o′ (decide-ended s work (length o)) (h .isSize) (h .output))
+replied-seen s work {w} {w′} {o} {o′} {r} h = ap {B = Reply} (λ (n : ℕ). record { number = n; line = lineIn (sizeOf r) o′ }) (h .isNumber) ∙ ap {B = Reply} (λ (l : Option Bytes). record { number = decide s work (length o) .number; line = l }) (line-seen (decide s work (length o) .number) (sizeOf r) (decide s work (length o) .line) o o′ (decide-ended s work (length o)) (h .isSize) (h .output))
 
 -- ---- twice
-module _ (old new : Bytes) {w w₁ w′ : List ℕ} (size : length w₁ ≡ length w) {o o′ p p′ : Bytes} {a b : Sent} (first : Called (decide old (length w) (length o)) w w₁ o o′ a) (second : Called (decide new (length w₁) (length p)) w₁ w′ p p′ b) where
-  second-called : Called (decide new (length w) (length p)) w w′ p p′ b
-  second-called =
-      let h : Called (decide new (length w) (length p)) w₁ w′ p p′ b = subst (λ (n : ℕ). Called (decide new n (length p)) w₁ w′ p p′ b) size second in
+module _ (old new : Bytes) {w w₁ w′ : List ℕ} (size : length w₁ ≡ length w) {o o′ p p′ : Bytes} {a b : Case} (first : Replied (decide old (length w) (length o)) w w₁ o o′ a) (second : Replied (decide new (length w₁) (length p)) w₁ w′ p p′ b) where
+  second-replied : Replied (decide new (length w) (length p)) w w′ p p′ b
+  second-replied =
+      let h : Replied (decide new (length w) (length p)) w₁ w′ p p′ b = subst (λ (n : ℕ). Replied (decide new n (length p)) w₁ w′ p p′ b) size second in
       record { isNumber = h .isNumber; isSize = h .isSize; output = h .output; work = h .work ∙ left-again w w₁ size (first .work) }
 
   pub again : Again old new w w′ o o′ p p′ (record { old = a; new = b })
@@ -75,10 +76,10 @@ module _ (old new : Bytes) {w w₁ w′ : List ℕ} (size : length w₁ ≡ leng
   again =
       record {
         first = record { isNumber = first .isNumber; isSize = first .isSize; output = first .output; work = refl };
-        second = second-called;
+        second = second-replied;
         repeats =
             subst
             (λ (x : Reply). Repeats old new (length w) (length w) x (seen b p′))
-            (sym (called-seen old (length w) first))
-            (subst (λ (y : Reply). Repeats old new (length w) (length w) (decide old (length w) (length o)) y) (sym (called-seen new (length w) second-called)) (demand old new (length w) (length w) (length o) (length p)));
+            (sym (replied-seen old (length w) first))
+            (subst (λ (y : Reply). Repeats old new (length w) (length w) (decide old (length w) (length o)) y) (sym (replied-seen new (length w) second-replied)) (demand old new (length w) (length w) (length o) (length p)));
       }

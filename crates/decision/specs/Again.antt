@@ -4,12 +4,13 @@ use mathlib.Core.List.{List}
 use mathlib.Core.Option.{Option, none, some}
 use Prim.Native.Nat.{suc, zero, ℕ}
 use lib.ListN.{length, take}
-use Rattle.line.specs.declared.emit.Sent.{Sent}
 use Rattle.reader.specs.Bytes.{Bytes}
-use Rattle.decision.specs.Called.{Called}
+use Rattle.decision.specs.Called.{Replied}
 use Rattle.decision.specs.Demand.{Repeats}
 use Rattle.decision.specs.Entry.{Reply, decide, workAfter}
+use Rattle.decision.specs.Replies.{numberOf, sizeOf}
 use Rattle.decision.specs.declared.again.Twice.{Twice}
+use Rattle.decision.specs.declared.reply.Reply.{Reply as Case}
 
 -- the line of a size at the start of an output; a size of 0 says that there is none
 unfoldable pub lineIn : ℕ → Bytes → Option Bytes
@@ -17,12 +18,12 @@ lineIn zero out = none
 lineIn (suc n) out = some (take (suc n) out)
 
 -- what a caller sees of a call: its number, and its line in the output
-unfoldable pub seen : Sent → Bytes → Reply
-unfolding lineIn
-seen r out = record { number = r .number; line = lineIn (r .size) out }
+unfoldable pub seen : Case → Bytes → Reply
+unfolding lineIn numberOf sizeOf
+seen r out = record { number = numberOf r; line = lineIn (sizeOf r) out }
 
 -- both calls are Decide, on one work table; what is seen of them is what the demand asks
 pub record Again (old new : Bytes) (w w′ : List ℕ) (o o′ p p′ : Bytes) (r : Twice) : Type 0 where
-  pub first : Called (decide old (length w) (length o)) w (workAfter w) o o′ (r .old)
-  pub second : Called (decide new (length w) (length p)) w w′ p p′ (r .new)
+  pub first : Replied (decide old (length w) (length o)) w (workAfter w) o o′ (r .old)
+  pub second : Replied (decide new (length w) (length p)) w w′ p p′ (r .new)
   pub repeats : Repeats old new (length w) (length w) (seen (r .old) o′) (seen (r .new) p′)

@@ -7,9 +7,18 @@ use Rattle.line.specs.Reply.{lineSize}
 use Rattle.line.specs.declared.emit.Sent.{Sent}
 use Rattle.reader.specs.Bytes.{Bytes}
 use Rattle.decision.specs.Entry.{Reply, outputAfter, workAfter}
+use Rattle.decision.specs.Replies.{numberOf, sizeOf}
+use Rattle.decision.specs.declared.reply.Reply.{Reply as Case}
 
 pub record Called (answer : Reply) (w w′ : List ℕ) (o o′ : Bytes) (r : Sent) : Type 0 where
   pub isNumber : r .number ≡ answer .number
   pub isSize : r .size ≡ lineSize answer
+  pub output : o′ ≡ outputAfter answer o
+  pub work : w′ ≡ workAfter w
+
+-- the same of an entry, whose answer is an enum
+pub record Replied (answer : Reply) (w w′ : List ℕ) (o o′ : Bytes) (r : Case) : Type 0 where
+  pub isNumber : numberOf r ≡ answer .number
+  pub isSize : sizeOf r ≡ lineSize answer
   pub output : o′ ≡ outputAfter answer o
   pub work : w′ ≡ workAfter w

@@ -9,9 +9,11 @@ pub mod Entry
 pub mod Selection
 pub mod Demand
 pub mod Opening
+pub mod Replies
 pub mod Called
 pub mod AlikeRules
 pub mod Alone
 pub mod Ruled
 pub mod Trying
 pub mod Again
+pub mod Ended

@@ -1,12 +1,12 @@
 // A decision that is run again.
 use crate::entry::decide;
-use line::emit::Sent;
+use crate::reply::Reply;
 ghost use Rattle.decision.specs.Again.{Again};
 
 // The answers to the old sheet and to the new one.
 pub struct Twice {
-    pub old: Sent,
-    pub new: Sent,
+    pub old: Reply,
+    pub new: Reply,
 }
 
 // Decides the old sheet, and then the new one on the same work table.

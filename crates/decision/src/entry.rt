@@ -1,123 +1,49 @@
-// The calls on a sheet's bytes, with a lent work table and a lent output.
-use crate::call::admit_call;
-use crate::call::decide_call;
-use crate::call::evaluate_call;
-use crate::call::invariants_call;
-use crate::call::preconditions_call;
-use crate::call::select_call;
-use crate::open::Opened;
-use crate::open::open;
-use crate::work::clear;
-use line::emit::Sent;
-use line::emit::emit;
+// The entries: the six calls on any bytes, with a lent work table and a lent output.
+use crate::reply::Reply;
+use crate::reply::case_of;
+use crate::sent;
 ghost use lib.ListN.{length};
-ghost use Rattle.decision.specs.Called.{Called};
+ghost use Rattle.decision.specs.Called.{Replied};
 ghost use Rattle.decision.specs.Entry.{admit, checkInvariants, checkPreconditions, decide, evaluate, select};
 
 // The truth of the sheet's condition, with its names.
-pub fn evaluate(sheet: &[u8], work: &mut [u32], out: &mut [u8]) -> Sent
-    ensures { λ r. ⌜ Called (evaluate (now (sheet .entry)) (length (now (work .entry))) (length (now (out .entry)))) (now (work .entry)) (now (work .exit)) (now (out .entry)) (now (out .exit)) r ⌝ }
+pub fn evaluate(sheet: &[u8], work: &mut [u32], out: &mut [u8]) -> Reply
+    ensures { λ r. ⌜ Replied (evaluate (now (sheet .entry)) (length (now (work .entry))) (length (now (out .entry)))) (now (work .entry)) (now (work .exit)) (now (out .entry)) (now (out .exit)) r ⌝ }
 {
-    match open(sheet, work) {
-        Opened::Refused(n) => {
-            clear(work);
-            Sent { number: n, size: 0 }
-        }
-        Opened::Sheet(m) => {
-            let a = evaluate_call(sheet, work, m);
-            let sent = emit(sheet, work, out, a);
-            clear(work);
-            sent
-        }
-    }
+    case_of(sent::evaluate(sheet, work, out))
 }
 
 // Whether the preconditions hold, or the first that does not.
-pub fn check_preconditions(sheet: &[u8], work: &mut [u32], out: &mut [u8]) -> Sent
-    ensures { λ r. ⌜ Called (checkPreconditions (now (sheet .entry)) (length (now (work .entry))) (length (now (out .entry)))) (now (work .entry)) (now (work .exit)) (now (out .entry)) (now (out .exit)) r ⌝ }
+pub fn check_preconditions(sheet: &[u8], work: &mut [u32], out: &mut [u8]) -> Reply
+    ensures { λ r. ⌜ Replied (checkPreconditions (now (sheet .entry)) (length (now (work .entry))) (length (now (out .entry)))) (now (work .entry)) (now (work .exit)) (now (out .entry)) (now (out .exit)) r ⌝ }
 {
-    match open(sheet, work) {
-        Opened::Refused(n) => {
-            clear(work);
-            Sent { number: n, size: 0 }
-        }
-        Opened::Sheet(m) => {
-            let a = preconditions_call(sheet, work, m);
-            let sent = emit(sheet, work, out, a);
-            clear(work);
-            sent
-        }
-    }
+    case_of(sent::check_preconditions(sheet, work, out))
 }
 
 // Whether the invariants hold, or the first that does not.
-pub fn check_invariants(sheet: &[u8], work: &mut [u32], out: &mut [u8]) -> Sent
-    ensures { λ r. ⌜ Called (checkInvariants (now (sheet .entry)) (length (now (work .entry))) (length (now (out .entry)))) (now (work .entry)) (now (work .exit)) (now (out .entry)) (now (out .exit)) r ⌝ }
+pub fn check_invariants(sheet: &[u8], work: &mut [u32], out: &mut [u8]) -> Reply
+    ensures { λ r. ⌜ Replied (checkInvariants (now (sheet .entry)) (length (now (work .entry))) (length (now (out .entry)))) (now (work .entry)) (now (work .exit)) (now (out .entry)) (now (out .exit)) r ⌝ }
 {
-    match open(sheet, work) {
-        Opened::Refused(n) => {
-            clear(work);
-            Sent { number: n, size: 0 }
-        }
-        Opened::Sheet(m) => {
-            let a = invariants_call(sheet, work, m);
-            let sent = emit(sheet, work, out, a);
-            clear(work);
-            sent
-        }
-    }
+    case_of(sent::check_invariants(sheet, work, out))
+}
+
+// The outcome that is selected.
+pub fn select_outcome(sheet: &[u8], work: &mut [u32], out: &mut [u8]) -> Reply
+    ensures { λ r. ⌜ Replied (select (now (sheet .entry)) (length (now (work .entry))) (length (now (out .entry)))) (now (work .entry)) (now (work .exit)) (now (out .entry)) (now (out .exit)) r ⌝ }
+{
+    case_of(sent::select_outcome(sheet, work, out))
 }
 
 // Whether the outcome at a place is kept in the sheet's state.
-pub fn admit_state(sheet: &[u8], work: &mut [u32], out: &mut [u8], place: usize) -> Sent
-    ensures { λ r. ⌜ Called (admit place (now (sheet .entry)) (length (now (work .entry))) (length (now (out .entry)))) (now (work .entry)) (now (work .exit)) (now (out .entry)) (now (out .exit)) r ⌝ }
+pub fn admit_state(sheet: &[u8], work: &mut [u32], out: &mut [u8], place: usize) -> Reply
+    ensures { λ r. ⌜ Replied (admit place (now (sheet .entry)) (length (now (work .entry))) (length (now (out .entry)))) (now (work .entry)) (now (work .exit)) (now (out .entry)) (now (out .exit)) r ⌝ }
 {
-    match open(sheet, work) {
-        Opened::Refused(n) => {
-            clear(work);
-            Sent { number: n, size: 0 }
-        }
-        Opened::Sheet(m) => {
-            let a = admit_call(sheet, work, m, place);
-            let sent = emit(sheet, work, out, a);
-            clear(work);
-            sent
-        }
-    }
+    case_of(sent::admit_state(sheet, work, out, place))
 }
 
-// The first eligible outcome with no guard or a True one.
-pub fn select_outcome(sheet: &[u8], work: &mut [u32], out: &mut [u8]) -> Sent
-    ensures { λ r. ⌜ Called (select (now (sheet .entry)) (length (now (work .entry))) (length (now (out .entry)))) (now (work .entry)) (now (work .exit)) (now (out .entry)) (now (out .exit)) r ⌝ }
+// The outcome that the sheet's rules select and its state admits.
+pub fn decide(sheet: &[u8], work: &mut [u32], out: &mut [u8]) -> Reply
+    ensures { λ r. ⌜ Replied (decide (now (sheet .entry)) (length (now (work .entry))) (length (now (out .entry)))) (now (work .entry)) (now (work .exit)) (now (out .entry)) (now (out .exit)) r ⌝ }
 {
-    match open(sheet, work) {
-        Opened::Refused(n) => {
-            clear(work);
-            Sent { number: n, size: 0 }
-        }
-        Opened::Sheet(m) => {
-            let a = select_call(sheet, work, m);
-            let sent = emit(sheet, work, out, a);
-            clear(work);
-            sent
-        }
-    }
-}
-
-// The whole decision: preconditions, selection, admission.
-pub fn decide(sheet: &[u8], work: &mut [u32], out: &mut [u8]) -> Sent
-    ensures { λ r. ⌜ Called (decide (now (sheet .entry)) (length (now (work .entry))) (length (now (out .entry)))) (now (work .entry)) (now (work .exit)) (now (out .entry)) (now (out .exit)) r ⌝ }
-{
-    match open(sheet, work) {
-        Opened::Refused(n) => {
-            clear(work);
-            Sent { number: n, size: 0 }
-        }
-        Opened::Sheet(m) => {
-            let a = decide_call(sheet, work, m);
-            let sent = emit(sheet, work, out, a);
-            clear(work);
-            sent
-        }
-    }
+    case_of(sent::decide(sheet, work, out))
 }

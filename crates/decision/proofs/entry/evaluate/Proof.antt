@@ -1,63 +1,28 @@
--- `decision::entry::evaluate` meets its contract: refused on opening the sheet, or answered by the call on it.
+-- `decision::entry::evaluate` meets its contract: the case of the number that the call gives.
 -- Assumes nothing.
+use lib.ListN.{length}
 use Rattle.decision.specs.Decide.{evaluateCall}
 use Rattle.decision.specs.Entry.{evaluate}
-use Rattle.decision.proofs.Entries.{called-refused, called-sheet, held-answer, opened-large}
+use Rattle.decision.proofs.Numbers.{every-call-ends, replied, told-called}
 use borrow.Author.Needs.{needs}
 use Rattle.decision.proofs.entry.evaluate.Statement.{statement}
 use Rattle.decision.proofs.entry.evaluate.Tie as tie
 
-open-requires : tie.Need-open-requires
-open-requires c κs = search needs
+evaluate-requires : tie.Need-evaluate-requires
+evaluate-requires c κs = search needs
 
-enum-known-n : tie.Need-enum-known-n
-enum-known-n c = search needs
-
-clear-requires : tie.Need-clear-requires
-clear-requires c κs = search needs
-
-enum-known-m : tie.Need-enum-known-m
-enum-known-m c = search needs
-
-evaluate-call-requires : tie.Need-evaluate-call-requires
-evaluate-call-requires c κs = opened-large evaluateCall (c .before .before .before .before .before .before .«open» .ensures) (c .before .before .before .before .before .before .«open» .kept .1 .0) (c .before .before .m .given .0 .0) (c .before .before .m .given .1)
-
-emit-requires : tie.Need-emit-requires
-emit-requires c κs = held-answer evaluateCall (c .before .before .before .before .before .before .before .before .before .before .before .«open» .ensures) (c .before .before .before .before .before .before .before .before .before .before .before .«open» .kept .1 .0) (c .before .before .before .before .before .before .before .m .given .0 .0) (c .before .before .before .before .before .before .before .m .given .1) (c .before .before .before .before .evaluate-call .ensures)
-
-clear-requires-2 : tie.Need-clear-requires-2
-clear-requires-2 c κs = search needs
+case-of-requires : tie.Need-case-of-requires
+unfolding evaluate
+case-of-requires c κs = told-called (c .before .before .before .before .evaluate .ensures) (every-call-ends evaluateCall (c .before .before .before .before .before .before .before .before .before .before .args .sheet .now) (length (c .before .before .before .before .before .before .before .before .before .before .args .work .now)) (length (c .before .before .before .before .before .before .before .before .before .before .args .out .now)))
 
 same-length : tie.Need-same-length
 same-length c = search needs
 
-returns : tie.Need-returns
-unfolding evaluate
-returns c = called-refused evaluateCall (c .before .before .before .before .before .before .before .before .before .«open» .ensures) (c .before .before .before .before .before .before .before .before .before .«open» .kept .1 .0) (c .before .before .clear .ensures) (c .before .before .before .before .before .n .given .0 .0) (c .before .before .before .before .before .n .given .1) (c .before .before .before .before .before .before .before .before .before .before .before .before .before .before .args .out .now)
-
 same-length-2 : tie.Need-same-length-2
 same-length-2 c = search needs
 
-same-length-3 : tie.Need-same-length-3
-same-length-3 c = search needs
-
-returns-2 : tie.Need-returns-2
-unfolding evaluate
-returns-2 c = called-sheet evaluateCall (c .before .before .before .before .before .before .before .before .before .before .before .before .before .before .before .before .before .before .«open» .ensures) (c .before .before .before .before .before .before .before .before .before .before .before .before .before .before .before .before .before .before .«open» .kept .1 .0) (c .before .before .before .before .before .before .before .before .before .before .before .before .before .before .m .given .0 .0) (c .before .before .before .before .before .before .before .before .before .before .before .before .before .before .m .given .1) (c .before .before .before .before .before .before .before .before .before .before .before .evaluate-call .ensures) (c .before .before .before .before .before .before .emit .ensures) (c .before .before .clear2 .ensures)
+returns : tie.Need-returns
+returns c = replied (c .before .before .before .before .before .evaluate .ensures) (c .case-of .ensures)
 
 pub evaluate-spec : {M : Type 1} → statement M
-evaluate-spec =
-    tie.close
-    (tie.spec
-    open-requires
-    enum-known-n
-    clear-requires
-    enum-known-m
-    evaluate-call-requires
-    emit-requires
-    clear-requires-2
-    same-length
-    returns
-    same-length-2
-    same-length-3
-    returns-2)
+evaluate-spec = tie.close (tie.spec evaluate-requires case-of-requires same-length same-length-2 returns)

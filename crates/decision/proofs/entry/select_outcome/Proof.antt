@@ -1,63 +1,28 @@
--- `decision::entry::select_outcome` meets its contract: refused on opening the sheet, or answered by the call on it.
+-- `decision::entry::select_outcome` meets its contract: the case of the number that the call gives.
 -- Assumes nothing.
+use lib.ListN.{length}
 use Rattle.decision.specs.Decide.{selectCall}
 use Rattle.decision.specs.Entry.{select}
-use Rattle.decision.proofs.Entries.{called-refused, called-sheet, held-answer, opened-large}
+use Rattle.decision.proofs.Numbers.{every-call-ends, replied, told-called}
 use borrow.Author.Needs.{needs}
 use Rattle.decision.proofs.entry.select_outcome.Statement.{statement}
 use Rattle.decision.proofs.entry.select_outcome.Tie as tie
 
-open-requires : tie.Need-open-requires
-open-requires c κs = search needs
+select-outcome-requires : tie.Need-select-outcome-requires
+select-outcome-requires c κs = search needs
 
-enum-known-n : tie.Need-enum-known-n
-enum-known-n c = search needs
-
-clear-requires : tie.Need-clear-requires
-clear-requires c κs = search needs
-
-enum-known-m : tie.Need-enum-known-m
-enum-known-m c = search needs
-
-select-call-requires : tie.Need-select-call-requires
-select-call-requires c κs = opened-large selectCall (c .before .before .before .before .before .before .«open» .ensures) (c .before .before .before .before .before .before .«open» .kept .1 .0) (c .before .before .m .given .0 .0) (c .before .before .m .given .1)
-
-emit-requires : tie.Need-emit-requires
-emit-requires c κs = held-answer selectCall (c .before .before .before .before .before .before .before .before .before .before .before .«open» .ensures) (c .before .before .before .before .before .before .before .before .before .before .before .«open» .kept .1 .0) (c .before .before .before .before .before .before .before .m .given .0 .0) (c .before .before .before .before .before .before .before .m .given .1) (c .before .before .before .before .select-call .ensures)
-
-clear-requires-2 : tie.Need-clear-requires-2
-clear-requires-2 c κs = search needs
+case-of-requires : tie.Need-case-of-requires
+unfolding select
+case-of-requires c κs = told-called (c .before .before .before .before .select-outcome .ensures) (every-call-ends selectCall (c .before .before .before .before .before .before .before .before .before .before .args .sheet .now) (length (c .before .before .before .before .before .before .before .before .before .before .args .work .now)) (length (c .before .before .before .before .before .before .before .before .before .before .args .out .now)))
 
 same-length : tie.Need-same-length
 same-length c = search needs
 
-returns : tie.Need-returns
-unfolding select
-returns c = called-refused selectCall (c .before .before .before .before .before .before .before .before .before .«open» .ensures) (c .before .before .before .before .before .before .before .before .before .«open» .kept .1 .0) (c .before .before .clear .ensures) (c .before .before .before .before .before .n .given .0 .0) (c .before .before .before .before .before .n .given .1) (c .before .before .before .before .before .before .before .before .before .before .before .before .before .before .args .out .now)
-
 same-length-2 : tie.Need-same-length-2
 same-length-2 c = search needs
 
-same-length-3 : tie.Need-same-length-3
-same-length-3 c = search needs
-
-returns-2 : tie.Need-returns-2
-unfolding select
-returns-2 c = called-sheet selectCall (c .before .before .before .before .before .before .before .before .before .before .before .before .before .before .before .before .before .before .«open» .ensures) (c .before .before .before .before .before .before .before .before .before .before .before .before .before .before .before .before .before .before .«open» .kept .1 .0) (c .before .before .before .before .before .before .before .before .before .before .before .before .before .before .m .given .0 .0) (c .before .before .before .before .before .before .before .before .before .before .before .before .before .before .m .given .1) (c .before .before .before .before .before .before .before .before .before .before .before .select-call .ensures) (c .before .before .before .before .before .before .emit .ensures) (c .before .before .clear2 .ensures)
+returns : tie.Need-returns
+returns c = replied (c .before .before .before .before .before .select-outcome .ensures) (c .case-of .ensures)
 
 pub select-outcome-spec : {M : Type 1} → statement M
-select-outcome-spec =
-    tie.close
-    (tie.spec
-    open-requires
-    enum-known-n
-    clear-requires
-    enum-known-m
-    select-call-requires
-    emit-requires
-    clear-requires-2
-    same-length
-    returns
-    same-length-2
-    same-length-3
-    returns-2)
+select-outcome-spec = tie.close (tie.spec select-outcome-requires case-of-requires same-length same-length-2 returns)
