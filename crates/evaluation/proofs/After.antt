@@ -24,8 +24,7 @@ use Rattle.reader.specs.Spans.{textAt}
 use Rattle.reader.specs.Table.{rows, rowsIn, startAt, valueAt, valuesAt}
 use Rattle.reader.specs.declared.rows.Found.{Found}
 use Rattle.reader.specs.declared.rows.Found.the-variants as founds
-use Rattle.sheet.proofs.GivenConditions.{ConditionsGive}
-use Rattle.sheet.specs.Accepted.{Accepted, EachGives, Gives, MayGive, Stored}
+use Rattle.sheet.specs.Accepted.{Accepted, ConditionsGive, EachGives, Gives, MayGive, Stored}
 use Rattle.sheet.specs.Condition.{Condition, Conditions, condition, conditionsIn}
 use Rattle.sheet.specs.Kinds.{aText, eachOf}
 use Rattle.sheet.specs.Sheet.{Sheet}

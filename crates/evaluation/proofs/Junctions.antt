@@ -25,10 +25,10 @@ use Rattle.semantics.specs.Truth.{Truth, join, start}
 use Rattle.semantics.specs.declared.truth.Truth as code
 use Rattle.semantics.specs.declared.truth.Truth.the-variants as truths
 use Rattle.sheet.proofs.Given.{ObjectHere, object-here}
-use Rattle.sheet.proofs.GivenConditions.{ConditionsGive, NextCondition, OneMember, conditions-done, conditions-next, given-exists, given-junction, given-negation, given-pair, literal-false, literal-true, one-member}
+use Rattle.sheet.specs.Accepted.{ConditionsGive, Gives, Known}
+use Rattle.sheet.proofs.GivenConditions.{NextCondition, OneMember, conditions-done, conditions-next, given-exists, given-junction, given-negation, given-pair, literal-false, literal-true, one-member}
 use Rattle.sheet.proofs.Shapes.{object-at}
 use Rattle.sheet.proofs.Verdicts.{never}
-use Rattle.sheet.specs.Accepted.{Gives, Known}
 use Rattle.sheet.specs.Answers.{formOf, modeOf, operatorOf}
 use Rattle.sheet.specs.Condition.{Condition, Conditions, Mode, condition, conditionArray, conditionObject, exists, formed, negation, oneMember, operators, pair}
 use Rattle.sheet.specs.Sheet.{Sheet}

@@ -16,12 +16,12 @@ use operands::roots::Roots;
 use operands::rows::after_at;
 use operands::rows::kind_at;
 use operands::rows::start_at;
-use reader::rows::Found;
 use semantics::truth::Truth;
 use sheet::condition::Mode;
 use sheet::condition::Operator;
 use sheet::condition::operator_at;
 use sheet::member::named;
+use sheet::shape::node_of;
 ghost use mathlib.Core.Path.{_≡_};
 ghost use Prim.Native.Nat.{_+_, _*_, _<_, _≤_};
 ghost use Rattle.reader.specs.Cursor.{OnText};
@@ -30,11 +30,10 @@ ghost use Rattle.reader.specs.Spans.{textAt};
 ghost use Rattle.reader.specs.Table.{afterAt};
 ghost use Rattle.semantics.specs.Told.{truthOf};
 ghost use Rattle.semantics.specs.Truth.{join, settles, start};
-ghost use Rattle.sheet.specs.Accepted.{Gives, Known, nodeOf};
+ghost use Rattle.sheet.specs.Accepted.{ConditionsGive, Gives, Known};
 ghost use Rattle.sheet.specs.Answers.{modeOf};
 ghost use Rattle.sheet.specs.Condition as conditions;
 ghost use Rattle.sheet.specs.Condition.{Condition, Conditions, condition};
-ghost use Rattle.sheet.proofs.GivenConditions.{ConditionsGive};
 ghost use Rattle.operands.specs.Marks.{Working};
 ghost use Rattle.operands.specs.Rooted.{sheetIn};
 ghost use Rattle.operands.specs.Stored.{HasKind, OperandAt, Room, framesOf, operandOf, table, tree};
@@ -47,15 +46,6 @@ pub struct Quantifier {
     pub over: usize,
     pub bind: usize,
     pub body: usize,
-}
-
-fn node_of(found: Found) -> usize
-    ensures { λ r. ⌜ r ≡ nodeOf found ⌝ }
-{
-    match found {
-        Found::Nothing => 0,
-        Found::At(n) => n,
-    }
 }
 
 fn quantifier_at(s: &[u8], work: &[u32], node: usize) -> Quantifier

@@ -8,6 +8,7 @@ use lib.ListN.{length}
 use Rattle.line.specs.Least.{inTurn, isAfter, leastAfter, lesser, nearer}
 use Rattle.semantics.specs.Names.{ascending, insertName}
 use Rattle.reader.proofs.Sorted as sorted
+use Rattle.reader.specs.KeyOrder as order
 use Rattle.reader.specs.Bytes.{Bytes, orderBytes}
 
 keyed : List Bytes → List (Bytes × Unit {0})
@@ -27,41 +28,41 @@ unfolding keyed keys
 keys-keyed [] = refl
 keys-keyed (t ∷ ts) = ap {B = List Bytes} (λ l. t ∷ l) (keys-keyed ts)
 
-step-keyed : (last : Option Bytes) (t : Bytes) (best : Option Bytes) → sorted.step last (t, tt) (keyed? best) ≡ keyed? (nearer last t best)
-unfolding sorted.step sorted.after sorted.better nearer isAfter lesser keyed?
+step-keyed : (last : Option Bytes) (t : Bytes) (best : Option Bytes) → order.step last (t, tt) (keyed? best) ≡ keyed? (nearer last t best)
+unfolding order.step order.after order.better nearer isAfter lesser keyed?
 step-keyed last t best = go last best
   where
-    better : (best : Option Bytes) → sorted.better (t, tt) (keyed? best) ≡ keyed? (lesser t best)
+    better : (best : Option Bytes) → order.better (t, tt) (keyed? best) ≡ keyed? (lesser t best)
     better none = refl
     better (some b) = by (orderBytes t b) refl
       where
-        by : (o : Ordering) → orderBytes t b ≡ o → sorted.better (t, tt) (some (b, tt)) ≡ keyed? (lesser t (some b))
-        by Ordering·lt e = rw (e, sorted.better)
-        by Ordering·eq e = rw (e, sorted.better)
-        by Ordering·gt e = rw (e, sorted.better)
+        by : (o : Ordering) → orderBytes t b ≡ o → order.better (t, tt) (some (b, tt)) ≡ keyed? (lesser t (some b))
+        by Ordering·lt e = rw (e, order.better)
+        by Ordering·eq e = rw (e, order.better)
+        by Ordering·gt e = rw (e, order.better)
 
-    go : (last best : Option Bytes) → sorted.step last (t, tt) (keyed? best) ≡ keyed? (nearer last t best)
+    go : (last best : Option Bytes) → order.step last (t, tt) (keyed? best) ≡ keyed? (nearer last t best)
     go none best = better best
     go (some l) best = by (orderBytes l t) refl
       where
-        by : (o : Ordering) → orderBytes l t ≡ o → sorted.step (some l) (t, tt) (keyed? best) ≡ keyed? (nearer (some l) t best)
+        by : (o : Ordering) → orderBytes l t ≡ o → order.step (some l) (t, tt) (keyed? best) ≡ keyed? (nearer (some l) t best)
         by Ordering·lt e = rw e (better best)
         by Ordering·eq e = rw e
         by Ordering·gt e = rw e
 
-least-keyed : (last : Option Bytes) (ts : List Bytes) → sorted.least last (keyed ts) ≡ keyed? (leastAfter last ts)
-unfolding sorted.least keyed leastAfter keyed?
+least-keyed : (last : Option Bytes) (ts : List Bytes) → order.least last (keyed ts) ≡ keyed? (leastAfter last ts)
+unfolding order.least keyed leastAfter keyed?
 least-keyed last [] = refl
-least-keyed last (t ∷ ts) = ap (sorted.step last (t, tt)) (least-keyed last ts) ∙ step-keyed last t (leastAfter last ts)
+least-keyed last (t ∷ ts) = ap (order.step last (t, tt)) (least-keyed last ts) ∙ step-keyed last t (leastAfter last ts)
 
-chain-keyed : (n : ℕ) (last : Option Bytes) (ts : List Bytes) → sorted.chain n last (keyed ts) ≡ keyed (inTurn n last ts)
-unfolding sorted.chain inTurn keyed keyed?
+chain-keyed : (n : ℕ) (last : Option Bytes) (ts : List Bytes) → order.chain n last (keyed ts) ≡ keyed (inTurn n last ts)
+unfolding order.chain inTurn keyed keyed?
 chain-keyed zero last ts = refl
 chain-keyed (suc n) last ts = go (leastAfter last ts) refl (λ l. chain-keyed n l ts)
   where
-    go : (o : Option Bytes) → leastAfter last ts ≡ o → ((l : Option Bytes) → sorted.chain n l (keyed ts) ≡ keyed (inTurn n l ts)) → sorted.chain (suc n) last (keyed ts) ≡ keyed (inTurn (suc n) last ts)
-    go none e below = rw (least-keyed last ts, e, sorted.chain, inTurn)
-    go (some t) e below = rw (least-keyed last ts, e, sorted.chain, inTurn) (ap {B = List (Bytes × Unit {0})} (λ l. (t, tt) ∷ l) (below (some t)))
+    go : (o : Option Bytes) → leastAfter last ts ≡ o → ((l : Option Bytes) → order.chain n l (keyed ts) ≡ keyed (inTurn n l ts)) → order.chain (suc n) last (keyed ts) ≡ keyed (inTurn (suc n) last ts)
+    go none e below = rw (least-keyed last ts, e, order.chain, inTurn)
+    go (some t) e below = rw (least-keyed last ts, e, order.chain, inTurn) (ap {B = List (Bytes × Unit {0})} (λ l. (t, tt) ∷ l) (below (some t)))
 
 put-keyed : (t : Bytes) (ts : List Bytes) → sorted.put (t, tt) (keyed ts) ≡ keyed (insertName t ts)
 unfolding sorted.put keyed insertName

@@ -1,4 +1,4 @@
--- The exact value of a number's characters, its order, and the comparison that the code runs.
+-- The comparison of two numbers that the code runs: by sign, then by the place of the point, then digit by digit.
 -- Assumes nothing.
 use mathlib.Core.Bool.{Bool, false, true, _&&_}
 use mathlib.Core.List.{[], _++_, _∷_}

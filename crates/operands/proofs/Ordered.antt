@@ -9,8 +9,8 @@ use native.Mathlib.Omega.{arith}
 use lib.Dec.{ltb}
 use lib.ListN.{length}
 use borrow.Author.Tests.{le-ltb, lt-ltb, ltb-true}
-use Rattle.reader.proofs.KeyOrder.{namesAt, namesBy}
-use Rattle.reader.proofs.Sorted.{OrderView, after, best-changes, best-stays, better, chain, isEq′, isGt, isLess, isLt, least, less-order, more-order, order-view, same-order, step}
+use Rattle.reader.specs.KeyOrder.{after, better, chain, isLess, least, namesAt, namesBy, step}
+use Rattle.reader.proofs.Sorted.{OrderView, best-changes, best-stays, isEq′, isGt, isLt, less-order, more-order, order-view, same-order}
 use Rattle.reader.proofs.Decoded.{size-pos}
 use Rattle.reader.proofs.Walk.{More, MoreMembers, members-more, values-more}
 use Rattle.reader.specs.Bytes.{Bytes, orderBytes}

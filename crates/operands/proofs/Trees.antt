@@ -8,8 +8,9 @@ use Prim.Native.Nat.{Ordering, Ordering·eq, Ordering·gt, Ordering·lt, suc, ze
 use native.Mathlib.Omega.{arith}
 use lib.Dec.{ltb}
 use lib.Seq.{slice}
-use Rattle.reader.proofs.KeyOrder.{ascending-members, namesAt, namesBy}
-use Rattle.reader.proofs.Sorted.{after, better, chain, least, step, valued}
+use Rattle.reader.specs.KeyOrder.{after, better, chain, least, namesAt, namesBy, step}
+use Rattle.reader.proofs.KeyOrder.{ascending-members}
+use Rattle.reader.proofs.Sorted.{valued}
 use Rattle.reader.proofs.Walk.{View, after-node, isArray, isObject, isPlain, view}
 use Rattle.reader.specs.Bytes.{Bytes, orderBytes}
 use Rattle.reader.specs.Cursor.{OnText}

@@ -6,8 +6,7 @@ use mathlib.Core.Option.{Option, none, some}
 use mathlib.Core.Path.{_≡_}
 use Prim.Native.Nat.{Ordering·eq, Ordering·gt, Ordering·lt, suc, zero, ℕ, _+_, _-_, _<_}
 use lib.Dec.{ltb}
-use Rattle.reader.proofs.KeyOrder.{namesAt}
-use Rattle.reader.proofs.Sorted.{after, chain, least}
+use Rattle.reader.specs.KeyOrder.{after, chain, least, namesAt}
 use Rattle.reader.specs.Bytes.{Bytes, orderBytes}
 use Rattle.reader.specs.Cursor.{OnText}
 use Rattle.reader.specs.Held.{HasMembers, HasNode}

@@ -5,7 +5,7 @@ ghost use Prim.Native.Nat.{_+_, _<_, _≤_};
 ghost use Rattle.reader.specs.Held.{HasMembers};
 ghost use Rattle.reader.specs.Spans.{textAt};
 ghost use Rattle.reader.specs.Table.{afterAt, startAt};
-ghost use Rattle.reader.proofs.Sorted.{after};
+ghost use Rattle.reader.specs.KeyOrder.{after};
 ghost use Rattle.operands.specs.Children.{Best, ChildTold, ChildrenAt, NameAt, Named, begun, improved, lastOf, lesserOf};
 ghost use Rattle.operands.specs.Stored.{Room, table};
 

@@ -8,22 +8,13 @@ use Prim.Native.Nat.{suc, zero, ℕ, _+_, _-_, _≤_}
 use native.Mathlib.Omega.{arith}
 use lib.Dec.{ltb}
 use lib.ListN.{length}
-use Rattle.reader.proofs.Sorted.{chain, chain-sorted, each-valued, eachSorted, entries-sorted, inOrder, inOrder-valued, valued}
+use Rattle.reader.proofs.Sorted.{chain-sorted, each-valued, eachSorted, entries-sorted, inOrder, inOrder-valued, valued}
 use Rattle.reader.specs.Bytes.{Bytes}
 use Rattle.reader.specs.Json.{Value, entries}
+use Rattle.reader.specs.KeyOrder.{chain, namesAt, namesBy}
 use Rattle.reader.specs.Sorted.{sorted, sortedOf}
 use Rattle.reader.specs.Spans.{textAt}
 use Rattle.reader.specs.Table.{afterAt, membersAt, membersBy, startAt, valueAt}
-
--- each name with its node, from k up to e
-unfoldable pub namesBy : Bytes → List ℕ → ℕ → ℕ → ℕ → List (Bytes × ℕ)
-unfolding textAt
-namesBy s w zero k e = []
-namesBy s w (suc m) k e = elim (ltb k e) [ true ↦ (textAt s (startAt w k), k) ∷ namesBy s w m (afterAt w (k + 1)) e | false ↦ [] ]
-
-unfoldable pub namesAt : Bytes → List ℕ → ℕ → ℕ → List (Bytes × ℕ)
-unfolding namesBy
-namesAt s w k e = namesBy s w (e - k) k e
 
 -- a member's value stands behind its name
 entries-by : (f : ℕ → Value) (s : Bytes) (w : List ℕ) (m k e : ℕ) → entries (membersBy f s w m k e) ≡ valued (λ j. f (j + 1)) (namesBy s w m k e)

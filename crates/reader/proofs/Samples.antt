@@ -1,4 +1,5 @@
 -- A small text read by place, its rows, and the table read back.
+-- Assumes nothing.
 use mathlib.Core.List.{[], _∷_}
 use mathlib.Core.Path.{refl, _≡_}
 use Rattle.reader.specs.Bytes.{Bytes, ascii}

@@ -11,43 +11,12 @@ use lib.ListN.{length}
 use Rattle.reader.proofs.Cursor.{compare-gt, compare-lt, compare-same}
 use Rattle.reader.specs.Bytes.{Bytes, orderBytes}
 use Rattle.reader.specs.Json.{Members, Value, empty, entries, member}
+use Rattle.reader.specs.KeyOrder.{after, better, chain, isLess, least, step}
 use Rattle.reader.specs.Sorted.{insert, sorted, sortedOf}
 use borrow.Author.Tests.{eqb-false, leb-false, leb-true}
 
--- ---- the definitions
--- whether a key comes after the last one; the better of a member and what was found
-abbrev pub isLess : Ordering → Bool
-isLess Ordering·lt = true
-isLess Ordering·eq = false
-isLess Ordering·gt = false
-
-unfoldable pub after : Option Bytes → Bytes → Bool
-unfolding orderBytes
-after none k = true
-after (some b) k = isLess (orderBytes b k)
-
-unfoldable pub better : {A : Type 0} → Bytes × A → Option (Bytes × A) → Option (Bytes × A)
-unfolding orderBytes
-better x none = some x
-better x (some y) = elim (orderBytes (x .0) (y .0)) [ Ordering·lt ↦ some x | Ordering·eq ↦ some y | Ordering·gt ↦ some y ]
-
--- the member with the least key after the last one
-unfoldable pub step : {A : Type 0} → Option Bytes → Bytes × A → Option (Bytes × A) → Option (Bytes × A)
-unfolding after better
-step last x o = cond (after last (x .0)) (better x o) o
-
-unfoldable pub least : {A : Type 0} → Option Bytes → List (Bytes × A) → Option (Bytes × A)
-unfolding step
-least last [] = none
-least last (x ∷ xs) = step last x (least last xs)
-
--- from one to the next
-unfoldable pub chain : {A : Type 0} → ℕ → Option Bytes → List (Bytes × A) → List (Bytes × A)
-unfolding least
-chain zero last xs = []
-chain (suc n) last xs = elim (least last xs) [ none ↦ [] | some x ↦ x ∷ chain n (some (x .0)) xs ]
-
--- the ascending list, member by member as `sorted` makes it
+-- ---- the ascending list
+-- member by member as `sorted` makes it
 unfoldable pub put : {A : Type 0} → Bytes × A → List (Bytes × A) → List (Bytes × A)
 unfolding orderBytes
 put x [] = x ∷ []

@@ -14,6 +14,7 @@ pub mod Fault
 pub mod Spans
 pub mod Placing
 pub mod Table
+pub mod KeyOrder
 pub mod Marks
 pub mod Escapes
 pub mod Fits

@@ -7,16 +7,16 @@ ghost use lib.ListN.{length};
 ghost use Rattle.reader.specs.Reads.{Cleared, ReadTold};
 
 pub mod answer;
-pub mod bracket;
+mod bracket;
 pub mod escape;
-pub mod leaf;
-pub mod names;
-pub mod numeral;
+mod leaf;
+mod names;
+mod numeral;
 pub mod rows;
-pub mod scan;
+mod scan;
 pub mod text;
-pub mod tree;
-pub mod utf8;
+mod tree;
+mod utf8;
 
 // The words for marks, 12,288 to 16,383, become zero.
 fn clear(work: &mut [u32])

@@ -145,35 +145,35 @@ module _ (Erased : Bytes → Type 0) where
   settles-unknown Mode.any = refl
 
   -- one element's answer before those of the rest
-  cell : Mode → Answer → Answer → Answer
-  cell m a c = elim (settles m (a .truth)) [ true ↦ a | false ↦ joined m a c ]
+  turn : Mode → Answer → Answer → Answer
+  turn m a c = elim (settles m (a .truth)) [ true ↦ a | false ↦ joined m a c ]
 
-  cell-settled : (m : Mode) (a c : Answer) → settles m (a .truth) ≡ true → cell m a c ≡ a
-  unfolding cell
-  cell-settled m a c e = rw (e, cell) refl
+  turn-settled : (m : Mode) (a c : Answer) → settles m (a .truth) ≡ true → turn m a c ≡ a
+  unfolding turn
+  turn-settled m a c e = rw (e, turn) refl
 
-  cell-open : (m : Mode) (a c : Answer) → settles m (a .truth) ≡ false → cell m a c ≡ joined m a c
-  unfolding cell
-  cell-open m a c e = rw (e, cell) refl
+  turn-open : (m : Mode) (a c : Answer) → settles m (a .truth) ≡ false → turn m a c ≡ joined m a c
+  unfolding turn
+  turn-open m a c e = rw (e, turn) refl
 
-  each-cell : (m : Mode) (f : Value → Result Answer) (v : Value) (vs : List Value) (a c : Answer) → f v ≡ ok a → each m f vs ≡ ok c → each m f (v ∷ vs) ≡ ok (cell m a c)
-  unfolding each cell
-  each-cell m f v vs a c p q = bind-ok _ p ∙ go (settles m (a .truth)) refl
+  each-turn : (m : Mode) (f : Value → Result Answer) (v : Value) (vs : List Value) (a c : Answer) → f v ≡ ok a → each m f vs ≡ ok c → each m f (v ∷ vs) ≡ ok (turn m a c)
+  unfolding each turn
+  each-turn m f v vs a c p q = bind-ok _ p ∙ go (settles m (a .truth)) refl
     where
       rest : Bool → Result Answer
       rest b = elim b [ true ↦ ok a | false ↦ (each m f vs >>= λ d. ok (joined m a d)) ]
 
-      go : (b : Bool) → settles m (a .truth) ≡ b → rest (settles m (a .truth)) ≡ ok (cell m a c)
-      go true e = rw (e, cell) refl
-      go false e = rw (e, cell) (bind-ok _ q)
+      go : (b : Bool) → settles m (a .truth) ≡ b → rest (settles m (a .truth)) ≡ ok (turn m a c)
+      go true e = rw (e, turn) refl
+      go false e = rw (e, turn) (bind-ok _ q)
 
-  later-cell : (m : Mode) (a b c d : Answer) → Later a b → Later c d → Later (cell m a c) (cell m b d)
-  later-cell m a b c d (truthKept e) k = go (settles m (a .truth)) refl
+  later-turn : (m : Mode) (a b c d : Answer) → Later a b → Later c d → Later (turn m a c) (turn m b d)
+  later-turn m a b c d (truthKept e) k = go (settles m (a .truth)) refl
     where
-      go : (x : Bool) → settles m (a .truth) ≡ x → Later (cell m a c) (cell m b d)
-      go true s = rw (cell-settled m a c s, cell-settled m b d (ap (settles m) e ∙ s)) (truthKept e)
-      go false s = rw (cell-open m a c s, cell-open m b d (ap (settles m) e ∙ s)) (later-joined m a b c d (truthKept e) k)
-  later-cell m a b c d (truthGone u l) k = go (settles m (a .truth)) refl
+      go : (x : Bool) → settles m (a .truth) ≡ x → Later (turn m a c) (turn m b d)
+      go true s = rw (turn-settled m a c s, turn-settled m b d (ap (settles m) e ∙ s)) (truthKept e)
+      go false s = rw (turn-open m a c s, turn-open m b d (ap (settles m) e ∙ s)) (later-joined m a b c d (truthKept e) k)
+  later-turn m a b c d (truthGone u l) k = go (settles m (a .truth)) refl
     where
       openNow : settles m (b .truth) ≡ false
       openNow = ap (settles m) u ∙ settles-unknown m
@@ -182,9 +182,9 @@ module _ (Erased : Bytes → Type 0) where
       joinedNow s (inl q) = truthGone (cc) (lost-left (b .names) (d .names) l)
       joinedNow s (inr q) = truthKept (cc (q (a .truth), settles-join m (a .truth) (d .truth) s))
 
-      go : (x : Bool) → settles m (a .truth) ≡ x → Later (cell m a c) (cell m b d)
-      go true s = rw (cell-settled m a c s, cell-open m b d openNow) (joinedNow s (join-unknown-left m (d .truth)))
-      go false s = rw (cell-open m a c s, cell-open m b d openNow) (later-joined m a b c d (truthGone u l) k)
+      go : (x : Bool) → settles m (a .truth) ≡ x → Later (turn m a c) (turn m b d)
+      go true s = rw (turn-settled m a c s, turn-open m b d openNow) (joinedNow s (join-unknown-left m (d .truth)))
+      go false s = rw (turn-open m a c s, turn-open m b d openNow) (later-joined m a b c d (truthGone u l) k)
 
   later-each : (m : Mode) (f g : Value → Result Answer) → ((v : Value) → Both Later (f v) (g v)) → (vs : List Value) → Both Later (each m f vs) (each m g vs)
   unfolding each
@@ -193,11 +193,11 @@ module _ (Erased : Bytes → Type 0) where
       let x = h v in
       let y = later-each m f g h vs in
       record {
-        was = cell m (x .was) (y .was);
-        now = cell m (x .now) (y .now);
-        isWas = each-cell m f v vs (x .was) (y .was) (x .isWas) (y .isWas);
-        isNow = each-cell m g v vs (x .now) (y .now) (x .isNow) (y .isNow);
-        rel = later-cell m (x .was) (x .now) (y .was) (y .now) (x .rel) (y .rel);
+        was = turn m (x .was) (y .was);
+        now = turn m (x .now) (y .now);
+        isWas = each-turn m f v vs (x .was) (y .was) (x .isWas) (y .isWas);
+        isNow = each-turn m g v vs (x .now) (y .now) (x .isNow) (y .isNow);
+        rel = later-turn m (x .was) (x .now) (y .was) (y .now) (x .rel) (y .rel);
       }
 
 -- an expression that no binder takes is a reading

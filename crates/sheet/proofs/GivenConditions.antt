@@ -32,7 +32,7 @@ use Rattle.sheet.proofs.SortedKinds.{bind-inv}
 use Rattle.sheet.proofs.SortedMembers.{and-first, and-second, find-sorted, find-tidy, length-sorted, mapped, unrepeated}
 use Rattle.sheet.proofs.Verdicts.{never}
 use Rattle.sheet.proofs.Walks.{full, full-nodes}
-use Rattle.sheet.specs.Accepted.{Gives}
+use Rattle.sheet.specs.Accepted.{ConditionsGive, Gives}
 use Rattle.sheet.specs.Answers.{formOf, modeOf, operatorOf}
 use Rattle.sheet.specs.Condition.{Condition, Conditions, Form, Mode, Operator, also, condition, conditionArray, conditionObject, conditionsIn, conditionsOf, exists, formed, junction, literal, negation, noMore, oneMember, operators, pair, quantified, quantifier, twoOf}
 use Rattle.sheet.specs.Kinds.{aText}
@@ -117,11 +117,6 @@ module _ {s : Bytes} {w : List ℕ} {n : ℕ} {c : Condition} (g : Gives conditi
       only-one = alone (g .node) (kindAt w n) refl (x .isKind) (afterAt w n) refl (length (entries (membersAt s w (n + 1) (afterAt w n)))) refl one (startAt w (n + 1)) refl
 
 -- ---- conditions in an array, one after the other
-pub record ConditionsGive (s : Bytes) (w : List ℕ) (k e : ℕ) (cs : Conditions) : Type 0 where
-  pub nodes : AreNodes s w 64 k e
-  pub isTidy : tidyIn maxNumber (valuesAt s w k e) ≡ true
-  pub is : conditionsIn (sortedIn (valuesAt s w k e)) ≡ ok cs
-
 pub record NextCondition (s : Bytes) (w : List ℕ) (k e : ℕ) (cs : Conditions) : Type 0 where
   pub first : Condition
   pub others : Conditions

@@ -15,7 +15,7 @@ use Rattle.reader.specs.Sorted.{sorted, sortedIn}
 use Rattle.reader.specs.Table.{valueAt, valuesAt}
 use Rattle.reader.specs.declared.rows.Found.{Found}
 use Rattle.reader.specs.declared.rows.Found.the-variants as founds
-use Rattle.sheet.specs.Condition.{Condition, condition}
+use Rattle.sheet.specs.Condition.{Condition, Conditions, condition, conditionsIn}
 use Rattle.sheet.specs.Kinds.{aBool, aText, aVersion, anArrayOf, anObject, eachOf, someTexts}
 use Rattle.sheet.specs.Outcome.{Effect, Outcome, anEffect, anOutcome, orFalse, orStays}
 use Rattle.sheet.specs.Rule.{Rule, aRule}
@@ -128,6 +128,12 @@ pub record OutcomeGives (s : Bytes) (w : List ℕ) (m : OutcomeMembers) (o : Out
 pub record MoveGives (s : Bytes) (w : List ℕ) (m : MoveMembers) (to : Bytes) (from : List Bytes) : Type 0 where
   pub goes : Given aText s w (m .to) to
   pub comes : Given someTexts s w (m .from) from
+
+-- the nodes from k up to e give conditions
+pub record ConditionsGive (s : Bytes) (w : List ℕ) (k e : ℕ) (cs : Conditions) : Type 0 where
+  pub nodes : AreNodes s w 64 k e
+  pub isTidy : tidyIn maxNumber (valuesAt s w k e) ≡ true
+  pub is : conditionsIn (sortedIn (valuesAt s w k e)) ≡ ok cs
 
 -- ---- what code above is given: something of which a thing is known, as the texts that a node gives
 pub record Known {A : Type 0} (Is : A → Type 0) : Type 0 where
