@@ -135,7 +135,7 @@ module _ (R : Operand → Value → Type 0) (m : ℕ) (same : Operand → Operan
   fits-contained (isItems j) r k h = fits-one r j (omega arith)
   fits-contained {t = t} (isFields {ms = ms} j) r k h = ap (λ (ks : List Bytes). elim (asWords t) as (λ _. Bool) [ none ↦ false | some n ↦ isOneOf n ks ]) (fits-keys j) ∙ ap (λ (x : Option Bytes). elim x as (λ _. Bool) [ none ↦ false | some n ↦ isOneOf n (keys ms) ]) (fits-words k)
 
-  fits-numbers : (q : Ordering → Bool) {s t : Shape Operand} {v w : Value} → Fits R s v → Fits R t w → twoNumbers q s t ≡ numbers q v w
+  fits-numbers : (q : Ordering → Bool) {s t : Shape Operand} {v w : Value} → Fits R s v → Fits R t w → twoNumbers q s t ≡ numbers kernel q v w
   fits-numbers q isNothing k = refl
   fits-numbers q isTruth k = refl
   fits-numbers q (isDigits {s = s}) k = ap (λ (x : Option Bytes). elim x as (λ _. Bool) [ none ↦ false | some t ↦ q (numberOrder s t) ]) (fits-digits k)

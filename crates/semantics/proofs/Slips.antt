@@ -34,11 +34,11 @@ module _ (sem : Semantics) {C : Type 0} (sheet : Sheet C) where
   null-is-present env = refl
 
 -- an order of anything but two numbers is False, not Unknown
-unordered : (p : Ordering → Bool) (v w : Value) → (asNumber v ≡ none) ⊎ (asNumber w ≡ none) → numbers p v w ≡ false
-unordered p v w (inl e) = rw (e, numbers) refl
-unordered p v w (inr e) = go (asNumber v) refl
+unordered : (sem : Semantics) (p : Ordering → Bool) (v w : Value) → (asNumber v ≡ none) ⊎ (asNumber w ≡ none) → numbers sem p v w ≡ false
+unordered sem p v w (inl e) = rw (e, numbers) refl
+unordered sem p v w (inr e) = go (asNumber v) refl
   where
-    go : (o : Option Bytes) → asNumber v ≡ o → numbers p v w ≡ false
+    go : (o : Option Bytes) → asNumber v ≡ o → numbers sem p v w ≡ false
     go none q = rw (q, numbers) refl
     go (some s) q = rw (q, numbers, e) refl
 
@@ -51,7 +51,7 @@ pub data IsOrder : Form → Type 0 where
 -- whatever is no number
 pub not-ordered : (sem : Semantics) {f : Form} → IsOrder f → (v w : Value) → (asNumber v ≡ none) ⊎ (asNumber w ≡ none) → holds sem f v w ≡ false
 unfolding holds
-not-ordered sem isGt v w h = unordered isGreater v w h
-not-ordered sem isGte v w h = unordered (λ o. isGreater o || isSame o) v w h
-not-ordered sem isLt v w h = unordered isLess v w h
-not-ordered sem isLte v w h = unordered (λ o. isLess o || isSame o) v w h
+not-ordered sem isGt v w h = unordered sem isGreater v w h
+not-ordered sem isGte v w h = unordered sem (λ o. isGreater o || isSame o) v w h
+not-ordered sem isLt v w h = unordered sem isLess v w h
+not-ordered sem isLte v w h = unordered sem (λ o. isLess o || isSame o) v w h

@@ -32,17 +32,18 @@ unfolding sameBytes
 ends p [] = sameBytes p []
 ends p (c ∷ s) = elim (sameBytes p (c ∷ s)) [ true ↦ true | false ↦ ends p s ]
 
--- anything but two texts, or two numbers, is False
+-- anything but two texts is False
 abbrev pub texts : (Bytes → Bytes → Bool) → Value → Value → Bool
 texts p v w = elim (asText v) [ none ↦ false | some s ↦ elim (asText w) [ none ↦ false | some t ↦ p s t ] ]
-
-abbrev pub numbers : (Ordering → Bool) → Value → Value → Bool
-numbers p v w = elim (asNumber v) [ none ↦ false | some s ↦ elim (asNumber w) [ none ↦ false | some t ↦ p (numberOrder s t) ] ]
 
 abbrev pub hasKey : Members → Value → Bool
 hasKey ms w = elim (asText w) [ none ↦ false | some k ↦ isOneOf k (keys ms) ]
 
 module _ (sem : Semantics) where
+  -- anything but two numbers is False
+  abbrev pub numbers : (Ordering → Bool) → Value → Value → Bool
+  numbers p v w = elim (asNumber v) [ none ↦ false | some s ↦ elim (asNumber w) [ none ↦ false | some t ↦ p (sem .order s t) ] ]
+
   unfoldable pub isElement : Value → Values → Bool
   unfolding equal
   isElement v nil = false

@@ -8,3 +8,4 @@ pub mod Forms
 pub mod Evaluate
 pub mod Readings
 pub mod Told
+pub mod Spelled
