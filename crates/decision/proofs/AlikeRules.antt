@@ -7,13 +7,13 @@ use Rattle.decision.specs.Demand.{SameRules}
 use Rattle.reader.proofs.Alike.{alike-sorted}
 use Rattle.reader.proofs.Complete.{read-exactly}
 use Rattle.reader.proofs.Laws.{bind-ok}
+use Rattle.reader.proofs.Sound.{bind-inv}
 use Rattle.reader.specs.Bytes.{Bytes, ascii, find}
 use Rattle.reader.specs.Json.{Members, Value, entries, object}
 use Rattle.reader.specs.Limits.{maxNumber, tidy, tidyOf}
 use Rattle.reader.specs.Reader.{json}
 use Rattle.reader.specs.Refusal.{Result, ok, orElse, wrongSheet, _>>=_}
 use Rattle.reader.specs.Sorted.{sorted, sortedOf}
-use Rattle.evaluation.proofs.Limits.{bind-inv}
 use Rattle.sheet.proofs.SortedMembers.{find-sorted, find-tidy, mapped}
 use Rattle.sheet.proofs.SortedSheet.{SheetParts, sheet-sorted}
 use Rattle.sheet.specs.Condition.{Condition, condition}

@@ -14,6 +14,7 @@ use Rattle.operands.specs.Shape.{Shape, collected, seconds}
 use Rattle.operands.proofs.Stands.{Agree, refusing, lacking, standing, Stands, Standing, noFrame, frame, standing-length, operand-agrees}
 use Rattle.operands.proofs.Layers.{FitsIn, noItem, oneItem, FitsOf, noField, oneField, Fits, isNothing, isTruth, isDigits, isWords, isItems, isFields, shape-fits, holds-agrees}
 use Rattle.operands.proofs.Nesting.{LowSheet, Low, LowAll, LowEnv, resolve-low}
+use Rattle.semantics.proofs.Parts.{Operands}
 use Rattle.semantics.specs.Evaluate.{Answer, each, certain, collection, compared, evaluate, evaluateAll, isPresent, joined, over, unknown, valuesOf}
 use Rattle.semantics.specs.Expression.{Env}
 use Rattle.semantics.specs.Operand.{Resolved, present, resolve}
@@ -83,7 +84,7 @@ module _ {C : Type 0} (sheet : Sheet C) (low : LowSheet sheet) where
   written-low {fs} {env} v s l h w e = let a = standing-length sheet s in let b = resolve-low sheet low env v l e in omega arith
 
   mutual
-    unfolding judge evaluate Low LowEnv
+    unfolding judge evaluate Operands LowEnv
 
     pub judge-evaluates : (c : Condition) {fs : Frames} {env : Env} → Standing sheet fs env → LowEnv env → Low c → judge sheet fs c ≡ evaluate kernel sheet env c
     judge-evaluates (literal b) s l h = refl

@@ -8,6 +8,7 @@ use Prim.Native.Nat.{ℕ, suc, _+_, _*_, _≤_, max}
 use native.Mathlib.Omega.{arith}
 use lib.ListN.{length}
 use Rattle.operands.proofs.Stands.{impossible, both-inv, same-inv, observed-inv}
+use Rattle.semantics.proofs.Parts.{Entries, Operands, OperandsIn, find-entry}
 use Rattle.semantics.specs.Expression.{Env, bases, below, gives, givesParts, idOf, ifAny, parts, roots, unbound, walk}
 use Rattle.semantics.specs.Operand.{Written, escaped, expression, plain, present, readText, resolve, resolveIn, resolveOf, resolveText}
 use Rattle.semantics.specs.Semantics.{kernel, memberStep}
@@ -15,7 +16,7 @@ use Rattle.reader.specs.Bytes.{Bytes, find, sameBytes}
 use Rattle.reader.specs.Json.{Members, Value, Values, array, bool, cons, empty, entries, member, nil, null, number, object, text}
 use Rattle.reader.specs.Limits.{depth, depthIn, depthOf}
 use Rattle.reader.specs.Refusal.{Result, ok, refused, unknownExpression}
-use Rattle.sheet.specs.Condition.{Condition, Conditions, also, exists, junction, literal, negation, noMore, pair, quantified}
+use Rattle.sheet.specs.Condition.{Condition, Conditions}
 use Rattle.sheet.specs.Sheet.{Sheet}
 
 -- the sheet's values, the written operands, and the binders' values
@@ -24,41 +25,21 @@ pub record LowSheet {C : Type 0} (sheet : Sheet C) : Type 0 where
   pub fields : depth (object (sheet .fields)) ≤ 64
   pub oldFields : depth (object (sheet .oldFields)) ≤ 64
 
-unfoldable mutual
-  unfolding depth
+abbrev pub Shallow : Value → Type 0
+Shallow v = depth v ≤ 64
 
-  pub Low : Condition → Type 0
-  Low (literal b) = Unit {0}
-  Low (junction m cs) = LowAll cs
-  Low (negation c) = Low c
-  Low (exists v) = depth v ≤ 64
-  Low (pair f v w) = (depth v ≤ 64) × (depth w ≤ 64)
-  Low (quantified m v x c) = (depth v ≤ 64) × Low c
+abbrev pub Low : Condition → Type 0
+Low c = Operands Shallow c
 
-  pub LowAll : Conditions → Type 0
-  LowAll noMore = Unit {0}
-  LowAll (also c cs) = Low c × LowAll cs
+abbrev pub LowAll : Conditions → Type 0
+LowAll cs = OperandsIn Shallow cs
 
 unfoldable pub LowEnv : Env → Type 0
 unfolding depth
 LowEnv [] = Unit {0}
 LowEnv (x ∷ env) = (depth (x .1) ≤ 64 * (length env + 2)) × LowEnv env
 
--- what a table holds has what each of its entries has
-abbrev pub Entries : {A : Type 0} → (A → Type 0) → List (Bytes × A) → Type 0
-Entries P [] = Unit {0}
-Entries P (x ∷ xs) = P (x .1) × Entries P xs
-
-pub find-entry : {A : Type 0} (P : A → Type 0) (k : Bytes) (xs : List (Bytes × A)) {a : A} → Entries P xs → find k xs ≡ some a → P a
-unfolding find
-find-entry P k [] h e = absurd (impossible (cc))
-find-entry {A} P k (x ∷ xs) {a} h e = go (find-entry P k xs (h .1)) (sameBytes k (x .0)) refl
-  where
-    go : (find k xs ≡ some a → P a) → (b : Bool) → sameBytes k (x .0) ≡ b → P a
-    go rest true q = let z : x .1 ≡ a = (let y = rw (q, find) at e in cc) in subst P z (h .0)
-    go rest false q = rest (rw (q, find) at e)
-
-members-low : (n : ℕ) (ms : Members) → depthOf ms ≤ n → Entries (λ v. depth v ≤ n) (entries ms)
+pub members-low : (n : ℕ) (ms : Members) → depthOf ms ≤ n → Entries (λ v. depth v ≤ n) (entries ms)
 unfolding depthOf
 members-low n empty h = tt
 members-low n (member k v ms) h = (omega arith, members-low n ms (omega arith))
