@@ -22,7 +22,7 @@ use Rattle.decision.specs.Called.{Called}
 use Rattle.decision.specs.Entry.{Reply, call, enough, fitted, outputAfter, reply, workAfter}
 use Rattle.sheet.specs.Accepted.{Known}
 use Rattle.decision.specs.Opening.{OpenedAs, Opening, Ready, Stopped, opening}
-use Rattle.decision.specs.Told.{Answered}
+use Rattle.rules.specs.Told.{Answered}
 use Rattle.decision.specs.declared.open.Opened.{Opened}
 use Rattle.decision.specs.declared.open.Opened.the-variants as opened
 use Rattle.decision.proofs.Clearing.{same-left}

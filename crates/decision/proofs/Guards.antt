@@ -9,7 +9,7 @@ use Prim.Native.Nat.{ℕ, suc, _+_, _≤_}
 use native.Mathlib.Nat.{le-refl, le-trans}
 use native.Mathlib.Omega.{arith}
 use Rattle.decision.proofs.LaterRules.{lost-ascending}
-use Rattle.decision.specs.Outcomes.{Placed, at, eligible, guard as Decide·guard, select}
+use Rattle.rules.specs.Outcomes.{Placed, at, eligible, guard as Decide·guard, select}
 use Rattle.decision.specs.Demand.{isGuarded}
 use Rattle.semantics.proofs.Later.{Both, Every, Fact, Later, Lost, every-left, every-right, later-evaluate, truthGone, truthKept}
 use Rattle.semantics.specs.Evaluate.{Answer}

@@ -9,7 +9,7 @@ use Prim.Native.Nat.{ℕ, _+_, _<_, _≤_}
 use native.Mathlib.Nat.{le-refl, le-trans}
 use native.Mathlib.Omega.{arith}
 use lib.ListN.{length}
-use Rattle.decision.specs.Rules.{check}
+use Rattle.rules.specs.Rules.{check}
 use Rattle.decision.specs.Demand.{atPlace, rule, settler}
 use Rattle.line.specs.Verdict.{Verdict, passed}
 use Rattle.semantics.proofs.Later.{Both, Every, Fact, Later, Lost, every-left, every-right, later-evaluate, truthGone, truthKept}

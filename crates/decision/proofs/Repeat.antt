@@ -11,13 +11,13 @@ use lib.Dec.{leb}
 use lib.ListN.{length}
 use Rattle.decision.proofs.Guards.{GuardRefused, GuardShape, GuardTried, GuardsLater, chosen, exhausted, guard-at, later-select, stopped}
 use Rattle.decision.proofs.LaterRules.{RuleRefused, RuleShape, RulesLater, later-check, rule-at}
-use Rattle.decision.specs.Decide.{asAdmitted, decideCall}
-use Rattle.decision.specs.Outcomes.{Placed, at, eligible, firstFrom, guard as Decide·guard, select}
-use Rattle.decision.specs.Rules.{check}
+use Rattle.rules.specs.Decide.{asAdmitted, decideCall}
+use Rattle.rules.specs.Outcomes.{Placed, at, eligible, firstFrom, guard as Decide·guard, select}
+use Rattle.rules.specs.Rules.{check}
 use Rattle.decision.specs.Demand.{Demand, Kept, NamesVanished, Repeated, SameRules, Step, Unobservable, Vanished, atGuard, atRule, guard, isGuarded, isStep, rule, settled, settler, upTo, upToOutcome, upToSettler, Settler, atPlace, everything, selection}
 use Rattle.decision.specs.Entry.{Reply, call, decide, enough, fitted, reply, workWords}
 use Rattle.line.specs.Line.{refusalLine, refusalNumber, verdictLine}
-use Rattle.decision.specs.Admission.{admit, isWrong}
+use Rattle.rules.specs.Admission.{admit, isWrong}
 use Rattle.line.specs.Verdict.{Verdict, passed}
 use Rattle.semantics.proofs.Later.{Alike, Every, Fact, Lost, alike-evaluate, every-left, every-right, known-gives}
 use Rattle.semantics.specs.Evaluate.{Answer}

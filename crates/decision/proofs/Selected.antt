@@ -8,8 +8,8 @@ use Prim.Native.Nat.{ℕ, _+_}
 use native.Mathlib.Omega.{arith}
 use lib.ListN.{length}
 use Rattle.decision.proofs.Guards.{select-false, select-none, select-skip, select-true, select-unknown}
-use Rattle.decision.specs.Outcomes.{Placed, eligible, guard, select}
-use Rattle.decision.specs.Selection.{Answers, FirstTrue}
+use Rattle.rules.specs.Outcomes.{Placed, eligible, guard, select}
+use Rattle.rules.specs.Selection.{Answers, FirstTrue}
 use Rattle.semantics.specs.Evaluate.{Answer}
 use Rattle.semantics.specs.Truth.{False, True, Truth, Unknown}
 use Rattle.reader.proofs.Laws.{ok-injective}

@@ -16,7 +16,7 @@ use Rattle.reader.specs.Refusal.{Result, lineTooLong, ok, refused, _>>=_}
 use Rattle.sheet.specs.Sheet.{readSheet}
 use Rattle.decision.specs.Again.{Again, lineIn, seen}
 use Rattle.decision.specs.Called.{Replied}
-use Rattle.decision.specs.Decide.{decideCall}
+use Rattle.rules.specs.Decide.{decideCall}
 use Rattle.decision.specs.Demand.{Demand, Repeats}
 use Rattle.decision.specs.Entry.{Reply, call, decide, enough, fitted, outputAfter, reply}
 use Rattle.decision.specs.Replies.{numberOf, sizeOf}

@@ -8,8 +8,8 @@ use mathlib.Core.Path.{_≡_}
 use Prim.Native.Nat.{ℕ, _≤_}
 use lib.Dec.{leb, ltb}
 use lib.ListN.{length}
-use Rattle.decision.specs.Decide.{decideCall}
-use Rattle.decision.specs.Outcomes.{Placed, at, eligible, select}
+use Rattle.rules.specs.Decide.{decideCall}
+use Rattle.rules.specs.Outcomes.{Placed, at, eligible, select}
 use Rattle.decision.specs.Entry.{Reply, decide, workWords}
 use Rattle.line.specs.Line.{refusalLine, refusalNumber}
 use Rattle.semantics.specs.Expression.{gives}

@@ -5,7 +5,7 @@ use mathlib.Core.List.{List, _++_}
 use Prim.Native.Nat.{ℕ}
 use lib.Dec.{leb}
 use lib.ListN.{drop, length, replicate}
-use Rattle.decision.specs.Decide.{admitCall, decideCall, evaluateCall, invariantsCall, preconditionsCall, selectCall}
+use Rattle.rules.specs.Decide.{admitCall, decideCall, evaluateCall, invariantsCall, preconditionsCall, selectCall}
 pub use Rattle.line.specs.Reply.{Reply, fitted, outputAfter}
 unfoldable pub use Rattle.line.specs.Reply.{reply}
 use Rattle.line.specs.Verdict.{Verdict}

@@ -1,15 +1,15 @@
 // The calls on a sheet's bytes, answered by number and size.
-use crate::call::admit_call;
-use crate::call::decide_call;
-use crate::call::evaluate_call;
-use crate::call::invariants_call;
-use crate::call::preconditions_call;
-use crate::call::select_call;
 use crate::open::Opened;
 use crate::open::open;
 use crate::work::clear;
 use line::emit::Sent;
 use line::emit::emit;
+use rules::call::admit_call;
+use rules::call::decide_call;
+use rules::call::evaluate_call;
+use rules::call::invariants_call;
+use rules::call::preconditions_call;
+use rules::call::select_call;
 ghost use lib.ListN.{length};
 ghost use Rattle.decision.specs.Called.{Called};
 ghost use Rattle.decision.specs.Entry.{admit, checkInvariants, checkPreconditions, decide, evaluate, select};

@@ -1,4 +1,4 @@
 // Evaluation of conditions over the reader's table. The definitions stand in specs/, the laws in proofs/.
 pub mod comparison;
 pub mod condition;
-pub mod entry;
+pub mod evaluate;

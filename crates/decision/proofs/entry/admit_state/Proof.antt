@@ -1,7 +1,7 @@
 -- `decision::entry::admit_state` meets its contract: the case of the number that the call gives.
 -- Assumes nothing.
 use lib.ListN.{length}
-use Rattle.decision.specs.Decide.{admitCall}
+use Rattle.rules.specs.Decide.{admitCall}
 use Rattle.decision.specs.Entry.{admit}
 use Rattle.decision.proofs.Numbers.{every-call-ends, replied, told-called}
 use borrow.Author.Needs.{needs}

@@ -1,7 +1,7 @@
 -- `decision::entry::check_preconditions` meets its contract: the case of the number that the call gives.
 -- Assumes nothing.
 use lib.ListN.{length}
-use Rattle.decision.specs.Decide.{preconditionsCall}
+use Rattle.rules.specs.Decide.{preconditionsCall}
 use Rattle.decision.specs.Entry.{checkPreconditions}
 use Rattle.decision.proofs.Numbers.{every-call-ends, replied, told-called}
 use borrow.Author.Needs.{needs}

@@ -1,7 +1,7 @@
 -- `decision::entry::evaluate` meets its contract: the case of the number that the call gives.
 -- Assumes nothing.
 use lib.ListN.{length}
-use Rattle.decision.specs.Decide.{evaluateCall}
+use Rattle.rules.specs.Decide.{evaluateCall}
 use Rattle.decision.specs.Entry.{evaluate}
 use Rattle.decision.proofs.Numbers.{every-call-ends, replied, told-called}
 use borrow.Author.Needs.{needs}

@@ -1,10 +1,10 @@
 -- `decision::sent::admit_state` meets its contract: refused on opening the sheet, or answered by the call on it.
 -- Assumes nothing.
-use Rattle.decision.specs.Decide.{admitCall}
+use Rattle.rules.specs.Decide.{admitCall}
 use Rattle.decision.specs.Entry.{admit}
-use Rattle.decision.proofs.Checking.{answered-over}
+use Rattle.rules.proofs.Checking.{answered-over}
 use Rattle.decision.proofs.Entries.{called-refused, called-sheet, held-answer, opened-large}
-use Rattle.decision.proofs.Unmarking.{marks-none}
+use Rattle.rules.proofs.Unmarking.{marks-none}
 use borrow.Author.Needs.{needs}
 use Rattle.decision.proofs.sent.admit_state.Statement.{statement}
 use Rattle.decision.proofs.sent.admit_state.Tie as tie

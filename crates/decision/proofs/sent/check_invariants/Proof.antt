@@ -1,6 +1,6 @@
 -- `decision::sent::check_invariants` meets its contract: refused on opening the sheet, or answered by the call on it.
 -- Assumes nothing.
-use Rattle.decision.specs.Decide.{invariantsCall}
+use Rattle.rules.specs.Decide.{invariantsCall}
 use Rattle.decision.specs.Entry.{checkInvariants}
 use Rattle.decision.proofs.Entries.{called-refused, called-sheet, held-answer, opened-large}
 use borrow.Author.Needs.{needs}

@@ -1,6 +1,6 @@
 -- `decision::sent::check_preconditions` meets its contract: refused on opening the sheet, or answered by the call on it.
 -- Assumes nothing.
-use Rattle.decision.specs.Decide.{preconditionsCall}
+use Rattle.rules.specs.Decide.{preconditionsCall}
 use Rattle.decision.specs.Entry.{checkPreconditions}
 use Rattle.decision.proofs.Entries.{called-refused, called-sheet, held-answer, opened-large}
 use borrow.Author.Needs.{needs}

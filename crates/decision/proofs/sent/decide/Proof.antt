@@ -1,6 +1,6 @@
 -- `decision::sent::decide` meets its contract: refused on opening the sheet, or answered by the call on it.
 -- Assumes nothing.
-use Rattle.decision.specs.Decide.{decideCall}
+use Rattle.rules.specs.Decide.{decideCall}
 use Rattle.decision.specs.Entry.{decide}
 use Rattle.decision.proofs.Entries.{called-refused, called-sheet, held-answer, opened-large}
 use borrow.Author.Needs.{needs}

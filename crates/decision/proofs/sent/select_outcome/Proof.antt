@@ -1,6 +1,6 @@
 -- `decision::sent::select_outcome` meets its contract: refused on opening the sheet, or answered by the call on it.
 -- Assumes nothing.
-use Rattle.decision.specs.Decide.{selectCall}
+use Rattle.rules.specs.Decide.{selectCall}
 use Rattle.decision.specs.Entry.{select}
 use Rattle.decision.proofs.Entries.{called-refused, called-sheet, held-answer, opened-large}
 use borrow.Author.Needs.{needs}

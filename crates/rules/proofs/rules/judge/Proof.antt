@@ -1,0 +1,126 @@
+-- `rules::rules::judge` meets its contract: by what its condition gives alone.
+-- Assumes nothing.
+use mathlib.Core.Path.{ap, _∙_}
+use Rattle.evaluation.specs.declared.comparison.Outcome.the-variants as outcomes
+use Rattle.sheet.proofs.Walks.{room}
+use Rattle.rules.proofs.Settling.{expression-room, rule-false, rule-here, rule-holds, rule-known, rule-members, rule-refused, rule-unknown, told-no-id, told-unknown}
+use Rattle.rules.proofs.Starting.{given-node, members-behind}
+use borrow.Author.Needs.{needs}
+use Rattle.rules.proofs.rules.judge.Statement.{statement}
+use Rattle.rules.proofs.rules.judge.Tie as tie
+
+after-at-requires : tie.Need-after-at-requires
+after-at-requires c κs = room (c .before .before .before .pre .2 .known .node)
+
+add-members : tie.Need-add-members
+add-members c = search needs
+
+members-requires : tie.Need-members-requires
+members-requires c κs = members-behind (rule-here (c .before .before .before .before .before .pre .2 .known)) (c .before .after-at .ensures)
+
+entry-requires : tie.Need-entry-requires
+entry-requires c κs = rule-known (c .before .before .before .after-at .ensures) (c .before .members .ensures) (c .before .before .before .before .before .before .before .pre .2)
+
+node-of-requires : tie.Need-node-of-requires
+node-of-requires c κs = search needs
+
+evaluate-alone-requires : tie.Need-evaluate-alone-requires
+evaluate-alone-requires c κs = (c .before .before .before .before .before .before .before .before .before .before .pre .0, c .before .before .before .before .before .before .before .before .before .before .pre .1, record { given = c .before .before .before .before .before .before .before .before .before .before .pre .2 .given .assert; known = given-node (rule-members (c .before .before .before .before .before .before .after-at .ensures) (c .before .before .before .before .members .ensures) (c .before .before .before .before .before .before .before .before .before .before .pre .2 .known) .assert) (c .node-of .ensures) })
+
+enum-known-n : tie.Need-enum-known-n
+enum-known-n c = search needs
+
+start-at-requires : tie.Need-start-at-requires
+start-at-requires c κs =
+    let x = c .before .before .before .before .before .before .before .before .before .before .before .before .before .before .before .before .before .pre .2 in
+    let m = rule-members (c .before .before .before .before .before .before .before .before .before .before .before .before .before .after-at .ensures) (c .before .before .before .before .before .before .before .before .before .before .before .members .ensures) (x .known) in
+    let y = c .before .before .before .before .before .before .evaluate-alone .ensures (c .before .before .before .before .before .before .before .before .before .before .before .before .before .before .before .before .before .pre .1 .given) (x .given .assert) (c .before .before .before .before .before .before .before .before .before .before .before .before .before .before .before .before .before .pre .1 .known) (given-node (m .assert) (c .before .before .before .before .before .before .before .node-of .ensures)) in
+    expression-room y (c .before .before .n .given .0 .0) (c .before .before .n .given .1) (c .before .before .before .before .before .before .before .before .before .before .before .before .before .before .before .before .before .pre .0)
+
+enum-told : tie.Need-enum-told
+enum-told c = search needs
+
+enum-known-t : tie.Need-enum-known-t
+enum-known-t c = search needs
+
+enum-told-2 : tie.Need-enum-told-2
+enum-told-2 c = search needs
+
+enum-told-3 : tie.Need-enum-told-3
+enum-told-3 c = search needs
+
+enum-told-4 : tie.Need-enum-told-4
+enum-told-4 c = search needs
+
+same-length : tie.Need-same-length
+same-length c = search needs
+
+returns : tie.Need-returns
+returns c = λ sheet x a g.
+    let m = rule-members (c .before .before .before .before .before .before .before .before .before .before .before .before .before .before .after-at .ensures) (c .before .before .before .before .before .before .before .before .before .before .before .before .members .ensures) g in
+    let y = c .before .before .before .before .before .before .before .evaluate-alone .ensures sheet (x .assert) a (given-node (m .assert) (c .before .before .before .before .before .before .before .before .node-of .ensures)) in
+    rule-refused (c .before .before .before .before .before .before .before .before .before .before .before .before .before .before .before .before .before .before .args .rules) (c .before .before .before .before .before .before .before .before .before .before .before .before .before .before .before .before .before .before .args .place) x y (told-unknown y (c .before .before .before .n .given .0 .0) (c .before .before .before .n .given .1) (c .start-at .ensures))
+
+same-length-2 : tie.Need-same-length-2
+same-length-2 c = search needs
+
+returns-2 : tie.Need-returns-2
+returns-2 c = λ sheet x a g.
+    let m = rule-members (c .before .before .before .before .before .before .before .before .before .before .before .after-at .ensures) (c .before .before .before .before .before .before .before .before .before .members .ensures) g in
+    let y = c .before .before .before .before .evaluate-alone .ensures sheet (x .assert) a (given-node (m .assert) (c .before .before .before .before .before .node-of .ensures)) in
+    rule-refused (c .before .before .before .before .before .before .before .before .before .before .before .before .before .before .before .args .rules) (c .before .before .before .before .before .before .before .before .before .before .before .before .before .before .before .args .place) x y (told-no-id y (c .enum-told .given .1))
+
+same-length-3 : tie.Need-same-length-3
+same-length-3 c = search needs
+
+returns-3 : tie.Need-returns-3
+returns-3 c = λ sheet x a g.
+    let m = rule-members (c .before .before .before .before .before .before .before .before .before .before .before .before .before .before .after-at .ensures) (c .before .before .before .before .before .before .before .before .before .before .before .before .members .ensures) g in
+    let y = c .before .before .before .before .before .before .before .evaluate-alone .ensures sheet (x .assert) a (given-node (m .assert) (c .before .before .before .before .before .before .before .before .node-of .ensures)) in
+    rule-holds (c .before .before .before .before .before .before .before .before .before .before .before .before .before .before .before .before .before .before .args .rules) (c .before .before .before .before .before .before .before .before .before .before .before .before .before .before .before .before .before .before .args .place) x y (c .before .before .before .t .given .1 ∙ ap outcomes.Judged (c .enum-told2 .given .1))
+
+same-length-4 : tie.Need-same-length-4
+same-length-4 c = search needs
+
+returns-4 : tie.Need-returns-4
+returns-4 c = λ sheet x a g.
+    let m = rule-members (c .before .before .before .before .before .before .before .before .before .before .before .before .before .before .after-at .ensures) (c .before .before .before .before .before .before .before .before .before .before .before .before .members .ensures) g in
+    let y = c .before .before .before .before .before .before .before .evaluate-alone .ensures sheet (x .assert) a (given-node (m .assert) (c .before .before .before .before .before .before .before .before .node-of .ensures)) in
+    rule-false (c .before .before .before .before .before .before .before .before .before .before .before .before .before .before .before .before .before .before .args .rules) (c .before .before .before .before .before .before .before .before .before .before .before .before .before .before .before .before .before .before .args .place) x y (c .before .before .before .before .before .before .before .before .before .before .entry .ensures (c .before .before .before .before .before .before .before .before .before .before .before .before .before .before .before .before .before .before .args .s .now) x m) (c .before .before .before .t .given .1 ∙ ap outcomes.Judged (c .enum-told3 .given .1))
+
+same-length-5 : tie.Need-same-length-5
+same-length-5 c = search needs
+
+returns-5 : tie.Need-returns-5
+returns-5 c = λ sheet x a g.
+    let m = rule-members (c .before .before .before .before .before .before .before .before .before .before .before .before .before .before .after-at .ensures) (c .before .before .before .before .before .before .before .before .before .before .before .before .members .ensures) g in
+    let y = c .before .before .before .before .before .before .before .evaluate-alone .ensures sheet (x .assert) a (given-node (m .assert) (c .before .before .before .before .before .before .before .before .node-of .ensures)) in
+    rule-unknown (c .before .before .before .before .before .before .before .before .before .before .before .before .before .before .before .before .before .before .args .rules) (c .before .before .before .before .before .before .before .before .before .before .before .before .before .before .before .before .before .before .args .place) x y (c .before .before .before .before .before .before .before .before .before .before .entry .ensures (c .before .before .before .before .before .before .before .before .before .before .before .before .before .before .before .before .before .before .args .s .now) x m) (c .before .before .before .t .given .1 ∙ ap outcomes.Judged (c .enum-told4 .given .1))
+
+pub judge-spec : {M : Type 1} → statement M
+judge-spec =
+    tie.close
+    (tie.spec
+    after-at-requires
+    add-members
+    members-requires
+    entry-requires
+    node-of-requires
+    evaluate-alone-requires
+    enum-known-n
+    start-at-requires
+    enum-told
+    enum-known-t
+    enum-told-2
+    enum-told-3
+    enum-told-4
+    same-length
+    returns
+    same-length-2
+    returns-2
+    same-length-3
+    returns-3
+    same-length-4
+    returns-4
+    same-length-5
+    returns-5)
