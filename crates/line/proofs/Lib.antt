@@ -10,3 +10,5 @@ pub mod Forms
 pub mod Answers
 pub mod Samples
 pub mod Decodes
+pub mod Lengths
+pub mod Bounds
