@@ -27,6 +27,10 @@ use Rattle.decision.specs.declared.open.Opened.{Opened}
 use Rattle.decision.specs.declared.open.Opened.the-variants as opened
 use Rattle.decision.proofs.Clearing.{same-left}
 use Rattle.decision.proofs.Opening.{sheet-opened}
+use Rattle.line.proofs.Bounds.{line-fits, line-short, number-small}
+use Rattle.reader.proofs.Complete.{read-exactly}
+use Rattle.reader.specs.Json.{Value}
+use Rattle.reader.specs.Reader.{json}
 
 call-opened : (f : Sheet Condition → Result Verdict) (s : Bytes) (words size : ℕ) → call f s words size ≡ reply size (opening words s >>= f)
 unfolding call opening
@@ -40,13 +44,28 @@ unlined : (size : ℕ) (why : Refusal) → refusalLine why ≡ none → reply si
 unfolding reply
 unlined size why e = ap (fitted size (refusalNumber why)) e
 
+-- an accepted sheet is short, every number is at most 23, and a line fits the output
+read-short : (s : Bytes) (sheet : Sheet Condition) → readSheet s ≡ ok sheet → length s ≤ 32768
+unfolding readSheet
+read-short s sheet e = go (json s) refl
+  where
+    go : (x : Result Value) → json s ≡ x → length s ≤ 32768
+    go (ok v) q = read-exactly s v .0 q .bytes
+    go (refused r) q = let z : _≡_ {A = Result (Sheet Condition)} (refused r) (ok sheet) = rw q at e in let y : _≡_ {A = ℕ} 0 1 = cc in omega arith
+
+pub call-small : (f : Sheet Condition → Result Verdict) (s : Bytes) (words size : ℕ) → call f s words size .number ≤ 23
+call-small f s words size = rw call-opened (number-small size (opening words s >>= f))
+
+pub call-fits : (f : Sheet Condition → Result Verdict) (s : Bytes) (words size : ℕ) → lineSize (call f s words size) ≤ size
+call-fits f s words size = rw call-opened (line-fits size (opening words s >>= f))
+
 module _ (f : Sheet Condition → Result Verdict) {s : Bytes} {w w₁ : List ℕ} {r : Opened} (t : Opening s w w₁ r) (size : length w₁ ≡ length w) where
   pub called-refused : {w′ : List ℕ} → w′ ≡ workAfter w₁ → (n : ℕ) → r ≡ opened.Refused n → (o : Bytes) → Called (call f s (length w) (length o)) w w′ o o (record { number = n; size = 0 })
   unfolding OpenedAs
   called-refused z n q o =
       let x : Stopped (opening (length w) s) n = subst (OpenedAs (length w) s w₁) q (t .is) in
       let e : call f s (length w) (length o) ≡ record { number = refusalNumber (x .why); line = none } = call-opened f s (length w) (length o) ∙ ap {B = Reply} (λ (y : Result (Sheet Condition)). reply (length o) (y >>= f)) (x .is) ∙ unlined (length o) (x .why) (x .noLine) in
-      record { isNumber = x .isNumber ∙ ap (λ (y : Reply). y .number) (sym e); isSize = ap lineSize (sym e); output = ap (λ (y : Reply). outputAfter y o) (sym e); work = z ∙ same-left w w₁ size (t .small) (t .past) }
+      record { isNumber = x .isNumber ∙ ap (λ (y : Reply). y .number) (sym e); isSize = ap lineSize (sym e); short = omega arith; output = ap (λ (y : Reply). outputAfter y o) (sym e); work = z ∙ same-left w w₁ size (t .small) (t .past) }
 
   module _ (m : Members) (q : r ≡ opened.Sheet m) where
     ready : Ready (length w) s w₁ m
@@ -71,6 +90,7 @@ module _ (f : Sheet Condition → Result Verdict) {s : Bytes} {w w₁ : List ℕ
           record {
             isNumber = g .number ∙ ap (λ (y : Reply). y .number) e;
             isSize = g .size ∙ ap lineSize e;
+            short = rw (g .size) (line-short s w₂ a (length o) (read-short s (ready .sheet) (ready .accepted .reads)) held-answer);
             output = g .output ∙ ap (λ (y : Reply). outputAfter y o) e;
             work = z ∙ same-left w w₂ (its .long ∙ size) (λ k. absurd (omega (arith, ready .long))) (λ k. its .further ∙ t .past k);
           }

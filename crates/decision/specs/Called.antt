@@ -1,8 +1,8 @@
--- What a call on a sheet's bytes promises: its number, its line's size, its line in the output, and the words that it leaves.
+-- What a call on a sheet's bytes promises: its number, its line's size, which fits 32 bits, its line in the output, and the words that it leaves.
 -- Assumes nothing.
 use mathlib.Core.List.{List}
 use mathlib.Core.Path.{_≡_}
-use Prim.Native.Nat.{ℕ}
+use Prim.Native.Nat.{ℕ, _<_}
 use Rattle.line.specs.Reply.{lineSize}
 use Rattle.line.specs.declared.emit.Sent.{Sent}
 use Rattle.reader.specs.Bytes.{Bytes}
@@ -13,6 +13,7 @@ use Rattle.decision.specs.declared.reply.Reply.{Reply as Case}
 pub record Called (answer : Reply) (w w′ : List ℕ) (o o′ : Bytes) (r : Sent) : Type 0 where
   pub isNumber : r .number ≡ answer .number
   pub isSize : r .size ≡ lineSize answer
+  pub short : r .size < 4294967296
   pub output : o′ ≡ outputAfter answer o
   pub work : w′ ≡ workAfter w
 
