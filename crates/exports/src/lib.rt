@@ -1,0 +1,53 @@
+// The calls for C and Rust, in a static library (include/intake.h). A slice crosses as a pointer and a length.
+use decision::entry::admit_state;
+use decision::entry::check_invariants;
+use decision::entry::check_preconditions;
+use decision::entry::evaluate;
+use line::emit::Sent;
+ghost use mathlib.Core.Path.{_≡_};
+ghost use Prim.Native.Nat.{_<_, _≤_};
+ghost use lib.ListN.{length};
+ghost use Rattle.decision.specs.Entry.{admit, checkInvariants, checkPreconditions, evaluate};
+ghost use Rattle.exports.specs.Exported.{Exported, packed};
+
+// The number of an answer and the bytes of its line in one word.
+fn pack(sent: Sent) -> u64
+    requires { ⌜ (sent .number ≤ 23) × (sent .size < 4294967296) ⌝ }
+    ensures { λ r. ⌜ r ≡ packed (sent .number) (sent .size) ⌝ }
+{
+    let number = sent.number as u64;
+    let size = sent.size as u64;
+    number * 4294967296 + size
+}
+
+// The truth of the sheet's condition, with its names.
+#[no_mangle]
+pub extern "C" fn intake_evaluate(sheet: &[u8], work: &mut [u32], out: &mut [u8]) -> u64
+    ensures { λ r. ⌜ Exported (evaluate (now (sheet .entry)) (length (now (work .entry))) (length (now (out .entry)))) (now (work .entry)) (now (work .exit)) (now (out .entry)) (now (out .exit)) r ⌝ }
+{
+    pack(evaluate(sheet, work, out))
+}
+
+// Whether the preconditions hold.
+#[no_mangle]
+pub extern "C" fn intake_preconditions(sheet: &[u8], work: &mut [u32], out: &mut [u8]) -> u64
+    ensures { λ r. ⌜ Exported (checkPreconditions (now (sheet .entry)) (length (now (work .entry))) (length (now (out .entry)))) (now (work .entry)) (now (work .exit)) (now (out .entry)) (now (out .exit)) r ⌝ }
+{
+    pack(check_preconditions(sheet, work, out))
+}
+
+// Whether the invariants hold.
+#[no_mangle]
+pub extern "C" fn intake_invariants(sheet: &[u8], work: &mut [u32], out: &mut [u8]) -> u64
+    ensures { λ r. ⌜ Exported (checkInvariants (now (sheet .entry)) (length (now (work .entry))) (length (now (out .entry)))) (now (work .entry)) (now (work .exit)) (now (out .entry)) (now (out .exit)) r ⌝ }
+{
+    pack(check_invariants(sheet, work, out))
+}
+
+// Whether the outcome at a place is kept in the sheet's state.
+#[no_mangle]
+pub extern "C" fn intake_admit(place: u64, sheet: &[u8], work: &mut [u32], out: &mut [u8]) -> u64
+    ensures { λ r. ⌜ Exported (admit place (now (sheet .entry)) (length (now (work .entry))) (length (now (out .entry)))) (now (work .entry)) (now (work .exit)) (now (out .entry)) (now (out .exit)) r ⌝ }
+{
+    pack(admit_state(sheet, work, out, place as usize))
+}
