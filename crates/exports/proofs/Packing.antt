@@ -1,13 +1,13 @@
 -- The word of an exported call, from what the call promises, and number and length read back from the word.
 -- Assumes nothing.
 use mathlib.Core.List.{List}
-use mathlib.Core.Path.{ap, refl, sym, _∙_, _≡_}
+use mathlib.Core.Path.{_≡_}
 use Prim.Native.Nat.{ℕ, _%_, _<_, _/_, _≤_}
 use native.Mathlib.Omega.{arith}
 use Rattle.decision.proofs.Entries.{call-small}
 use Rattle.decision.specs.Called.{Called}
-use Rattle.decision.specs.Decide.{admitCall, evaluateCall, invariantsCall, preconditionsCall}
-use Rattle.decision.specs.Entry.{Reply, admit, checkInvariants, checkPreconditions, evaluate}
+use Rattle.decision.specs.Decide.{admitCall, decideCall, evaluateCall, invariantsCall, preconditionsCall, selectCall}
+use Rattle.decision.specs.Entry.{Reply, admit, checkInvariants, checkPreconditions, decide, evaluate, select}
 use Rattle.line.specs.Reply.{lineSize}
 use Rattle.line.specs.declared.emit.Sent.{Sent}
 use Rattle.reader.specs.Bytes.{Bytes}
@@ -29,13 +29,21 @@ pub invariants-small : (s : Bytes) (words size : ℕ) → checkInvariants s word
 unfolding checkInvariants
 invariants-small s words size = call-small invariantsCall s words size
 
+pub select-small : (s : Bytes) (words size : ℕ) → select s words size .number ≤ 23
+unfolding select
+select-small s words size = call-small selectCall s words size
+
 pub admit-small : (place : ℕ) (s : Bytes) (words size : ℕ) → admit place s words size .number ≤ 23
 unfolding admit
 admit-small place s words size = call-small (λ sheet. admitCall sheet place) s words size
 
+pub decide-small : (s : Bytes) (words size : ℕ) → decide s words size .number ≤ 23
+unfolding decide
+decide-small s words size = call-small decideCall s words size
+
 pub exported : {answer : Reply} {w w′ : List ℕ} {o o′ : Bytes} {r : Sent} {n : ℕ} → Called answer w w′ o o′ r → n ≡ packed (r .number) (r .size) → Exported answer w w′ o o′ n
-exported {answer} {r = r} c e = record { word = rw (← c .isNumber, ← c .isSize) e; short = rw (← c .isSize) (c .short); output = c .output; work = c .work }
+exported c e = record { word = rw (← c .isNumber, ← c .isSize) e; short = rw (← c .isSize) (c .short); output = c .output; work = c .work }
 
 -- what a caller reads off the word
 pub unpacked : {answer : Reply} {w w′ : List ℕ} {o o′ : Bytes} {r : ℕ} → Exported answer w w′ o o′ r → (r / 4294967296 ≡ answer .number) × (r % 4294967296 ≡ lineSize answer)
-unpacked {answer} x = (omega arith, omega arith)
+unpacked x = (omega arith, omega arith)

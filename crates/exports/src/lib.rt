@@ -2,12 +2,14 @@
 use decision::entry::admit_state;
 use decision::entry::check_invariants;
 use decision::entry::check_preconditions;
+use decision::entry::decide;
 use decision::entry::evaluate;
+use decision::entry::select_outcome;
 use line::emit::Sent;
 ghost use mathlib.Core.Path.{_≡_};
 ghost use Prim.Native.Nat.{_<_, _≤_};
 ghost use lib.ListN.{length};
-ghost use Rattle.decision.specs.Entry.{admit, checkInvariants, checkPreconditions, evaluate};
+ghost use Rattle.decision.specs.Entry.{admit, checkInvariants, checkPreconditions, decide, evaluate, select};
 ghost use Rattle.exports.specs.Exported.{Exported, packed};
 
 // The number of an answer and the bytes of its line in one word.
@@ -44,10 +46,26 @@ pub extern "C" fn intake_invariants(sheet: &[u8], work: &mut [u32], out: &mut [u
     pack(check_invariants(sheet, work, out))
 }
 
+// The first eligible outcome whose guard holds.
+#[no_mangle]
+pub extern "C" fn intake_select(sheet: &[u8], work: &mut [u32], out: &mut [u8]) -> u64
+    ensures { λ r. ⌜ Exported (select (now (sheet .entry)) (length (now (work .entry))) (length (now (out .entry)))) (now (work .entry)) (now (work .exit)) (now (out .entry)) (now (out .exit)) r ⌝ }
+{
+    pack(select_outcome(sheet, work, out))
+}
+
 // Whether the outcome at a place is kept in the sheet's state.
 #[no_mangle]
 pub extern "C" fn intake_admit(place: u64, sheet: &[u8], work: &mut [u32], out: &mut [u8]) -> u64
     ensures { λ r. ⌜ Exported (admit place (now (sheet .entry)) (length (now (work .entry))) (length (now (out .entry)))) (now (work .entry)) (now (work .exit)) (now (out .entry)) (now (out .exit)) r ⌝ }
 {
     pack(admit_state(sheet, work, out, place as usize))
+}
+
+// The whole decision: preconditions, selection, admission.
+#[no_mangle]
+pub extern "C" fn intake_decide(sheet: &[u8], work: &mut [u32], out: &mut [u8]) -> u64
+    ensures { λ r. ⌜ Exported (decide (now (sheet .entry)) (length (now (work .entry))) (length (now (out .entry)))) (now (work .entry)) (now (work .exit)) (now (out .entry)) (now (out .exit)) r ⌝ }
+{
+    pack(decide(sheet, work, out))
 }
