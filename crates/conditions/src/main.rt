@@ -1,6 +1,6 @@
 // Runs a stored list of conditions: each record is a sheet, a tab, and the line that Evaluate writes. Prints the first records that differ, and how
 // many do.
-use decision::entry::evaluate;
+use decision::sent::evaluate;
 use libc::STDOUT_FILENO;
 use records::behind;
 use records::find;

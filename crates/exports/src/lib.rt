@@ -1,10 +1,10 @@
 // The calls for C and Rust, in a static library (include/intake.h). A slice crosses as a pointer and a length.
-use decision::entry::admit_state;
-use decision::entry::check_invariants;
-use decision::entry::check_preconditions;
-use decision::entry::decide;
-use decision::entry::evaluate;
-use decision::entry::select_outcome;
+use decision::sent::admit_state;
+use decision::sent::check_invariants;
+use decision::sent::check_preconditions;
+use decision::sent::decide;
+use decision::sent::evaluate;
+use decision::sent::select_outcome;
 use line::emit::Sent;
 ghost use mathlib.Core.Path.{_≡_};
 ghost use Prim.Native.Nat.{_<_, _≤_};

@@ -1,5 +1,5 @@
 // Decides the sheet on standard input, and prints the line, or `(refused N)` where there is none.
-use decision::entry::decide;
+use decision::sent::decide;
 use libc::STDIN_FILENO;
 use libc::STDOUT_FILENO;
 

@@ -1,11 +1,11 @@
 // Runs a stored list of calls: each record's number, line, output past the line and work table must be as the record says. Prints
 // the first that differ, how many ran and how many differ.
-use decision::entry::admit_state;
-use decision::entry::check_invariants;
-use decision::entry::check_preconditions;
-use decision::entry::decide;
-use decision::entry::evaluate;
-use decision::entry::select_outcome;
+use decision::sent::admit_state;
+use decision::sent::check_invariants;
+use decision::sent::check_preconditions;
+use decision::sent::decide;
+use decision::sent::evaluate;
+use decision::sent::select_outcome;
 use libc::STDOUT_FILENO;
 use line::emit::Sent;
 use records::behind;
