@@ -158,46 +158,61 @@ fn same_line(line: &[u8], size: usize, out: &[u8]) -> bool {
     is_line(out, size, line)
 }
 
-// What differs from a record: nothing (0), the number (1), the line (2), the output past it (3) or the work table (4).
-fn difference(text: &[u8], found: usize, size: usize, work: &[u32], out: &[u8]) -> usize {
+// What differs from a record.
+enum Difference {
+    Nothing,
+    Number,
+    Line,
+    Output,
+    Work,
+    NoRecord,
+}
+
+fn first_difference(
+    text: &[u8],
+    found: usize,
+    size: usize,
+    work: &[u32],
+    out: &[u8],
+) -> Difference {
     if found != number(text, NUMBER) {
-        return 1;
+        return Difference::Number;
     }
     let from = start(text, LINE);
     let stop = end(text, from);
     if !same_line(&text[from..stop], size, out) {
-        return 2;
+        return Difference::Line;
     }
     if !untouched(out, size) {
-        return 3;
+        return Difference::Output;
     }
     let zeros = if found == 1 { 0 } else { 16384 };
     if !is_cleared(work, zeros) {
-        return 4;
+        return Difference::Work;
     }
-    0
+    Difference::Nothing
 }
 
-// Runs a record's call on a sheet, and answers what differs; 5 where it is no record.
-fn compared(text: &[u8], sheet: &[u8], work: &mut [u32], out: &mut [u8]) -> usize {
+// Runs a record's call on a sheet, and answers what differs.
+fn compared(text: &[u8], sheet: &[u8], work: &mut [u32], out: &mut [u8]) -> Difference {
     let words = number(text, WORDS);
     let bytes = number(text, BYTES);
     let place = number(text, PLACE);
     if text.len() == 0 {
-        return 5;
+        return Difference::NoRecord;
     }
     if work.len() < words {
-        return 5;
+        return Difference::NoRecord;
     }
     if out.len() < bytes {
-        return 5;
+        return Difference::NoRecord;
     }
     let sent = call(text[0], place, sheet, &mut work[..words], &mut out[..bytes]);
-    difference(text, sent.number, sent.size, work, out)
+    first_difference(text, sent.number, sent.size, work, out)
 }
 
 // Runs a record, and answers what differs.
-fn run(text: &[u8]) -> usize {
+fn run(text: &[u8]) -> Difference {
     let mut sheet = io::large_buffer();
     let mut work = [WORD; 20480];
     let mut out = [BYTE; 65536];
@@ -206,17 +221,21 @@ fn run(text: &[u8]) -> usize {
 }
 
 // Names a record, by its line in the list, and what differs.
-fn report(place: u64, what: usize) {
+fn report(place: u64, what: &[u8]) {
     io::write_all(STDOUT_FILENO, b"record ");
     io::print_decimal(STDOUT_FILENO, place);
+    io::write_all(STDOUT_FILENO, what);
+}
+
+fn report_difference(place: u64, what: Difference) {
     match what {
-        1 => io::write_all(STDOUT_FILENO, b": the number differs\n"),
-        2 => io::write_all(STDOUT_FILENO, b": the line differs\n"),
-        3 => io::write_all(STDOUT_FILENO, b": the output past the line differs\n"),
-        4 => io::write_all(STDOUT_FILENO, b": the work table differs\n"),
-        _ => io::write_all(STDOUT_FILENO, b": no record\n"),
+        Difference::Nothing => {}
+        Difference::Number => report(place, b": the number differs\n"),
+        Difference::Line => report(place, b": the line differs\n"),
+        Difference::Output => report(place, b": the output past the line differs\n"),
+        Difference::Work => report(place, b": the work table differs\n"),
+        Difference::NoRecord => report(place, b": no record\n"),
     }
-    ;
 }
 
 // How many records ran, and how many of them differ.
@@ -225,16 +244,16 @@ struct Tally {
     differ: u64,
 }
 
-fn counted(before: Tally, what: usize) -> Tally {
+fn counted(before: Tally, what: Difference) -> Tally {
     let ran = wrapping_add_u64(before.ran, 1);
-    if what == 0 {
+    if let Difference::Nothing = what {
         return Tally {
             ran: ran,
             differ: before.differ,
         };
     }
     if before.differ < 20 {
-        report(ran, what);
+        report_difference(ran, what);
     }
     Tally {
         ran: ran,

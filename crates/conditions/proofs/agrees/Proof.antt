@@ -1,6 +1,5 @@
 -- `conditions::agrees` is safe and ends.
 -- Assumes nothing.
-
 use lib.ListN.{length-take}
 use native.Mathlib.Omega.{arith}
 use borrow.Author.Needs.{needs}

@@ -1,6 +1,5 @@
 -- `records::is_line` is safe and ends.
 -- Assumes nothing.
-
 use lib.ListN.{length-take}
 use native.Mathlib.Omega.{arith}
 use borrow.Author.Needs.{needs}

@@ -1,6 +1,5 @@
 -- `replay::compared` is safe and ends.
 -- Assumes nothing.
-
 use lib.ListN.{length-take}
 use native.Mathlib.Omega.{arith}
 use borrow.Author.Needs.{needs}
@@ -43,8 +42,8 @@ slice-aggregate-call-2 c = simp length-take (omega arith)
 call-requires : tie.Need-call-requires
 call-requires c κs = search needs
 
-difference-requires : tie.Need-difference-requires
-difference-requires c κs = search needs
+first-difference-requires : tie.Need-first-difference-requires
+first-difference-requires c κs = search needs
 
 same-length : tie.Need-same-length
 same-length c = search needs
@@ -71,7 +70,7 @@ compared-spec =
     slice-relend-prefix-call-2
     slice-aggregate-call-2
     call-requires
-    difference-requires
+    first-difference-requires
     same-length
     same-length-2
     returns-4)
