@@ -70,7 +70,7 @@ def write_conditions(path, records) -> None:
 
 
 def build() -> None:
-    subprocess.run(["cargo", "build", "--release", "--quiet"], cwd=ROOT / "differential", check=True)
+    subprocess.run(["cargo", "build", "--release", "--quiet", "-p", "oracle", "-p", "generate"], cwd=ROOT / "differential", check=True)
 
 
 def generated(seed: int, count: int, shape: str) -> list:

@@ -1,9 +1,18 @@
 //! Copies the six source files of entity-runtime into the build's own folder and appends to each copy what lets it compile here: a `use` of a shim,
 //! and in the runtime a child module, which may call its private functions. The files themselves stay as they are.
 
-use std::{env, fs, path::Path};
+use std::{
+    env, fs,
+    path::{Path, PathBuf},
+};
 
+/// Beside the repository, unless ENTITY_RUNTIME names another folder.
 const SOURCES: &str = "../../../shared/docs/src/crates/entity-core/src";
+
+fn sources(here: &str) -> PathBuf {
+    println!("cargo:rerun-if-env-changed=ENTITY_RUNTIME");
+    env::var_os("ENTITY_RUNTIME").map_or_else(|| Path::new(here).join(SOURCES), PathBuf::from)
+}
 
 fn appended(module: &str, here: &str) -> String {
     match module {
@@ -18,7 +27,7 @@ fn main() {
     let out = env::var("OUT_DIR").expect("cargo names the build's folder");
     let mut modules = String::new();
     for module in ["truth", "number", "definition", "runtime", "error", "observed"] {
-        let source = Path::new(&here).join(SOURCES).join(format!("{module}.rs"));
+        let source = sources(&here).join(format!("{module}.rs"));
         println!("cargo:rerun-if-changed={}", source.display());
         let text = fs::read_to_string(&source).unwrap_or_else(|error| panic!("{}: {error}", source.display()));
         let copy = Path::new(&out).join(format!("{module}.rs"));

@@ -44,7 +44,8 @@ fn spelled(random: &mut Random, sign: &str, digits: &str, exponent: i128) -> Str
     }
 }
 
-fn numbers(random: &mut Random) -> (Json, Json) {
+/// Two numbers of one value, or of values near each other.
+pub fn number_pair(random: &mut Random) -> (String, String) {
     let (first, exponent) = (digits(random), random.pick(EXPONENTS).parse::<i128>().expect("an exponent"));
     let sign = random.pick(&["", "", "-"]);
     let (second, other) = match random.below(4) {
@@ -53,11 +54,14 @@ fn numbers(random: &mut Random) -> (Json, Json) {
         _ => (first.clone(), exponent),
     };
     let other_sign = if random.chance(90) { sign } else { "-" };
-    let left = Json::Number(spelled(random, sign, &first, exponent));
-    let right = Json::Number(spelled(random, other_sign, &second, other));
+    (spelled(random, sign, &first, exponent), spelled(random, other_sign, &second, other))
+}
+
+fn numbers(random: &mut Random) -> (Json, Json) {
+    let (left, right) = number_pair(random);
     let operator = random.pick(&["eq", "ne", "gt", "gte", "lt", "lte"]);
-    let condition = object([(operator, Json::Array(vec![text("$args.n"), right]))]);
-    (object([("n", left)]), condition)
+    let condition = object([(operator, Json::Array(vec![text("$args.n"), Json::Number(right)]))]);
+    (object([("n", Json::Number(left))]), condition)
 }
 
 fn few(random: &mut Random, most: usize) -> String {

@@ -110,6 +110,18 @@ fn decide(sheet: &Sheet) -> Answer {
     }
 }
 
+/// Whether a decision admits an outcome, by one run of each function: what a decision costs the Rust, less the places that its errors do not name.
+pub fn decided(sheet: &Sheet) -> bool {
+    let (context, outcomes) = (context(sheet), &sheet.operation.outcomes);
+    let Some(state) = &sheet.state else {
+        return false;
+    };
+    check_preconditions(COMMAND, &sheet.operation.preconditions, &context)
+        .and_then(|()| select_outcome(COMMAND, outcomes, Some(state), &context))
+        .and_then(|outcome| admit_state(&sheet.definition, &sheet.operation, COMMAND, outcome, state))
+        .is_ok()
+}
+
 fn checked(result: Result<(), (CoreError, usize)>) -> Answer {
     match result {
         Ok(()) => Answer::Passed,

@@ -49,15 +49,15 @@ fn refused(error: &CoreError, at: usize) -> (u8, String) {
     (number, format!("(refused {number} {rest})"))
 }
 
-/// Number and line, the line without its LF; `-` where there is none.
-pub fn written(answer: &Answer) -> String {
+/// Number and line, the line without its LF.
+pub fn written(answer: &Answer) -> (u8, Option<String>) {
     let (number, line) = match answer {
         Answer::Truth(truth, names) => (0, format!("(truth {truth} {})", listed("names", names))),
         Answer::Passed => (0, "(passed)".to_owned()),
         Answer::Selected(at, name) => (0, format!("(selected {at} {})", quoted(name))),
         Answer::Admitted(at, name) => (0, format!("(admitted {at} {})", quoted(name))),
         Answer::Refused(error, at) => refused(error, *at),
-        Answer::NoInput => (12, "-".to_owned()),
+        Answer::NoInput => return (12, None),
     };
-    format!("{number} {line}")
+    (number, Some(line))
 }

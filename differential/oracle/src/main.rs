@@ -1,29 +1,16 @@
-//! The oracle: what the Rust functions of entity-runtime answer for an accepted sheet, as number and line of the paper.
-//!
-//! Each line of standard input is one record, `CALL PLACE SHEET` with one space between; CALL is evaluate, preconditions, invariants, select, admit or
-//! decide, and PLACE counts for admit only. Each line of standard output is `NUMBER LINE`, the number 0 where nothing is refused, and `-` for no line.
-//! A sheet must be accepted: serde reads it, not the paper's reader.
+//! Answers records. Each line of standard input is one, `CALL PLACE SHEET` with one space between; CALL is evaluate, preconditions, invariants, select,
+//! admit or decide, and PLACE counts for admit only. Each line of standard output is `NUMBER LINE`, the number 0 where nothing is refused, and `-` for no
+//! line.
 
-mod line;
-mod sheet;
-mod shims;
-include!(concat!(env!("OUT_DIR"), "/modules.rs"));
-
-use definition::*;
-use error::{CoreError, DefinitionErrors, ValidationError};
-use shims::{identity, timestamp, validation, Registry, ValidatedDefinition};
+use oracle::{Sheet, STACK};
 use std::io::{self, BufRead, Write};
-use truth::Truth;
-
-/// Resolved values nest some thousand levels, and the functions recurse.
-const STACK: usize = 1 << 30;
 
 fn answer(record: &str) -> Option<String> {
     let (call, rest) = record.split_once(' ')?;
     let (place, text) = rest.split_once(' ')?;
-    let sheet = sheet::Sheet::read(text).ok()?;
-    let answer = runtime::calls::answer(call, place.parse().ok()?, &sheet)?;
-    Some(line::written(&answer))
+    let sheet = Sheet::read(text).ok()?;
+    let (number, line) = oracle::answer(call, place.parse().ok()?, &sheet)?;
+    Some(format!("{number} {}", line.as_deref().unwrap_or("-")))
 }
 
 fn run() -> io::Result<()> {

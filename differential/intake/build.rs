@@ -1,0 +1,13 @@
+//! Links the static library of the crate `exports`: target/staticlib/libexports.a, or the one in the folder that INTAKE_LIBRARY names.
+
+use std::{env, path::Path};
+
+fn main() {
+    println!("cargo:rerun-if-env-changed=INTAKE_LIBRARY");
+    let here = env::var("CARGO_MANIFEST_DIR").expect("cargo names the package's folder");
+    let folder = env::var("INTAKE_LIBRARY").unwrap_or_else(|_| format!("{here}/../../target/staticlib"));
+    let library = Path::new(&folder).join("libexports.a");
+    println!("cargo:rerun-if-changed={}", library.display());
+    println!("cargo:rustc-link-search=native={folder}");
+    println!("cargo:rustc-link-lib=static=exports");
+}
