@@ -122,11 +122,12 @@ pub fn questions(random: &mut Random, options: &Options) -> Vec<Question> {
         .collect()
 }
 
+/// Small sheets first, so that a difference is likely met on one.
 pub fn shape(index: u64) -> &'static str {
     match index % 100 {
-        0 => "deep",
-        1..=7 => "condition",
-        8..=29 => "small",
+        0..=21 => "small",
+        22..=28 => "condition",
+        99 => "deep",
         _ => "mixed",
     }
 }

@@ -3,6 +3,7 @@
 use crate::parse::parsed;
 use generate::json::{object, Json, Style, Writer};
 use generate::random::Random;
+use std::time::{Duration, Instant};
 
 /// What a value stands for in a sheet.
 #[derive(Clone, Copy)]
@@ -97,35 +98,6 @@ fn fewer<T: Clone>(list: &[T]) -> Vec<Vec<T>> {
     halves.into_iter().chain((0..list.len()).map(|at| (at, at + 1))).map(|(from, to)| without(list, from, to)).collect()
 }
 
-fn of_members(part: Part, members: &[(String, Json)], found: &mut Vec<Json>) {
-    if matches!(part, Part::Values | Part::Value) {
-        found.extend(fewer(members).into_iter().map(Json::Object));
-    }
-    for (at, (name, value)) in members.iter().enumerate() {
-        if may_go(part, name) {
-            found.push(Json::Object(without(members, at, at + 1)));
-        }
-        for smaller in smaller(part_of(part, name), value) {
-            let mut members = members.to_vec();
-            members[at].1 = smaller;
-            found.push(Json::Object(members));
-        }
-    }
-}
-
-fn of_elements(part: Part, elements: &[Json], found: &mut Vec<Json>) {
-    if !matches!(part, Part::Pair) {
-        found.extend(fewer(elements).into_iter().map(Json::Array));
-    }
-    for (at, element) in elements.iter().enumerate() {
-        for smaller in smaller(element_of(part), element) {
-            let mut elements = elements.to_vec();
-            elements[at] = smaller;
-            found.push(Json::Array(elements));
-        }
-    }
-}
-
 /// The conditions that a condition holds.
 fn conditions(condition: &Json) -> Vec<Json> {
     let Json::Object(members) = condition else {
@@ -142,31 +114,73 @@ fn conditions(condition: &Json) -> Vec<Json> {
     }
 }
 
-/// Values that may stand in the place of one, likely smaller.
-fn smaller(part: Part, value: &Json) -> Vec<Json> {
-    let mut found = Vec::new();
+/// What may stand in the place of a value whatever it holds.
+fn others(part: Part, value: &Json) -> Vec<Json> {
+    let parts = || value.parts().into_iter().cloned();
     match part {
-        Part::Condition => {
-            found.extend([Json::Bool(true), Json::Bool(false)]);
-            found.extend(conditions(value));
-        }
+        Part::Condition => [Json::Bool(true), Json::Bool(false)].into_iter().chain(conditions(value)).collect(),
         Part::Value => {
-            found.extend([Json::Number("0".to_owned()), Json::Text(String::new()), Json::Array(Vec::new()), Json::Null, object([])]);
-            found.extend(value.parts().into_iter().cloned());
+            let least = [Json::Number("0".to_owned()), Json::Text(String::new()), Json::Array(Vec::new()), Json::Null, object([])];
+            least.into_iter().chain(parts()).collect()
         }
-        Part::Effect => found.push(Json::Text("none".to_owned())),
-        Part::Sources => found.extend(value.parts().into_iter().cloned()),
-        Part::Version => found.push(Json::Number("0".to_owned())),
-        _ => {}
+        Part::Effect => vec![Json::Text("none".to_owned())],
+        Part::Sources => parts().collect(),
+        Part::Version => vec![Json::Number("0".to_owned())],
+        _ => Vec::new(),
     }
+}
+
+/// Values that may stand in the place of one, likely smaller; its parts are as they were, or gone.
+fn smaller(part: Part, value: &Json) -> Vec<Json> {
+    let mut found = others(part, value);
     match value {
-        Json::Object(members) => of_members(part, members, &mut found),
-        Json::Array(elements) => of_elements(part, elements, &mut found),
+        Json::Object(members) if matches!(part, Part::Values | Part::Value) => found.extend(fewer(members).into_iter().map(Json::Object)),
+        Json::Object(members) => {
+            let gone = (0..members.len()).filter(|at| may_go(part, &members[*at].0));
+            found.extend(gone.map(|at| Json::Object(without(members, at, at + 1))));
+        }
+        Json::Array(elements) if !matches!(part, Part::Pair) => found.extend(fewer(elements).into_iter().map(Json::Array)),
         Json::Text(text) if !matches!(part, Part::Effect) => found.extend(shorter(text).into_iter().map(Json::Text)),
         Json::Number(number) if matches!(part, Part::Value) => found.extend(shorter(number).into_iter().filter(|text| is_number(text)).map(Json::Number)),
         _ => {}
     }
     found
+}
+
+/// What stands at a path of places, and what it stands for.
+fn standing<'a>(mut value: &'a Json, path: &[usize]) -> Option<(Part, &'a Json)> {
+    let mut part = Part::Sheet;
+    for at in path {
+        (part, value) = match value {
+            Json::Object(members) => members.get(*at).map(|(name, value)| (part_of(part, name), value))?,
+            Json::Array(elements) => (element_of(part), elements.get(*at)?),
+            _ => return None,
+        };
+    }
+    Some((part, value))
+}
+
+fn replaced(value: &Json, path: &[usize], new: Json) -> Json {
+    let Some((at, rest)) = path.split_first() else {
+        return new;
+    };
+    let mut value = value.clone();
+    match &mut value {
+        Json::Object(members) => members[*at].1 = replaced(&members[*at].1, rest, new),
+        Json::Array(elements) => elements[*at] = replaced(&elements[*at], rest, new),
+        _ => {}
+    }
+    value
+}
+
+/// Every path, an outer one before those inside it.
+fn paths(value: &Json, path: &mut Vec<usize>, found: &mut Vec<Vec<usize>>) {
+    found.push(path.clone());
+    for (at, part) in value.parts().into_iter().enumerate() {
+        path.push(at);
+        paths(part, path, found);
+        path.pop();
+    }
 }
 
 /// How a smaller sheet is written: plainly, with all texts escaped, with spaces, or with both.
@@ -178,6 +192,29 @@ fn written(sheet: &Json, (spaces, escapes): (usize, usize)) -> String {
     writer.out
 }
 
+fn size(sheet: &Json) -> (usize, String) {
+    let text = written(sheet, STYLES[0]);
+    (text.len(), text)
+}
+
+/// The sheet with what stands at a path made as small as shows.
+fn shrunk_at(mut sheet: Json, path: &[usize], shows: &impl Fn(&Json) -> bool) -> Json {
+    loop {
+        let Some((part, value)) = standing(&sheet, path) else {
+            return sheet;
+        };
+        let now = size(value);
+        let next = smaller(part, value).into_iter().filter(|next| size(next) < now).map(|next| replaced(&sheet, path, next)).find(|next| shows(next));
+        match next {
+            Some(next) => sheet = next,
+            None => return sheet,
+        }
+    }
+}
+
+/// Shrinking ends after so long, small enough or not.
+const LONGEST: Duration = Duration::from_secs(20);
+
 /// A smaller sheet that `shows` the difference as this one does.
 pub fn shrunk(text: &str, shows: impl Fn(&str) -> bool) -> String {
     let Some(mut sheet) = parsed(text) else {
@@ -186,16 +223,18 @@ pub fn shrunk(text: &str, shows: impl Fn(&str) -> bool) -> String {
     let Some(style) = STYLES.into_iter().find(|style| shows(&written(&sheet, *style))) else {
         return text.to_owned();
     };
-    let size = |sheet: &Json| {
-        let text = written(sheet, (0, 0));
-        (text.len(), text)
-    };
+    let (start, shows) = (Instant::now(), |sheet: &Json| shows(&written(sheet, style)));
     loop {
-        let now = size(&sheet);
-        let next = smaller(Part::Sheet, &sheet).into_iter().find(|next| size(next) < now && shows(&written(next, style)));
-        match next {
-            Some(next) => sheet = next,
-            None => return written(&sheet, style),
+        let (before, mut found) = (size(&sheet), Vec::new());
+        paths(&sheet, &mut Vec::new(), &mut found);
+        for path in found {
+            if start.elapsed() > LONGEST {
+                return written(&sheet, style);
+            }
+            sheet = shrunk_at(sheet, &path, &shows);
+        }
+        if size(&sheet) == before {
+            return written(&sheet, style);
         }
     }
 }
