@@ -38,6 +38,9 @@ const TOKENS: &[&[u8]] = &[
     b"\"b\"",
     b"\"\\ud83d\\ude00\"",
     b"\\ud800",
+    b"\\udc00\\udc00",
+    b"\\ud800\\ud800",
+    b"\\ud83d\\u0041",
     b"\\udc00",
     b"\"\\n\"",
     b"\xc3\xa9",
@@ -157,8 +160,11 @@ fn edge(random: &mut Random) -> Vec<u8> {
         }
         1 => (0..random.between(60, 66)).flat_map(|_| random.pick(&[&b"["[..], b"[", b"{\"a\":", b"[1,", b"{\"b\":0,\"\":"])).copied().collect(),
         2 => {
-            let mut text = random.pick(&[&b"["[..], b"{\"a\":[", b"[[["]).to_vec();
-            text.extend(std::iter::repeat_n(*b"0,", random.between(4088, 4097)).flatten());
+            // brackets, names and zeros up to a few nodes less than a sheet may have, or just as many
+            let mut text = random.pick(&[&b"["[..], b"{\"a\":[", &[b'['; 64]]).to_vec();
+            let used = if text[0] == b'{' { 3 } else { text.len() };
+            text.extend(b"0,".repeat(random.between(4_092, 4_096) - used));
+            text.extend_from_slice(random.pick(&[&b""[..], b"0]", b"0],\"b\":1}", b"{\"a\"", b"{\"a\":1,\"b\":2", b"[[", b"tx", b"\"x"]));
             text
         }
         _ => {
@@ -178,7 +184,7 @@ pub fn text(random: &mut Random) -> Vec<u8> {
             bytes(random, length)
         }
         1..=2 => tokens(random, 30),
-        3 if random.chance(60) => edge(random),
+        3 => edge(random),
         way => {
             let shape = random.pick(&["mixed", "mixed", "mixed", "condition", "small"]);
             let mut text = generate::sheet(random, shape).into_bytes();
