@@ -236,15 +236,11 @@ fn misread(text: &[u8], number: u32) -> Option<&'static str> {
     }
 }
 
-fn shown(text: &[u8], what: &str) -> String {
-    format!("{what}\n  text     {}\n  in hex   {}", String::from_utf8_lossy(text), text.iter().map(|byte| format!("{byte:02x}")).collect::<String>())
-}
-
 /// The replies to all questions on one text.
 fn replies(lent: &mut Lent, text: &[u8], questions: &[Question]) -> Result<Vec<Reply>, String> {
     let reply = |question: &Question| {
         let bytes = if let Room::Short(bytes) = question.room { bytes } else { 4_000 };
-        lent.ask(question.call, text, question.words, bytes).map_err(|broken| shown(text, &format!("{}: {broken}", question.call.name())))
+        lent.ask(question.call, text, question.words, bytes).map_err(|broken| format!("{}: {broken}", question.call.name()))
     };
     questions.iter().map(reply).collect()
 }
@@ -258,34 +254,69 @@ fn reading(question: &Question, reply: &Reply) -> Option<u32> {
     }
 }
 
+/// The Rust's answers on a text that is read.
+fn answered(lent: &mut Lent, text: &[u8], questions: &[Question]) -> Result<(), String> {
+    let text = std::str::from_utf8(text).map_err(|_| "read, though it is not UTF-8")?;
+    let enough: Vec<Question> = questions.iter().map(|question| Question { words: WORK, room: Room::Enough, ..*question }).collect();
+    match compared(lent, text, &enough) {
+        None => Err("read, though the Rust does not read it".to_owned()),
+        Some(Err(difference)) => Err(difference.said()),
+        Some(Ok(_)) => Ok(()),
+    }
+}
+
+/// The number that reading gives a text, if any call shows it, and the replies to all questions; or what is wrong.
+fn checked(lent: &mut Lent, text: &[u8], questions: &[Question]) -> Result<(Option<u32>, Vec<Reply>), String> {
+    let replies = replies(lent, text, questions)?;
+    let mut numbers = questions.iter().zip(&replies).filter_map(|(question, reply)| reading(question, reply));
+    let number = numbers.next();
+    if numbers.any(|other| Some(other) != number) {
+        return Err("two calls read it differently".to_owned());
+    }
+    if let Some(wrong) = number.and_then(|number| misread(text, number)) {
+        return Err(wrong.to_owned());
+    }
+    if number == Some(0) {
+        answered(lent, text, questions)?;
+    }
+    Ok((number, replies))
+}
+
+/// The text less what can go while the same is wrong with it: ever shorter runs of bytes.
+fn shrunk(lent: &mut Lent, text: &[u8], questions: &[Question], wrong: &str) -> Vec<u8> {
+    let mut text = text.to_vec();
+    let mut run = text.len().div_ceil(2);
+    while run > 0 {
+        let mut at = 0;
+        while at < text.len() {
+            let end = text.len().min(at + run);
+            let less = [&text[..at], &text[end..]].concat();
+            match checked(lent, &less, questions) {
+                Err(other) if other == wrong => text = less,
+                _ => at = end,
+            }
+        }
+        run /= 2;
+    }
+    text
+}
+
+fn shown(text: &[u8], wrong: &str) -> String {
+    let hex: String = text.iter().map(|byte| format!("{byte:02x}")).collect();
+    format!("{wrong}\n  text     {}\n  in hex   {hex}", String::from_utf8_lossy(text))
+}
+
 pub fn one_text(lent: &mut Lent, counts: &mut Counts, options: &Options, sample: &Sample, index: u64) -> Result<(), String> {
     let mut random = options.random(index);
     let text = text(&mut random);
     options.trace(&text);
     let questions = questions(&mut random, options);
-    let replies = replies(lent, &text, &questions)?;
-    let mut numbers = questions.iter().zip(&replies).filter_map(|(question, reply)| reading(question, reply));
-    let Some(number) = numbers.next() else {
-        return Ok(());
-    };
-    if numbers.any(|other| other != number) {
-        return Err(shown(&text, "two calls read it differently"));
-    }
-    if let Some(wrong) = misread(&text, number) {
-        return Err(shown(&text, wrong));
-    }
-    sample.add(index, &text, number);
-    for (question, reply) in questions.iter().zip(&replies) {
-        counts.add(question.call.name(), reply);
-    }
-    if number > 0 {
-        return Ok(());
-    }
-    let text = std::str::from_utf8(&text).expect("it is read, so it is UTF-8");
-    let enough: Vec<Question> = questions.iter().map(|question| Question { words: WORK, room: Room::Enough, ..*question }).collect();
-    match compared(lent, text, &enough) {
-        None => Err(shown(text.as_bytes(), "read, though the Rust does not read it")),
-        Some(Err(difference)) => Err(difference.to_string()),
-        Some(Ok(_)) => Ok(()),
+    match checked(lent, &text, &questions) {
+        Err(wrong) => Err(shown(&shrunk(lent, &text, &questions, &wrong), &wrong)),
+        Ok((number, replies)) => {
+            number.into_iter().for_each(|number| sample.add(index, &text, number));
+            questions.iter().zip(&replies).for_each(|(question, reply)| counts.add(question.call.name(), reply));
+            Ok(())
+        }
     }
 }

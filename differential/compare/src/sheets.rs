@@ -35,6 +35,14 @@ fn shown(reply: &Reply) -> String {
     format!("{} {}", reply.number, reply.line.as_deref().map_or("-".into(), String::from_utf8_lossy))
 }
 
+impl Difference {
+    /// The call, and what both sides answer.
+    pub fn said(&self) -> String {
+        let found = self.found.as_ref().map_or_else(String::clone, shown);
+        format!("{}: {found}, and not {}", self.question.call.name(), shown(&self.expected))
+    }
+}
+
 impl fmt::Display for Difference {
     fn fmt(&self, to: &mut fmt::Formatter<'_>) -> fmt::Result {
         let Question { call, words, .. } = self.question;
