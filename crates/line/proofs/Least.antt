@@ -9,7 +9,7 @@ use native.Mathlib.Omega.{arith}
 use borrow.Author.Tests.{eq-eqb, ne-eqb}
 use lib.ListN.{getD, length}
 use Rattle.line.specs.Least.{isAfter, isLess, leastAfter, lesser, nearer}
-use Rattle.line.specs.Texts.{IsText, NamesHeld, TextTold, seen, textOf}
+use Rattle.line.specs.Texts.{IsText, NamesHeld, TextTold, textOf}
 use Rattle.line.specs.declared.quote.Text.{Text}
 use Rattle.line.specs.declared.quote.Text.the-variants as texts
 use Rattle.reader.specs.Bytes.{Bytes, orderBytes}
@@ -81,14 +81,6 @@ pub none-left : (s : Bytes) (w : List ℕ) (last : Option Bytes) (m k : ℕ) →
 unfolding markedFrom leastAfter
 none-left s w last m k e = rw e
 
-pub one-more : (s : Bytes) (w : List ℕ) (last : Option Bytes) (m n j k : ℕ) → m ≡ suc n → k ≡ j + 1 → seen s w last j (leastAfter last (markedFrom s w n k)) ≡ leastAfter last (markedFrom s w m j)
-unfolding markedFrom leastAfter
-one-more s w last m n j k e f = rw (e, f) (go (isMarked w j) refl)
-  where
-    go : (b : Bool) → isMarked w j ≡ b → seen s w last j (leastAfter last (markedFrom s w n (j + 1))) ≡ leastAfter last (markedFrom s w (suc n) j)
-    go true q = rw (q, markedFrom)
-    go false q = rw (q, markedFrom)
-
 pub all-marked : (s : Bytes) (w : List ℕ) → markedFrom s w maxNodes 0 ≡ marked s w
 unfolding marked
 all-marked s w = refl
@@ -102,13 +94,15 @@ few-marked s w (suc m) k = go (isMarked w k) refl (few-marked s w m (k + 1))
     go true q below = rw (q, markedFrom) (omega arith)
     go false q below = rw (q, markedFrom) (omega arith)
 
--- ---- one node
-module _ (s : Bytes) (w : List ℕ) (last : Option Bytes) (k : ℕ) where
-  pub not-marked : {best : Text} → (getD w (firstMark + k) 0 ≡ 1 → ⊥) → IsText s best → TextTold s (seen s w last k (textOf s best)) best
-  not-marked h t = rw (ne-eqb (getD w (firstMark + k) 0) 1 h) (itself s t)
+-- ---- one node: it is passed by, or its text is seen
+module _ (s : Bytes) (w : List ℕ) (last : Option Bytes) {best : Text} (m n j k : ℕ) (e : m ≡ suc n) (f : k ≡ j + 1) (h : TextTold s (leastAfter last (markedFrom s w n k)) best) where
+  pub not-marked : (getD w (firstMark + j) 0 ≡ 1 → ⊥) → TextTold s (leastAfter last (markedFrom s w m j)) best
+  unfolding markedFrom
+  not-marked q = rw (e, ne-eqb (getD w (firstMark + j) 0) 1 q, markedFrom) (rw f at h)
 
-  pub is-marked : {p : ℕ} {r : Text} → getD w (firstMark + k) 0 ≡ 1 → (best : Option Bytes) → p ≡ startAt w k → TextTold s (nearer last (textAt s p) best) r → TextTold s (seen s w last k best) r
-  is-marked h best e t = rw (eq-eqb (getD w (firstMark + k) 0) 1 h, ← e) t
+  pub is-marked : {p : ℕ} {r : Text} → getD w (firstMark + j) 0 ≡ 1 → p ≡ startAt w j → TextTold s (nearer last (textAt s p) (textOf s best)) r → TextTold s (leastAfter last (markedFrom s w m j)) r
+  unfolding markedFrom leastAfter
+  is-marked q d t = rw (e, eq-eqb (getD w (firstMark + j) 0) 1 q, markedFrom) (rw (d, h .is, f) at t)
 
 pub marked-text : {s : Bytes} {w : List ℕ} {k p : ℕ} → NamesHeld s w → k < maxNodes → getD w (firstMark + k) 0 ≡ 1 → p ≡ startAt w k → OnText s p 0
 marked-text {s} {w} {k} h l m e = rw e (h .texts k l (eq-eqb (getD w (firstMark + k) 0) 1 m))

@@ -1,12 +1,11 @@
 -- Texts of the sheet by their places, and what the marks must be for the names to be read from them.
 -- Assumes nothing.
-use mathlib.Core.Bool.{cond, true}
+use mathlib.Core.Bool.{true}
 use mathlib.Core.List.{List, []}
 use mathlib.Core.Option.{Option, none, some}
 use mathlib.Core.Path.{_≡_}
 use Prim.Native.Nat.{ℕ, _<_, _≤_}
 use lib.ListN.{length}
-use Rattle.line.specs.Least.{nearer}
 use Rattle.reader.specs.Bytes.{Bytes}
 use Rattle.reader.specs.Cursor.{OnText}
 use Rattle.reader.specs.Held.{HasNode}
@@ -39,10 +38,6 @@ pub record TextTold (s : Bytes) (whole : Option Bytes) (r : Text) : Type 0 where
 pub record NamesHeld (s : Bytes) (w : List ℕ) : Type 0 where
   pub size : 16384 ≤ length w
   pub texts : (k : ℕ) → k < maxNodes → isMarked w k ≡ true → OnText s (startAt w k) 0
-
--- the best so far, once a node has been seen
-abbrev pub seen : Bytes → List ℕ → Option Bytes → ℕ → Option Bytes → Option Bytes
-seen s w last k best = cond (isMarked w k) (nearer last (textAt s (startAt w k)) best) best
 
 -- the texts of a value that is a text or an array of texts, in written order
 abbrev pub orNone : Result (List Bytes) → List Bytes

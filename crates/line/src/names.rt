@@ -4,7 +4,6 @@ use crate::lay::bytes;
 use crate::quote::Text;
 use crate::quote::element;
 use reader::text::Order;
-ghost use Prim.Native.Nat.{_<_};
 ghost use Rattle.semantics.specs.Names.{ascending};
 ghost use Rattle.reader.specs.Cursor.{OnText};
 ghost use Rattle.reader.specs.Marks.{marked};
@@ -12,7 +11,7 @@ ghost use Rattle.reader.specs.Spans.{textAt};
 ghost use Rattle.line.specs.Laid.{Laid, Room};
 ghost use Rattle.line.specs.Least.{leastAfter, lesser, nearer};
 ghost use Rattle.line.specs.Line.{names};
-ghost use Rattle.line.specs.Texts.{IsText, NamesHeld, TextTold, seen, textOf};
+ghost use Rattle.line.specs.Texts.{IsText, NamesHeld, TextTold, textOf};
 
 // The lesser of a text and the best one so far.
 fn lesser(s: &[u8], text: usize, best: Text) -> Text
@@ -44,18 +43,6 @@ fn nearer(s: &[u8], last: Text, text: usize, best: Text) -> Text
     }
 }
 
-// The best so far, once a node has been seen.
-fn seen(s: &[u8], work: &[u32], last: Text, node: usize, best: Text) -> Text
-    requires { ⌜ NamesHeld (now s) (now work) × IsText (now s) last × IsText (now s) best × (node < 4096) ⌝ }
-    ensures { λ r. ⌜ TextTold (now (s .entry)) (seen (now (s .entry)) (now (work .entry)) (textOf (now (s .entry)) last) node (textOf (now (s .entry)) best)) r ⌝ }
-{
-    if work[12288 + node] != 1 {
-        return best;
-    }
-    let text = reader::rows::start_at(work, node);
-    nearer(s, last, text, best)
-}
-
 // The least marked text that comes after the last one.
 fn least_after(s: &[u8], work: &[u32], last: Text) -> Text
     requires { ⌜ NamesHeld (now s) (now work) × IsText (now s) last ⌝ }
@@ -65,7 +52,10 @@ fn least_after(s: &[u8], work: &[u32], last: Text) -> Text
     let mut k = 4096;
     while 0 < k {
         k -= 1;
-        best = seen(s, work, last, k, best);
+        if work[12288 + k] == 1 {
+            let text = reader::rows::start_at(work, k);
+            best = nearer(s, last, text, best);
+        }
     }
     best
 }
