@@ -6,7 +6,7 @@ use Prim.Native.Nat.{ℕ, _%_, _<_, _/_, _≤_}
 use native.Mathlib.Omega.{arith}
 use Rattle.decision.proofs.Entries.{call-small}
 use Rattle.decision.specs.Called.{Called}
-use Rattle.decision.specs.Decide.{admitCall, decideCall, evaluateCall, invariantsCall, preconditionsCall, selectCall}
+use Rattle.rules.specs.Decide.{admitCall, decideCall, evaluateCall, invariantsCall, preconditionsCall, selectCall}
 use Rattle.decision.specs.Entry.{Reply, admit, checkInvariants, checkPreconditions, decide, evaluate, select}
 use Rattle.line.specs.Reply.{lineSize}
 use Rattle.line.specs.declared.emit.Sent.{Sent}

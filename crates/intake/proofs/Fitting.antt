@@ -6,7 +6,7 @@ use Prim.Native.Nat.{ℕ, _≤_}
 use lib.ListN.{length}
 use Rattle.decision.proofs.Entries.{call-fits}
 use Rattle.decision.specs.Called.{Called}
-use Rattle.decision.specs.Decide.{decideCall}
+use Rattle.rules.specs.Decide.{decideCall}
 use Rattle.decision.specs.Entry.{Reply, decide}
 use Rattle.line.specs.Reply.{lineSize}
 use Rattle.line.specs.declared.emit.Sent.{Sent}
