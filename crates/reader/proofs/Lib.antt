@@ -24,7 +24,6 @@ pub mod Words
 pub mod Samples
 pub mod Leaves
 pub mod Members
-pub mod TableRule
 pub mod Numbers
 pub mod Encoding
 pub mod Marks

@@ -1,19 +1,18 @@
--- A number, byte by byte: the classes of its bytes, the code's table of places, and each turn of the scan.
+-- A number, byte by byte: the classes of its bytes, where they lead, and each turn of the scan.
 -- Assumes nothing.
 use mathlib.Core.Bool.{Bool, cond, false, true}
-use mathlib.Core.List.{List, [], _∷_}
-use mathlib.Core.Path.{ap, refl, subst, sym, _∙_, _≡_}
-use Prim.Native.Nat.{suc, zero, ℕ, _%_, _*_, _+_, _-_, _/_, _<_, _≤_}
+use mathlib.Core.List.{[], _∷_}
+use mathlib.Core.Logic.{inl, inr, _⊎_}
+use mathlib.Core.Path.{ap, refl, _∙_, _≡_}
+use Prim.Native.Nat.{suc, zero, ℕ, _+_, _-_, _<_, _≤_}
 use native.Mathlib.Numerals.{add-one}
 use native.Mathlib.Omega.{arith}
-use lib.Dec.{eqb, eqb→eq}
 use lib.ListN.{drop, drop-of-length-le, getD, length, length-drop}
 use lib.Seq.{drop-cons}
-use Rattle.reader.proofs.TableRule.{at}
 use Rattle.reader.proofs.Sound.{between-of, between-out}
 use Rattle.reader.specs.Answers.{classOf, placeBy}
 use Rattle.reader.specs.Bytes.{Bytes, choose}
-use Rattle.reader.specs.Numerals.{Place, complete, digit, digits, expDigits, expSign, exponent, first, fraction, isStop, onward, point, sign, stop, whole, zeroed}
+use Rattle.reader.specs.Numerals.{Place, complete, digit, digits, first, isStop, onward}
 use Rattle.reader.specs.Placing.{digitsAt, placeOf}
 use Rattle.reader.specs.Refusal.{Result, notJson, numberTooLong, ok, refused, _>>=_}
 use Rattle.reader.specs.Scan.{Read}
@@ -32,44 +31,24 @@ first-whole c p q = rw (ne-eqb c 45 (λ e. omega arith), ne-eqb c 48 (λ e. omeg
 pub first-none : (c : ℕ) → (c ≡ 45 → ⊥) → (c ≡ 48 → ⊥) → (49 ≤ c → c ≤ 57 → ⊥) → first c ≡ placeBy 8
 first-none c p q r = rw (ne-eqb c 45 p, ne-eqb c 48 q, between-out 49 57 c r, choose)
 
--- ---- the table
-abbrev placeNo : Place → ℕ
-placeNo sign = 0
-placeNo zeroed = 1
-placeNo whole = 2
-placeNo point = 3
-placeNo fraction = 4
-placeNo exponent = 5
-placeNo expSign = 6
-placeNo expDigits = 7
-placeNo stop = 8
+-- ---- where a class of bytes leads
+-- d is not the class k, or k leads from place p to place r
+abbrev pub Leads : ℕ → ℕ → ℕ → ℕ → Type 0
+Leads p r d k = (d ≡ k → ⊥) ⊎ (onward (placeBy p) (classOf k) ≡ placeBy r)
 
-placeBy-no : (q : Place) → (q ≡ placeBy (placeNo q)) × (placeNo q < 9)
-placeBy-no sign = (refl, omega arith)
-placeBy-no zeroed = (refl, omega arith)
-placeBy-no whole = (refl, omega arith)
-placeBy-no point = (refl, omega arith)
-placeBy-no fraction = (refl, omega arith)
-placeBy-no exponent = (refl, omega arith)
-placeBy-no expSign = (refl, omega arith)
-placeBy-no expDigits = (refl, omega arith)
-placeBy-no stop = (refl, omega arith)
+there : (p r k : ℕ) → Leads p r k k → onward (placeBy p) (classOf k) ≡ placeBy r
+there p r k (inl n) = absurd (n refl)
+there p r k (inr e) = e
 
-abbrev pub places : List ℕ
-places = 1 ∷ 2 ∷ 8 ∷ 8 ∷ 8 ∷ 8 ∷ 8 ∷ 8 ∷ 8 ∷ 8 ∷ 8 ∷ 3 ∷ 5 ∷ 8 ∷ 2 ∷ 2 ∷ 8 ∷ 8 ∷ 3 ∷ 5 ∷ 8 ∷ 4 ∷ 4 ∷ 8 ∷ 8 ∷ 8 ∷ 8 ∷ 8 ∷ 4 ∷ 4 ∷ 8 ∷ 8 ∷ 8 ∷ 5 ∷ 8 ∷ 7 ∷ 7 ∷ 6 ∷ 6 ∷ 8 ∷ 8 ∷ 8 ∷ 7 ∷ 7 ∷ 8 ∷ 8 ∷ 8 ∷ 8 ∷ 8 ∷ 7 ∷ 7 ∷ 8 ∷ 8 ∷ 8 ∷ 8 ∷ 8 ∷ 8 ∷ 8 ∷ 8 ∷ 8 ∷ 8 ∷ 8 ∷ 8 ∷ []
-
-right : ℕ → ℕ → Bool
-right k x = eqb x (placeNo (onward (placeBy (k / 7)) (classOf (k % 7))))
-
-pub tabled : (p d c : ℕ) → p < 9 → d < 7 → digit c ≡ classOf d → (onward (placeBy p) (digit c) ≡ placeBy (getD places (7 * p + d) 0)) × (getD places (7 * p + d) 0 < 9)
-unfolding right
-tabled p d c h k e =
-    let q = onward (placeBy ((7 * p + d) / 7)) (classOf ((7 * p + d) % 7)) in
-    let r : getD places (7 * p + d) 0 ≡ placeNo q = eqb→eq (getD places (7 * p + d) 0) (placeNo q) (at right places tt (7 * p + d) (omega arith)) in
-    let i : (7 * p + d) / 7 ≡ p = omega arith in
-    let j : (7 * p + d) % 7 ≡ d = omega arith in
-    let m : onward (placeBy p) (digit c) ≡ q = rw (e, i, j) in
-    (m ∙ placeBy-no q .0 ∙ ap placeBy (sym r), subst (λ (x : ℕ). x < 9) (sym r) (placeBy-no q .1))
+pub leads : (p r d : ℕ) → d < 7 → Leads p r d 0 → Leads p r d 1 → Leads p r d 2 → Leads p r d 3 → Leads p r d 4 → Leads p r d 5 → Leads p r d 6 → onward (placeBy p) (classOf d) ≡ placeBy r
+leads p r zero h a0 a1 a2 a3 a4 a5 a6 = there p r 0 a0
+leads p r (suc zero) h a0 a1 a2 a3 a4 a5 a6 = there p r 1 a1
+leads p r (suc (suc zero)) h a0 a1 a2 a3 a4 a5 a6 = there p r 2 a2
+leads p r (suc (suc (suc zero))) h a0 a1 a2 a3 a4 a5 a6 = there p r 3 a3
+leads p r (suc (suc (suc (suc zero)))) h a0 a1 a2 a3 a4 a5 a6 = there p r 4 a4
+leads p r (suc (suc (suc (suc (suc zero))))) h a0 a1 a2 a3 a4 a5 a6 = there p r 5 a5
+leads p r (suc (suc (suc (suc (suc (suc zero)))))) h a0 a1 a2 a3 a4 a5 a6 = there p r 6 a6
+leads p r (suc (suc (suc (suc (suc (suc (suc n))))))) h a0 a1 a2 a3 a4 a5 a6 = absurd (omega arith)
 
 pub goes-on : (p : ℕ) → p < 9 → (p ≡ 8 → ⊥) → isStop (placeBy p) ≡ false
 goes-on zero h f = refl

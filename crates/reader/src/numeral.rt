@@ -10,74 +10,7 @@ ghost use Rattle.reader.specs.Placing.{digitsAt};
 ghost use Rattle.reader.specs.Refusal.{notJson, ok, refused};
 ghost use Rattle.reader.specs.Answers.{classOf, placeBy, scanOf};
 
-// A row for each place: sign, zero, whole, point, fraction, exponent, its sign, its digits, stop.
-// A column for each class of bytes: 0, 1 to 9, minus, plus, point, e, other.
-const ONWARD: [usize; 63] = [
-    1,
-    2,
-    8,
-    8,
-    8,
-    8,
-    8,
-    8,
-    8,
-    8,
-    8,
-    3,
-    5,
-    8,
-    2,
-    2,
-    8,
-    8,
-    3,
-    5,
-    8,
-    4,
-    4,
-    8,
-    8,
-    8,
-    8,
-    8,
-    4,
-    4,
-    8,
-    8,
-    8,
-    5,
-    8,
-    7,
-    7,
-    6,
-    6,
-    8,
-    8,
-    8,
-    7,
-    7,
-    8,
-    8,
-    8,
-    8,
-    8,
-    7,
-    7,
-    8,
-    8,
-    8,
-    8,
-    8,
-    8,
-    8,
-    8,
-    8,
-    8,
-    8,
-    8,
-];
-
+// The classes of bytes: 0, 1 to 9, minus, plus, point, e, other.
 fn class(c: u8) -> usize
     ensures { λ r. ⌜ (digit c ≡ classOf r) × (r < 7) ⌝ }
 {
@@ -105,13 +38,64 @@ fn first(c: u8) -> usize
     }
 }
 
-// Where a further byte leads; 8 is no number any more.
+// Where a further byte leads from the exponent, its sign, its digits and the stop.
+fn onward_exponent(place: usize, class: usize) -> usize
+    requires { ⌜ (4 < place) × (place < 9) × (class < 7) ⌝ }
+    ensures { λ r. ⌜ (onward (placeBy place) (classOf class) ≡ placeBy r) × (r < 9) ⌝ }
+{
+    match place {
+        5 => match class {
+            0 | 1 => 7,
+            2 | 3 => 6,
+            _ => 8,
+        },
+        6 => match class {
+            0 | 1 => 7,
+            _ => 8,
+        },
+        7 => match class {
+            0 | 1 => 7,
+            _ => 8,
+        },
+        _ => 8,
+    }
+}
+
+// Where a further byte leads, a row for each place: sign, zero, whole, point, fraction, and those of the exponent.
+// 8 is no number any more.
 fn onward(place: usize, c: u8) -> usize
     requires { ⌜ place < 9 ⌝ }
     ensures { λ r. ⌜ (onward (placeBy place) (digit c) ≡ placeBy r) × (r < 9) ⌝ }
 {
-    let column = class(c);
-    ONWARD[7 * place + column]
+    let class = class(c);
+    match place {
+        0 => match class {
+            0 => 1,
+            1 => 2,
+            _ => 8,
+        },
+        1 => match class {
+            4 => 3,
+            5 => 5,
+            _ => 8,
+        },
+        2 => match class {
+            0 | 1 => 2,
+            4 => 3,
+            5 => 5,
+            _ => 8,
+        },
+        3 => match class {
+            0 | 1 => 4,
+            _ => 8,
+        },
+        4 => match class {
+            0 | 1 => 4,
+            5 => 5,
+            _ => 8,
+        },
+        _ => onward_exponent(place, class),
+    }
 }
 
 // Whether a number may end there.
