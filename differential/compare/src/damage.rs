@@ -2,12 +2,14 @@
 //! 2 and 3 where they belong; 4 only where serde_json reads no JSON either, 9 to 11 only where it does; and the Rust's answer where a text is read.
 
 use crate::sheets::{compared, questions, Question, Room};
+use crate::shrink::LONGEST;
 use crate::{Counts, Options};
 use generate::random::Random;
 use intake::{Lent, Reply, WORK};
 use std::fs::File;
 use std::io::Write;
 use std::sync::Mutex;
+use std::time::Instant;
 
 const TOKENS: &[&[u8]] = &[
     b"{",
@@ -284,11 +286,11 @@ fn checked(lent: &mut Lent, text: &[u8], questions: &[Question]) -> Result<(Opti
 
 /// The text less what can go while the same is wrong with it: ever shorter runs of bytes.
 fn shrunk(lent: &mut Lent, text: &[u8], questions: &[Question], wrong: &str) -> Vec<u8> {
-    let mut text = text.to_vec();
+    let (start, mut text) = (Instant::now(), text.to_vec());
     let mut run = text.len().div_ceil(2);
     while run > 0 {
         let mut at = 0;
-        while at < text.len() {
+        while at < text.len() && start.elapsed() < LONGEST {
             let end = text.len().min(at + run);
             let less = [&text[..at], &text[end..]].concat();
             match checked(lent, &less, questions) {

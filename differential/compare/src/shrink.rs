@@ -213,7 +213,7 @@ fn shrunk_at(mut sheet: Json, path: &[usize], shows: &impl Fn(&Json) -> bool) ->
 }
 
 /// Shrinking ends after so long, small enough or not.
-const LONGEST: Duration = Duration::from_secs(20);
+pub const LONGEST: Duration = Duration::from_secs(20);
 
 /// A smaller sheet that `shows` the difference as this one does.
 pub fn shrunk(text: &str, shows: impl Fn(&str) -> bool) -> String {
