@@ -49,7 +49,7 @@ begins-rows w w′ i vs e h (r, b) = (
 )
 
 -- ---- nodes
-node-rows : {s : Bytes} {w w′ : List ℕ} {left n : ℕ} → table w′ ≡ table w → IsNode s w left n → IsNode s w′ left n × (valueAt s w′ n ≡ valueAt s w n)
+pub node-rows : {s : Bytes} {w w′ : List ℕ} {left n : ℕ} → table w′ ≡ table w → IsNode s w left n → IsNode s w′ left n × (valueAt s w′ n ≡ valueAt s w n)
 node-rows {s} {w} {w′} {left} {n} e h = (record { tree = h .tree; held = held; depth = h .depth; most = h .most }, value-is s w′ (h .depth) held ∙ sym (value-is s w (h .depth) (h .held)))
   where
     held : NodeAt s w′ left n (h .tree)
@@ -101,7 +101,7 @@ accepted-rows {s} {w} {w′} {m} {sheet} e a =
     }
 
 -- the rows alone give the same
-table-twice : (w : List ℕ) → table (table w) ≡ table w
+pub table-twice : (w : List ℕ) → table (table w) ≡ table w
 table-twice w = take-take 12288 12288 w (omega arith)
 
 pub gives-table : {A : Type 0} {kind : Value → Result A} {s : Bytes} {w : List ℕ} {n : ℕ} {a : A} → Gives kind s w n a → Gives kind s (table w) n a

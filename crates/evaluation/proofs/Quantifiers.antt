@@ -8,10 +8,8 @@ use Prim.Native.Nat.{ℕ, _%_, _*_, _+_, _-_, _<_, _≤_}
 use native.Mathlib.Omega.{arith}
 use lib.Dec.{eqb}
 use lib.ListN.{length}
-use lib.Seq.{length-take-le, take-take}
 use borrow.Author.Tests.{eqb-false, eqb-true}
 use Rattle.reader.proofs.Laws.{bind-ok}
-use Rattle.reader.proofs.Walk.{kept}
 use Rattle.reader.specs.Answers.{FoundIn, FoundTold, foundOf}
 use Rattle.reader.specs.Bytes.{Bytes, ascii, find}
 use Rattle.reader.specs.Cursor.{OnText}
@@ -68,6 +66,7 @@ use Rattle.evaluation.specs.Judge.{inTurn, judge, overOf}
 use Rattle.evaluation.specs.declared.comparison.Outcome.{Outcome}
 use Rattle.evaluation.specs.declared.comparison.Outcome.the-variants as outcomes
 use Rattle.evaluation.specs.declared.condition.Quantifier.{Quantifier}
+use Rattle.evaluation.proofs.After.{node-rows, table-twice}
 use Rattle.evaluation.proofs.Joined.{Joining, joining-last, joining-none, joining-twice}
 use Rattle.evaluation.proofs.Judging.{is-missing, is-present, no-id-first, unknown-first}
 use Rattle.evaluation.proofs.Shallow.{member-shallow}
@@ -75,14 +74,11 @@ use Rattle.evaluation.proofs.Shallow.{member-shallow}
 -- ---- its members
 -- a node is the same among the rows and among all words
 module _ (s : Bytes) (w : List ℕ) (long : 12288 ≤ length w) where
-  rows-twice : table (table w) ≡ table w
-  rows-twice = take-take 12288 12288 w (omega arith)
-
   to-words : {left n : ℕ} → IsNode s (table w) left n → IsNode s w left n × (valueAt s w n ≡ valueAt s (table w) n)
-  to-words h = kept w rows-twice (omega (arith, length-take-le 12288 w long)) h
+  to-words h = node-rows (sym (table-twice w)) h
 
   to-rows : {left n : ℕ} → IsNode s w left n → IsNode s (table w) left n × (valueAt s (table w) n ≡ valueAt s w n)
-  to-rows h = kept (table w) (sym rows-twice) long h
+  to-rows h = node-rows (table-twice w) h
 
   told-rows : {x : Option Value} {r : Found} → FoundTold s w x r → FoundTold s (table w) x r
   unfolding foundOf FoundIn

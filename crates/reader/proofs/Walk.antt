@@ -1,18 +1,18 @@
 -- What code that walks a table may use: of a node, its value by its kind; of the nodes from k up to e, the first and the others; the same for members.
 -- Assumes nothing.
 use mathlib.Core.Bool.{false, true}
-use mathlib.Core.List.{List, append-assoc, _++_}
+use mathlib.Core.List.{List, _++_}
 use mathlib.Core.Option.{none, some}
 use mathlib.Core.Path.{ap, refl, subst, sym, _∙_, _≡_}
 use Prim.Native.Nat.{ℕ, _*_, _+_, _-_, _<_, _≤_}
 use native.Mathlib.Omega.{arith}
 use lib.ListN.{drop, length, take, take-append-drop}
-use lib.Seq.{drop-append-le, drop-at, length-take-le, sets, sets-eq, take-add, take-append-add, take-append-le, take-length}
+use lib.Seq.{sets, sets-eq, take-append-le, take-length}
 use Rattle.reader.proofs.Agree.{Rel, SheetAgrees, both, json-agrees, neitherOf}
 use Rattle.reader.proofs.Decoded.{arr-parts, arr-row, decoded, decodedIn, decodedOf, fields-parts, leaf-fits, leaf-row, length-rows, node-after, nodes-parts, obj-parts, obj-row, size-pos}
 use Rattle.reader.specs.Bytes.{Bytes, find, sameBytes}
 use Rattle.reader.specs.Fits.{FitsLeaf, Text}
-use Rattle.reader.specs.Held.{AreMembers, AreNodes, Begins, FieldsAt, IsNode, NodeAt, NodesAt}
+use Rattle.reader.specs.Held.{AreMembers, AreNodes, FieldsAt, IsNode, NodeAt, NodesAt}
 use Rattle.reader.specs.Json.{Value, array, cons, empty, entries, member, nil, object}
 use Rattle.reader.specs.Limits.{maxDepth, maxNodes}
 use Rattle.reader.specs.Placing.{spanned}
@@ -194,27 +194,6 @@ root s w t e h = go (json s) (spanned s) (json-agrees s) refl e
 -- rows that were stored, `sets` as straight code has it
 pub stored : (w₀ w : List ℕ) (t : Node) → w ≡ sets w₀ 0 (rows t 0) → 3 * size t ≤ length w₀ → take (3 * size t) w ≡ rows t 0
 stored w₀ w t e h = rw (e, sets-eq (rows t 0) w₀ 0 (omega (arith, length-rows t 0)), ← length-rows t 0, take-append-le (length (rows t 0)) (rows t 0) (drop (0 + length (rows t 0)) w₀) (omega arith)) (take-length (rows t 0))
-
--- words past the rows may change: every node stays what it is
-begins-kept : (w w′ : List ℕ) (i m : ℕ) (vs : List ℕ) → take (i + m) w ≡ take (i + m) w′ → i + m ≤ length w → length vs ≤ m → Begins w i vs → Begins w′ i vs
-begins-kept w w′ i m vs e l h (r, b) =
-    let k : take m (drop i w) ≡ vs ++ take (m - length vs) r = ap (take m) b ∙ split in
-    let z : drop i (take (i + m) w) ≡ vs ++ take (m - length vs) r = rw (take-add i m w, drop-at (take i w) (take m (drop i w)) i (length-take-le i w (omega arith))) k in (
-      take (m - length vs) r ++ drop (i + m) w′,
-      ap (drop i) (sym (take-append-drop (i + m) w′) ∙ ap (λ (x : List ℕ). x ++ drop (i + m) w′) (sym e)) ∙ drop-append-le i (take (i + m) w) (drop (i + m) w′) (omega (arith, length-take-le (i + m) w l)) ∙ rw (z, append-assoc),
-    )
-  where
-    split : take m (vs ++ r) ≡ vs ++ take (m - length vs) r
-    split = let q : m ≡ length vs + (m - length vs) = omega arith in ap (λ (x : ℕ). take x (vs ++ r)) q ∙ take-append-add vs r (m - length vs)
-
-pub kept : {s : Bytes} {w : List ℕ} {left n : ℕ} (w′ : List ℕ) → take (3 * maxNodes) w ≡ take (3 * maxNodes) w′ → 3 * maxNodes ≤ length w → IsNode s w left n → IsNode s w′ left n × (valueAt s w′ n ≡ valueAt s w n)
-kept {s} {w} {left} {n} w′ e l h = (record { tree = h .tree; held = again; depth = h .depth; most = h .most }, value-is s w′ (h .depth) again ∙ sym (value-is s w (h .depth) (h .held)))
-  where
-    q : 3 * n + (12288 - 3 * n) ≡ 12288
-    q = omega (arith, h .most)
-
-    again : NodeAt s w′ left n (h .tree)
-    again = record { words = begins-kept w w′ (3 * n) (12288 - 3 * n) (rows (h .tree) n) (rw q e) (omega arith) (omega (arith, length-rows (h .tree) n, h .most)) (h .held .words); shallow = h .held .shallow; fits = h .held .fits }
 
 -- An accepted sheet: what the reader stored is what `json` reads, node by node.
 pub accepted : (s : Bytes) (w₀ w : List ℕ) (t : Node) → spanned s ≡ ok t → w ≡ sets w₀ 0 (rows t 0) → 3 * maxNodes ≤ length w₀ → (json s ≡ ok (erase s t)) × (valueAt s w 0 ≡ erase s t) × IsNode s w maxDepth 0
