@@ -52,7 +52,7 @@ fn least_after(s: &[u8], work: &[u32], last: Text) -> Text
     let mut k = 4096;
     while 0 < k {
         k -= 1;
-        if work[12288 + k] == 1 {
+        if work[12288 + k] % 2 == 1 {
             let text = reader::rows::start_at(work, k);
             best = nearer(s, last, text, best);
         }

@@ -1,12 +1,13 @@
--- Marks: a word behind the rows for each node. What is marked are the texts of missing expressions; and what resolving leaves and answers.
+-- Marks: the lowest bit of a word behind the rows, for each node. What is marked are the texts of missing expressions; and what resolving leaves and answers.
 -- Assumes nothing.
 use mathlib.Core.Bool.{Bool, false, true}
 use mathlib.Core.List.{List}
 use mathlib.Core.Logic.{_⊎_}
 use mathlib.Core.Path.{_≡_}
-use Prim.Native.Nat.{ℕ, _+_, _<_, _≤_}
+use Prim.Native.Nat.{ℕ, _%_, _*_, _+_, _<_, _≤_}
 use lib.ListN.{drop, getD, length, set}
 use Rattle.reader.specs.Bytes.{Bytes}
+use Rattle.reader.specs.Links.{linkAt}
 use Rattle.reader.specs.Refusal.{Result, noId, ok, refused, unknownExpression}
 use Rattle.reader.specs.Spans.{textAt}
 use Rattle.reader.specs.Table.{startAt}
@@ -40,10 +41,10 @@ pub record Working (s : Bytes) (w : List ℕ) (roots : Roots) (frames : Frames) 
 pub record Marked (s : Bytes) (w : List ℕ) (x : Bytes) : Type 0 where
   pub node : ℕ
   pub small : node < 4096
-  pub mark : getD w (marks + node) 0 ≡ 1
+  pub mark : getD w (marks + node) 0 % 2 ≡ 1
   pub text : textAt s (startAt (table w) node) ≡ x
 
--- the rows stay, and words further on; marked is what was marked, and these names; a node newly marked is a text's
+-- rows and links stay, and words further on; marked is what was marked, and these names; a node newly marked is a text's
 pub record Left (s : Bytes) (w w′ : List ℕ) (ns : Names) : Type 0 where
   pub rows : table w′ ≡ table w
   pub long : length w′ ≡ length w
@@ -51,12 +52,12 @@ pub record Left (s : Bytes) (w w′ : List ℕ) (ns : Names) : Type 0 where
   pub only : (x : Bytes) → Marked s w′ x → Marked s w x ⊎ Named x ns
   pub still : (x : Bytes) → Marked s w x → Marked s w′ x
   pub added : (x : Bytes) → Named x ns → Marked s w′ x
-  pub texts : (n : ℕ) → n < 4096 → getD w′ (marks + n) 0 ≡ 1 → (getD w (marks + n) 0 ≡ 1) ⊎ HasKind s (table w) n 4
+  pub texts : (n : ℕ) → n < 4096 → getD w′ (marks + n) 0 % 2 ≡ 1 → (getD w (marks + n) 0 % 2 ≡ 1) ⊎ HasKind s (table w) n 4
 
 -- quietly nothing is marked
 abbrev pub missed : Bool → List ℕ → ℕ → List ℕ
 missed true w n = w
-missed false w n = set w (marks + n) 1
+missed false w n = set w (marks + n) (2 * linkAt w n + 1)
 
 abbrev pub heard : Bool → Names → Names
 heard true ns = noNames

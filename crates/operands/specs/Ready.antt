@@ -6,6 +6,7 @@ use lib.ListN.{length}
 use Rattle.reader.specs.Bytes.{Bytes}
 use Rattle.reader.specs.Cursor.{OnText}
 use Rattle.reader.specs.Limits.{maxBytes, maxNodes}
+use Rattle.reader.specs.Links.{Linked}
 use Rattle.operands.specs.Rooted.{Rooted, sheetIn}
 use Rattle.operands.specs.Stored.{FramesAt, table}
 use Rattle.operands.specs.declared.frames.Frames.{Frames}
@@ -15,6 +16,7 @@ pub record Ready (s : Bytes) (w : List ℕ) (roots : Roots) (frames : Frames) : 
   pub rows : 3 * maxNodes ≤ length w
   pub short : length s ≤ maxBytes
   pub rooted : Rooted (sheetIn s) s (table w) roots
+  pub linked : Linked s (table w)
   pub bound : FramesAt s (table w) frames
 
 -- a path: a text from the start of a slice on

@@ -1,10 +1,10 @@
 -- What the table holds for evaluation: trees whose members stand by ascending key, and what operands and frames of the code stand for.
 -- Assumes nothing.
 use mathlib.Core.Bool.{false, true}
-use mathlib.Core.List.{List, [], _∷_}
+use mathlib.Core.List.{List, [], _++_, _∷_}
 use mathlib.Core.Path.{_≡_}
-use Prim.Native.Nat.{ℕ, _+_, _*_, _<_, _≤_}
-use lib.ListN.{length, take}
+use Prim.Native.Nat.{ℕ, _*_, _+_, _/_, _<_, _≤_}
+use lib.ListN.{drop, length, take}
 use lib.Seq.{slice}
 use Rattle.reader.specs.Bytes.{Bytes}
 use Rattle.reader.specs.Held.{AreNodes, HasNode}
@@ -22,9 +22,15 @@ use Rattle.operands.specs.declared.operand.Kind.{Kind}
 use Rattle.operands.specs.declared.operand.Kind.the-variants as kinds
 use Rattle.operands.specs.declared.operand.Operand.{Operand}
 
--- the rows, three words to a node, without the marks behind them
-abbrev pub table : List ℕ → List ℕ
-table w = take (3 * maxNodes) w
+-- words without their marks
+unfoldable pub unmarked : List ℕ → List ℕ
+unmarked [] = []
+unmarked (x ∷ w) = 2 * (x / 2) ∷ unmarked w
+
+-- the rows, three words to a node, and the links behind them
+unfoldable pub table : List ℕ → List ℕ
+unfolding unmarked
+table w = take (3 * maxNodes) w ++ unmarked (take maxNodes (drop (3 * maxNodes) w))
 
 -- a row's words can be read
 pub record Room (w : List ℕ) (n : ℕ) : Type 0 where

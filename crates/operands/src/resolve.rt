@@ -9,10 +9,11 @@ use crate::roots::Roots;
 use crate::written::Written;
 ghost use mathlib.Core.Bool.{_&&_};
 ghost use mathlib.Core.Path.{_≡_};
-ghost use Prim.Native.Nat.{_+_, _<_, _≤_};
+ghost use Prim.Native.Nat.{_*_, _+_, _<_, _≤_};
 ghost use lib.ListN.{length, set};
 ghost use Rattle.reader.specs.Held.{HasNode};
 ghost use Rattle.reader.specs.Limits.{depth};
+ghost use Rattle.reader.specs.Links.{linkAt};
 ghost use Rattle.operands.specs.Lazy.{operand};
 ghost use Rattle.operands.specs.Matched.{Holds};
 ghost use Rattle.operands.specs.Marks.{Observed, ResolvedAs, Working, gatheredOf, missed, seenOf};
@@ -36,10 +37,10 @@ pub enum Part {
 
 fn mark(work: &mut [u32], node: usize)
     requires { ⌜ (16384 ≤ length (now work)) × (node < 4096) ⌝ }
-    ensures { λ r. ⌜ now (work .exit) ≡ set (now (work .entry)) (12288 + node) 1 ⌝ }
+    ensures { λ r. ⌜ now (work .exit) ≡ set (now (work .entry)) (12288 + node) (2 * linkAt (now (work .entry)) node + 1) ⌝ }
 {
     let at = 12288 + node;
-    work[at] = 1;
+    work[at] = 2 * (work[at] / 2) + 1;
 }
 
 fn miss(work: &mut [u32], node: usize, quiet: bool) -> Resolved

@@ -1,17 +1,14 @@
 -- An object's names in the table, and its members in ascending order from them.
 -- Assumes nothing.
 use mathlib.Core.Bool.{Bool, false, true}
-use mathlib.Core.List.{List, [], _∷_}
-use mathlib.Core.Option.{none}
-use mathlib.Core.Path.{ap, refl, sym, _∙_, _≡_}
-use Prim.Native.Nat.{suc, zero, ℕ, _+_, _-_, _≤_}
-use native.Mathlib.Omega.{arith}
+use mathlib.Core.List.{List, _∷_}
+use mathlib.Core.Path.{ap, refl, _∙_, _≡_}
+use Prim.Native.Nat.{suc, zero, ℕ, _+_, _-_}
 use lib.Dec.{ltb}
-use lib.ListN.{length}
-use Rattle.reader.proofs.Sorted.{chain-sorted, each-valued, eachSorted, entries-sorted, inOrder, inOrder-valued, valued}
+use Rattle.reader.proofs.Sorted.{each-valued, eachSorted, entries-sorted, inOrder-valued, valued}
 use Rattle.reader.specs.Bytes.{Bytes}
 use Rattle.reader.specs.Json.{Value, entries}
-use Rattle.reader.specs.KeyOrder.{chain, namesAt, namesBy}
+use Rattle.reader.specs.KeyOrder.{inOrder, namesAt, namesBy}
 use Rattle.reader.specs.Sorted.{sorted, sortedOf}
 use Rattle.reader.specs.Spans.{textAt}
 use Rattle.reader.specs.Table.{afterAt, membersAt, membersBy, startAt, valueAt}
@@ -26,17 +23,8 @@ entries-by f s w (suc m) k e = go (ltb k e) refl (entries-by f s w m (afterAt w 
     go true q below = rw (q, membersBy, namesBy) (ap {B = List (Bytes × Value)} (λ l. (textAt s (startAt w k), f (k + 1)) ∷ l) below)
     go false q below = rw (q, membersBy, namesBy)
 
-names-length : (s : Bytes) (w : List ℕ) (m k e : ℕ) → length (namesBy s w m k e) ≤ m
-unfolding namesBy
-names-length s w zero k e = omega arith
-names-length s w (suc m) k e = go (ltb k e) refl (names-length s w m (afterAt w (k + 1)) e)
-  where
-    go : (b : Bool) → ltb k e ≡ b → length (namesBy s w m (afterAt w (k + 1)) e) ≤ m → length (namesBy s w (suc m) k e) ≤ suc m
-    go true q below = rw (q, namesBy) (omega arith)
-    go false q below = rw (q, namesBy) (omega arith)
-
--- The members in ascending order: from the least name on, each time the least above the last.
-pub ascending-members : (s : Bytes) (w : List ℕ) (k e : ℕ) → entries (sortedOf (membersAt s w k e)) ≡ valued (λ j. sorted (valueAt s w (j + 1))) (chain (e - k) none (namesAt s w k e))
+-- The members in ascending order.
+pub ascending-members : (s : Bytes) (w : List ℕ) (k e : ℕ) → entries (sortedOf (membersAt s w k e)) ≡ valued (λ j. sorted (valueAt s w (j + 1))) (inOrder (namesAt s w k e))
 unfolding membersAt namesAt
 ascending-members s w k e =
     let ns = namesBy s w (e - k) k e in
@@ -44,4 +32,3 @@ ascending-members s w k e =
     ∙ ap (λ (l : List (Bytes × Value)). inOrder (eachSorted l)) (entries-by (valueAt s w) s w (e - k) k e)
     ∙ ap inOrder (each-valued (λ j. valueAt s w (j + 1)) ns)
     ∙ inOrder-valued (λ j. sorted (valueAt s w (j + 1))) ns
-    ∙ ap (valued (λ j. sorted (valueAt s w (j + 1)))) (sym (chain-sorted (e - k) ns (names-length s w (e - k) k e)))

@@ -16,6 +16,7 @@ pub mod Placing
 pub mod Table
 pub mod KeyOrder
 pub mod Marks
+pub mod Links
 pub mod Escapes
 pub mod Fits
 pub mod Cursor

@@ -1,8 +1,8 @@
--- Marks: word 12,288 + n is 1 where node n is marked. Marking leaves the rows as they are.
+-- Marks: word 12,288 + n is odd where node n is marked. Marking leaves the rows as they are.
 -- Assumes nothing.
 use mathlib.Core.Bool.{Bool, false, true}
 use mathlib.Core.List.{List, [], _∷_}
-use Prim.Native.Nat.{suc, zero, ℕ, _+_}
+use Prim.Native.Nat.{suc, zero, ℕ, _%_, _+_}
 use lib.Dec.{eqb}
 use lib.ListN.{getD}
 use Rattle.reader.specs.Bytes.{Bytes}
@@ -15,7 +15,7 @@ abbrev pub firstMark : ℕ
 firstMark = 12288
 
 abbrev pub isMarked : List ℕ → ℕ → Bool
-isMarked w n = eqb (getD w (firstMark + n) 0) 1
+isMarked w n = eqb (getD w (firstMark + n) 0 % 2) 1
 
 -- the texts of the marked nodes among m nodes from k on, in the order of the table
 unfoldable pub markedFrom : Bytes → List ℕ → ℕ → ℕ → List Bytes

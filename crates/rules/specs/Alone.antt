@@ -2,7 +2,7 @@
 -- Assumes nothing.
 use mathlib.Core.List.{List}
 use mathlib.Core.Path.{_≡_}
-use Prim.Native.Nat.{ℕ, _<_, _≤_}
+use Prim.Native.Nat.{ℕ, _%_, _<_, _≤_}
 use lib.ListN.{drop, getD, length}
 use Rattle.evaluation.specs.Answers.{outcomeOf}
 use Rattle.evaluation.specs.declared.comparison.Outcome.{Outcome}
@@ -21,10 +21,10 @@ pub record OnlyMarks (w w′ : List ℕ) : Type 0 where
   pub long : length w′ ≡ length w
   pub further : drop 16384 w′ ≡ drop 16384 w
 
--- the marks below a word are zero
+-- no word below one is marked
 pub record Unmarked (w w′ : List ℕ) (upto : ℕ) : Type 0 where
   pub only : OnlyMarks w w′
-  pub zero : (i : ℕ) → 12288 ≤ i → i < upto → getD w′ i 0 ≡ 0
+  pub zero : (i : ℕ) → 12288 ≤ i → i < upto → getD w′ i 0 % 2 ≡ 0
 
 -- marked are the names of a judged condition, each at a text's node; the node of a refusal is a text's
 abbrev pub OwnMarks : Bytes → List ℕ → Names → Outcome → Type 0

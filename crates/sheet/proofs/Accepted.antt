@@ -4,21 +4,17 @@ use mathlib.Core.Bool.{Bool, false, true}
 use mathlib.Core.List.{List}
 use mathlib.Core.Option.{Option, none, some}
 use mathlib.Core.Path.{ap, refl, subst, sym, _∙_, _≡_}
-use Prim.Native.Nat.{ℕ, _*_}
+use Prim.Native.Nat.{ℕ}
 use native.Mathlib.Omega.{arith}
-use lib.ListN.{take}
 use Rattle.reader.proofs.Complete.{read-exactly}
 use Rattle.reader.proofs.Laws.{bind-ok}
-use Rattle.reader.proofs.Walk.{root}
 use Rattle.reader.specs.Answers.{FoundIn, FoundTold, foundOf}
 use Rattle.reader.specs.Bytes.{Bytes, ascii, find}
 use Rattle.reader.specs.Json.{Members, Value, entries, object}
 use Rattle.reader.specs.Limits.{maxNumber, tidy, tidyOf}
-use Rattle.reader.specs.Placing.{spanned}
 use Rattle.reader.specs.Refusal.{Refusal, Result, ok, orElse, refused, wrongSheet, _>>=_}
 use Rattle.reader.specs.Sorted.{sorted, sortedOf}
-use Rattle.reader.specs.Spans.{Node, size}
-use Rattle.reader.specs.Table.{afterAt, kindAt, membersAt, rows, valueAt}
+use Rattle.reader.specs.Table.{afterAt, kindAt, membersAt, valueAt}
 use Rattle.reader.specs.declared.rows.Found.{Found}
 use Rattle.reader.specs.declared.rows.Found.the-variants as founds
 use Rattle.sheet.proofs.Nine.{nine, sheet-nine}
@@ -160,8 +156,3 @@ same-members m x0 x1 x2 x3 x4 x5 x6 x7 x8 x9 e0 e1 e2 e3 e4 e5 e6 e7 e8 e9 = rw 
 pub accepted-at : {s : Bytes} {w : List ℕ} (m : SheetMembers) (r : SheetPlaces) → r ≡ membersOf m → (sheet : Sheet Condition) × Accepted s w (membersOf m) sheet → Shaped s w (shapes.Is r)
 unfolding Shaped
 accepted-at {s} {w} m r e x = (x .0, subst (λ (y : SheetPlaces). Accepted s w y (x .0)) (sym e) (x .1))
-
--- ---- what reading leaves
--- rows of the tree that was read, at the table's beginning: the table is as `shape_of` requires it
-pub stored-root : (s : Bytes) (w : List ℕ) (t : Node) → spanned s ≡ ok t → take (3 * size t) w ≡ rows t 0 → Stored s w
-stored-root s w t e h = let r = root s w t e h in record { reads = r .0 ∙ ap {B = Result Value} (λ v. ok v) (sym (r .1)); node = r .2 }

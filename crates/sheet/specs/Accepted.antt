@@ -9,6 +9,7 @@ use Rattle.reader.specs.Bytes.{Bytes}
 use Rattle.reader.specs.Held.{AreNodes, IsNode}
 use Rattle.reader.specs.Json.{Value, elements}
 use Rattle.reader.specs.Limits.{maxNumber, tidy, tidyIn}
+use Rattle.reader.specs.Links.{Linked}
 use Rattle.reader.specs.Reader.{json}
 use Rattle.reader.specs.Refusal.{Result, notCarried, ok, refused, wrongShape, wrongSheet}
 use Rattle.reader.specs.Sorted.{sorted, sortedIn}
@@ -28,10 +29,11 @@ use Rattle.sheet.specs.declared.shape.Shape.{Shape}
 use Rattle.sheet.specs.declared.shape.Shape.the-variants as shapes
 use Rattle.sheet.specs.declared.sheet.SheetMembers.{SheetMembers}
 
--- the table holds the tree that the sheet's text spells: what reading it leaves
+-- the table holds the tree that the sheet's text spells, and its objects' names are linked
 pub record Stored (s : Bytes) (w : List ℕ) : Type 0 where
   pub reads : json s ≡ ok (valueAt s w 0)
   pub node : IsNode s w 64 0
+  pub linked : Linked s w
 
 -- the node's value, sorted, gives what the kind makes of it; no name is repeated in it
 pub record Gives {A : Type 0} (kind : Value → Result A) (s : Bytes) (w : List ℕ) (n : ℕ) (a : A) : Type 0 where

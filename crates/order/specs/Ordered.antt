@@ -1,0 +1,26 @@
+-- What linking a sheet's members asks of its table, and what it leaves.
+-- Assumes nothing.
+use mathlib.Core.Bool.{true}
+use mathlib.Core.List.{List}
+use mathlib.Core.Path.{_≡_}
+use Prim.Native.Nat.{ℕ, _≤_}
+use lib.ListN.{drop, length}
+use Rattle.reader.specs.Bytes.{Bytes}
+use Rattle.reader.specs.Held.{IsNode}
+use Rattle.reader.specs.Limits.{maxDepth, maxNumber, tidy}
+use Rattle.reader.specs.Links.{Linked}
+use Rattle.reader.specs.Table.{valueAt}
+
+-- the table holds a tree from node 0 on, in which no object has a name twice
+pub record Unordered (s : Bytes) (w : List ℕ) : Type 0 where
+  pub long : 16384 ≤ length w
+  pub root : IsNode s w maxDepth 0
+  pub isTidy : tidy maxNumber (valueAt s w 0) ≡ true
+
+-- the same tree, the names of every object linked
+pub record Ordered (s : Bytes) (w w′ : List ℕ) : Type 0 where
+  pub root : IsNode s w′ maxDepth 0
+  pub same : valueAt s w′ 0 ≡ valueAt s w 0
+  pub linked : Linked s w′
+  pub long : length w′ ≡ length w
+  pub further : drop 16384 w′ ≡ drop 16384 w
