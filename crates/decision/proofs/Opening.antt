@@ -4,11 +4,12 @@ use mathlib.Core.Bool.{Bool, false, true}
 use mathlib.Core.List.{List}
 use mathlib.Core.Option.{none}
 use mathlib.Core.Path.{ap, refl, subst, sym, _∙_, _≡_}
-use Prim.Native.Nat.{ℕ, _≤_}
+use Prim.Native.Nat.{ℕ, _<_, _≤_}
 use native.Mathlib.Omega.{arith}
 use lib.Dec.{T, leb, leb→le}
-use lib.ListN.{length}
+use lib.ListN.{drop, length}
 use Rattle.line.specs.Line.{refusalLine, refusalNumber}
+use Rattle.order.specs.Ordered.{Ordered, Unordered}
 use Rattle.reader.proofs.Laws.{leb-true}
 use Rattle.reader.specs.Answers.{refusalOf}
 use Rattle.reader.specs.Bytes.{Bytes}
@@ -118,25 +119,42 @@ module _ {s : Bytes} {w w′ : List ℕ} {r : Read} (t : ReadTold s w w′ r) wh
     unfolding readOf
     was-read = t .answers ∙ ap {B = Result Value} (readOf s w′) q
 
-    pub stored : Stored s w′
+    large : 16384 ≤ length w
+    large = is-large (length w) s (valueAt s w′ 0) was-read
+
+    reads-json : json s ≡ ok (valueAt s w′ 0)
+    reads-json = is-json (length w) s (valueAt s w′ 0) was-read
+
+    pub unordered : length w′ ≡ length w → Unordered s w′
     unfolding HoldsOf
-    stored = record { reads = is-json (length w) s (valueAt s w′ 0) was-read; node = subst (HoldsOf s w′) q (t .holds) .root }
+    unordered e = record { long = omega (arith, e, large); root = subst (HoldsOf s w′) q (t .holds) .root; isTidy = read-exactly s (valueAt s w′ 0) .0 reads-json .isTidy }
 
-    pub stopped-shape : (f : Refusal) {n : ℕ} → n ≡ refusalNumber f → refusalLine f ≡ none → {a : Shape} → Shaped s w′ a → (b : Shape) → a ≡ b → (Shaped s w′ b → readSheet s ≡ refused f) → Opening s w w′ (opened.Refused n)
-    unfolding OpenedAs
-    stopped-shape f e l h b z i =
-        record {
-          is = record { why = f; is = is-sheet (length w) s (valueAt s w′ 0) was-read ∙ i (subst (Shaped s w′) z h); isNumber = e; noLine = l };
-          small = t .small;
-          past = λ j. t .cleared j .past;
-        }
+    -- the table once its members are linked
+    module _ {w″ : List ℕ} (o : Ordered s w′ w″) where
+      pub stored : Stored s w″
+      stored = record { reads = reads-json ∙ ap {B = Result Value} (λ v. ok v) (sym (o .same)); node = o .root; linked = o .linked }
 
-    pub opened-sheet : {a : Shape} → Shaped s w′ a → (m : Members) → a ≡ shapes.Is m → Opening s w w′ (opened.Sheet m)
-    unfolding OpenedAs Shaped
-    opened-sheet {a} h m e =
-        let x = subst (Shaped s w′) e h in
-        record {
-          is = record { long = is-large (length w) s (valueAt s w′ 0) was-read; sheet = x .0; accepted = x .1 };
-          small = t .small;
-          past = λ i. t .cleared i .past;
-        }
+      still-small : length w < 16384 → w″ ≡ w
+      still-small h = absurd (omega (arith, h, large))
+
+      still-past : 16384 ≤ length w → drop 16384 w″ ≡ drop 16384 w
+      still-past h = o .further ∙ t .cleared h .past
+
+      pub stopped-shape : (f : Refusal) {n : ℕ} → n ≡ refusalNumber f → refusalLine f ≡ none → {a : Shape} → Shaped s w″ a → (b : Shape) → a ≡ b → (Shaped s w″ b → readSheet s ≡ refused f) → Opening s w w″ (opened.Refused n)
+      unfolding OpenedAs
+      stopped-shape f e l h b z i =
+          record {
+            is = record { why = f; is = is-sheet (length w) s (valueAt s w′ 0) was-read ∙ i (subst (Shaped s w″) z h); isNumber = e; noLine = l };
+            small = still-small;
+            past = still-past;
+          }
+
+      pub opened-sheet : {a : Shape} → Shaped s w″ a → (m : Members) → a ≡ shapes.Is m → Opening s w w″ (opened.Sheet m)
+      unfolding OpenedAs Shaped
+      opened-sheet {a} h m e =
+          let x = subst (Shaped s w″) e h in
+          record {
+            is = record { long = large; sheet = x .0; accepted = x .1 };
+            small = still-small;
+            past = still-past;
+          }

@@ -1,4 +1,5 @@
 // A sheet read and accepted, or refused by its text or its shape.
+use order::order::order;
 use reader::answer::Read;
 use reader::answer::Refusal;
 use reader::read;
@@ -32,17 +33,20 @@ fn number(why: Refusal) -> usize
     }
 }
 
-// The sheet that the bytes spell, its tree in the table.
+// The sheet that the bytes spell: its tree in the table, the members of every object linked in their order.
 pub fn open(sheet: &[u8], work: &mut [u32]) -> Opened
     ensures { λ r. ⌜ Opening (now (sheet .entry)) (now (work .entry)) (now (work .exit)) r ⌝ }
 {
     match read(sheet, work) {
         Read::Refused(why) => Opened::Refused(number(why)),
-        Read::Table(_) => match shape_of(sheet, work) {
-            Shape::WrongSheet => Opened::Refused(9),
-            Shape::WrongShape => Opened::Refused(10),
-            Shape::NotCarried => Opened::Refused(11),
-            Shape::Is(m) => Opened::Sheet(m),
-        },
+        Read::Table(_) => {
+            order(sheet, work);
+            match shape_of(sheet, work) {
+                Shape::WrongSheet => Opened::Refused(9),
+                Shape::WrongShape => Opened::Refused(10),
+                Shape::NotCarried => Opened::Refused(11),
+                Shape::Is(m) => Opened::Sheet(m),
+            }
+        }
     }
 }
