@@ -3,12 +3,13 @@
 use mathlib.Core.Bool.{true}
 use mathlib.Core.List.{List}
 use mathlib.Core.Path.{_≡_}
-use Prim.Native.Nat.{ℕ, _≤_}
-use lib.ListN.{drop, length}
+use Prim.Native.Nat.{ℕ, _%_, _+_, _<_, _≤_}
+use lib.ListN.{drop, getD, length}
 use Rattle.reader.specs.Bytes.{Bytes}
 use Rattle.reader.specs.Held.{IsNode}
-use Rattle.reader.specs.Limits.{maxDepth, maxNumber, tidy}
+use Rattle.reader.specs.Limits.{maxDepth, maxNodes, maxNumber, tidy}
 use Rattle.reader.specs.Links.{Linked}
+use Rattle.reader.specs.Marks.{firstMark}
 use Rattle.reader.specs.Table.{valueAt}
 
 -- the table holds a tree from node 0 on, in which no object has a name twice
@@ -17,10 +18,11 @@ pub record Unordered (s : Bytes) (w : List ℕ) : Type 0 where
   pub root : IsNode s w maxDepth 0
   pub isTidy : tidy maxNumber (valueAt s w 0) ≡ true
 
--- the same tree, the names of every object linked
+-- the same tree, the names of every object linked; no node is newly marked
 pub record Ordered (s : Bytes) (w w′ : List ℕ) : Type 0 where
   pub root : IsNode s w′ maxDepth 0
   pub same : valueAt s w′ 0 ≡ valueAt s w 0
   pub linked : Linked s w′
   pub long : length w′ ≡ length w
   pub further : drop 16384 w′ ≡ drop 16384 w
+  pub marks : (n : ℕ) → n < maxNodes → getD w′ (firstMark + n) 0 % 2 ≡ 1 → getD w (firstMark + n) 0 % 2 ≡ 1
