@@ -1,2 +1,3 @@
 pub mod ByText
+pub mod Chained
 pub mod Ordered
