@@ -1,3 +1,4 @@
 pub mod Chains
 pub mod Clearing
 pub mod Rows
+pub mod Names

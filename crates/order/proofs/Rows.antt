@@ -70,7 +70,7 @@ code-leaf isFalse = omega arith
 code-leaf isNumber = omega arith
 code-leaf isText = omega arith
 
-module _ {s : Bytes} {w : List ℕ} where
+module _ (s : Bytes) (w : List ℕ) where
   -- a node of kind 6 is an object
   object-node : {i : ℕ} → HasNode s w i → kindAt w i ≡ 6 → HasMembers s w (i + 1) (afterAt w i) × (valueAt s w i ≡ object (membersAt s w (i + 1) (afterAt w i)))
   object-node {i} h q = go (view s w (h .isNode))
