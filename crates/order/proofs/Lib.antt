@@ -2,3 +2,4 @@ pub mod Chains
 pub mod Clearing
 pub mod Rows
 pub mod Names
+pub mod Gathering
