@@ -3,3 +3,4 @@ pub mod Clearing
 pub mod Rows
 pub mod Names
 pub mod Gathering
+pub mod Owned
