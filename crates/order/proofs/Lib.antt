@@ -4,3 +4,4 @@ pub mod Rows
 pub mod Names
 pub mod Gathering
 pub mod Owned
+pub mod Prefix
