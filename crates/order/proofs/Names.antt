@@ -32,6 +32,7 @@ pub record NameRow (s : Bytes) (w : List ℕ) (k e j : ℕ) : Type 0 where
   pub value : HasNode s w (j + 1)
 
 module _ (s : Bytes) (w : List ℕ) where
+  -- the bound on their number does not matter where it is no less
   names-enough : (m n : ℕ) {left k e : ℕ} → AreMembers s w left k e → e - k ≤ m → e - k ≤ n → namesBy s w m k e ≡ namesBy s w n k e
   unfolding namesBy
   names-enough zero zero h p q = refl
@@ -95,7 +96,7 @@ module _ (s : Bytes) (w : List ℕ) where
       later : (i : ℕ) → AreMembers s w (h .left) i e → i < e → NameRow s w (afterAt w (i + 1)) e j → NameRow s w i e j
       later i a l r = record { isKind = r .isKind; from = omega (arith, r .from, members-more s w a l .past); upto = r .upto; isText = r .isText; value = r .value }
 
-  -- The nodes of the names ascend; and each name has a value.
+  -- The nodes of the names ascend.
   pub names-ascend : {k e : ℕ} → HasMembers s w k e → Ascends (nodesOf (namesAt s w k e))
   unfolding nodesOf Ascends
   names-ascend {k} {e} h = by-members (λ i. Ascends (nodesOf (namesAt s w i e))) (λ i l. rw (names-done l) tt) (λ i a l below. rw (names-more a l) ((λ m b. before i a l m b), below)) k (h .members)
@@ -103,6 +104,7 @@ module _ (s : Bytes) (w : List ℕ) where
       before : (i : ℕ) → AreMembers s w (h .left) i e → i < e → (m : ℕ) → List·Memᴰ m (nodesOf (namesAt s w (afterAt w (i + 1)) e)) → i < m
       before i a l m b = let x = members-more s w a l in omega (arith, x .past, name-row (record { left = h .left; members = x .others }) b .from)
 
+  -- Each name has a value behind it, so that the names are half of the nodes at most.
   pub names-few : {k e : ℕ} → HasMembers s w k e → 2 * length (nodesOf (namesAt s w k e)) ≤ e - k
   unfolding nodesOf
   names-few {k} {e} h = by-members (λ i. 2 * length (nodesOf (namesAt s w i e)) ≤ e - i) (λ i l. rw (names-done l) (omega arith)) (λ i a l below. let x = members-more s w a l in rw (names-more a l) (omega (arith, x .past, x .upto))) k (h .members)

@@ -20,6 +20,7 @@ data RowOf (s : Bytes) (w : List ℕ) (e : ℕ) (isTidy : Bool) (i : ℕ) : Type
   ofName : kindAt w i ≡ 4 → afterAt w i ≡ i + 1 → i + 1 < e → RowOf s w e isTidy i
   ofNode : HasNode s w i → afterAt w i ≤ e → (isTidy ≡ true → tidy maxNumber (valueAt s w i) ≡ true) → RowOf s w e isTidy i
 
+-- by the tree: the row is the first one of a node, or stands in one of its parts
 module _ (s : Bytes) (w : List ℕ) (end : ℕ) (top : Bool) (few : end ≤ maxNodes) (i : ℕ) where
   -- the first row of a node
   here : {left n : ℕ} (t : Node) → NodeAt s w left n t → left ≤ maxDepth → n + size t ≤ end → (top ≡ true → tidy maxNumber (erase s t) ≡ true) → n ≡ i → RowOf s w end top i
