@@ -5,3 +5,5 @@ pub mod Names
 pub mod Gathering
 pub mod Owned
 pub mod Prefix
+pub mod ByText
+pub mod Merging
