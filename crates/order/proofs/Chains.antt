@@ -14,6 +14,7 @@ use borrow.Author.Tests.{eqb-false, eqb-true, le-ltb, lt-ltb, ltb-false, ltb-tru
 use Rattle.reader.specs.Limits.{maxNodes}
 use Rattle.reader.specs.Links.{linkAt, linkedBy}
 use Rattle.reader.specs.Marks.{firstMark}
+use Rattle.order.proofs.Distinct.{Distinct, oneMore}
 use Rattle.order.specs.Chained.{AllSmall, chained, linked}
 
 -- ---- the loop
@@ -37,11 +38,6 @@ unfolding chained
 chained-end {ns = ns} {end = end} {w = w} {at = at} {i = i} c h = ap (λ (l : List ℕ). chained w at l end) (sym (drop-of-length-le ns h)) ∙ c .same
 
 -- ---- what stays
-pub length-chained : (w : List ℕ) (at : ℕ) (ns : List ℕ) (e : ℕ) → length (chained w at ns e) ≡ length w
-unfolding chained
-length-chained w at [] e = length-set w (firstMark + at) (2 * e)
-length-chained w at (n ∷ ns) e = length-chained (linked w at n) n ns e ∙ length-set w (firstMark + at) (2 * n)
-
 pub chained-rows : (w : List ℕ) (at : ℕ) (ns : List ℕ) (e : ℕ) → take firstMark (chained w at ns e) ≡ take firstMark w
 unfolding chained
 chained-rows w at [] e = take-set-le firstMark w (firstMark + at) (2 * e) (omega arith)
@@ -80,11 +76,6 @@ pub chained-other : (w : List ℕ) (at : ℕ) (ns : List ℕ) (e j : ℕ) → (j
 unfolding chained
 chained-other w at [] e j f g = ap (λ (x : ℕ). x / 2) (link-elsewhere w at e j f)
 chained-other w at (n ∷ ns) e j f g = chained-other (linked w at n) n ns e j (λ q. g (List·Memᴰ·head q)) (λ m. g (List·Memᴰ·tail m)) ∙ ap (λ (x : ℕ). x / 2) (link-elsewhere w at n j f)
-
--- each one once, and not the one before
-pub data Distinct : List ℕ → Type 0 where
-  noneTwice : Distinct []
-  oneMore : {n : ℕ} {ns : List ℕ} → (List·Memᴰ n ns → ⊥) → Distinct ns → Distinct (n ∷ ns)
 
 leads-out : (w : List ℕ) (m e : ℕ) → linkedBy w m e e ≡ []
 unfolding linkedBy

@@ -7,3 +7,6 @@ pub mod Owned
 pub mod Prefix
 pub mod ByText
 pub mod Merging
+pub mod Distinct
+pub mod Linking
+pub mod Ordering

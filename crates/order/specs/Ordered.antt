@@ -4,13 +4,13 @@ use mathlib.Core.Bool.{true}
 use mathlib.Core.List.{List}
 use mathlib.Core.Path.{_≡_}
 use Prim.Native.Nat.{ℕ, _%_, _+_, _<_, _≤_}
-use lib.ListN.{drop, getD, length}
+use lib.ListN.{drop, getD, length, take}
 use Rattle.reader.specs.Bytes.{Bytes}
 use Rattle.reader.specs.Held.{IsNode}
 use Rattle.reader.specs.Limits.{maxDepth, maxNodes, maxNumber, tidy}
-use Rattle.reader.specs.Links.{Linked}
+use Rattle.reader.specs.Links.{Linked, LinkedAt}
 use Rattle.reader.specs.Marks.{firstMark}
-use Rattle.reader.specs.Table.{valueAt}
+use Rattle.reader.specs.Table.{afterAt, kindAt, valueAt}
 
 -- the table holds a tree from node 0 on, in which no object has a name twice
 pub record Unordered (s : Bytes) (w : List ℕ) : Type 0 where
@@ -26,3 +26,16 @@ pub record Ordered (s : Bytes) (w w′ : List ℕ) : Type 0 where
   pub long : length w′ ≡ length w
   pub further : drop 16384 w′ ≡ drop 16384 w
   pub marks : (n : ℕ) → n < maxNodes → getD w′ (firstMark + n) 0 % 2 ≡ 1 → getD w (firstMark + n) 0 % 2 ≡ 1
+
+-- on the way there: the objects before a row are linked, whatever the rows behind the last node are
+pub record CanOrderRows (s : Bytes) (w : List ℕ) (count names spare : ℕ) : Type 0 where
+  pub table : Unordered s w
+  pub counted : count ≡ afterAt w 0
+  pub room : 2048 ≤ names
+  pub more : 2048 ≤ spare
+
+pub record LinkedUpto (s : Bytes) (w w′ : List ℕ) (k : ℕ) : Type 0 where
+  pub rows : take firstMark w′ ≡ take firstMark w
+  pub further : drop 16384 w′ ≡ drop 16384 w
+  pub marks : (n : ℕ) → getD w′ (firstMark + n) 0 % 2 ≡ 1 → getD w (firstMark + n) 0 % 2 ≡ 1
+  pub links : (n : ℕ) → n < k → kindAt w n ≡ 6 → LinkedAt s w′ n
