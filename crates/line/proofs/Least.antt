@@ -4,7 +4,7 @@ use mathlib.Core.Bool.{Bool, false, true}
 use mathlib.Core.List.{List}
 use mathlib.Core.Option.{Option, none, some}
 use mathlib.Core.Path.{ap, refl, subst, _∙_, _≡_}
-use Prim.Native.Nat.{Ordering, Ordering·lt, suc, zero, ℕ, _+_, _-_, _<_, _≤_}
+use Prim.Native.Nat.{Ordering, Ordering·lt, suc, zero, ℕ, _%_, _+_, _-_, _<_, _≤_}
 use native.Mathlib.Omega.{arith}
 use borrow.Author.Tests.{eq-eqb, ne-eqb}
 use lib.ListN.{getD, length}
@@ -96,13 +96,13 @@ few-marked s w (suc m) k = go (isMarked w k) refl (few-marked s w m (k + 1))
 
 -- ---- one node: it is passed by, or its text is seen
 module _ (s : Bytes) (w : List ℕ) (last : Option Bytes) {best : Text} (m n j k : ℕ) (e : m ≡ suc n) (f : k ≡ j + 1) (h : TextTold s (leastAfter last (markedFrom s w n k)) best) where
-  pub not-marked : (getD w (firstMark + j) 0 ≡ 1 → ⊥) → TextTold s (leastAfter last (markedFrom s w m j)) best
+  pub not-marked : (getD w (firstMark + j) 0 % 2 ≡ 1 → ⊥) → TextTold s (leastAfter last (markedFrom s w m j)) best
   unfolding markedFrom
-  not-marked q = rw (e, ne-eqb (getD w (firstMark + j) 0) 1 q, markedFrom) (rw f at h)
+  not-marked q = rw (e, ne-eqb (getD w (firstMark + j) 0 % 2) 1 q, markedFrom) (rw f at h)
 
-  pub is-marked : {p : ℕ} {r : Text} → getD w (firstMark + j) 0 ≡ 1 → p ≡ startAt w j → TextTold s (nearer last (textAt s p) (textOf s best)) r → TextTold s (leastAfter last (markedFrom s w m j)) r
+  pub is-marked : {p : ℕ} {r : Text} → getD w (firstMark + j) 0 % 2 ≡ 1 → p ≡ startAt w j → TextTold s (nearer last (textAt s p) (textOf s best)) r → TextTold s (leastAfter last (markedFrom s w m j)) r
   unfolding markedFrom leastAfter
-  is-marked q d t = rw (e, eq-eqb (getD w (firstMark + j) 0) 1 q, markedFrom) (rw (d, h .is, f) at t)
+  is-marked q d t = rw (e, eq-eqb (getD w (firstMark + j) 0 % 2) 1 q, markedFrom) (rw (d, h .is, f) at t)
 
-pub marked-text : {s : Bytes} {w : List ℕ} {k p : ℕ} → NamesHeld s w → k < maxNodes → getD w (firstMark + k) 0 ≡ 1 → p ≡ startAt w k → OnText s p 0
-marked-text {s} {w} {k} h l m e = rw e (h .texts k l (eq-eqb (getD w (firstMark + k) 0) 1 m))
+pub marked-text : {s : Bytes} {w : List ℕ} {k p : ℕ} → NamesHeld s w → k < maxNodes → getD w (firstMark + k) 0 % 2 ≡ 1 → p ≡ startAt w k → OnText s p 0
+marked-text {s} {w} {k} h l m e = rw e (h .texts k l (eq-eqb (getD w (firstMark + k) 0 % 2) 1 m))
