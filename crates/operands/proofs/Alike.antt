@@ -10,26 +10,25 @@ use lib.ListN.{length}
 use borrow.Author.Tests.{eqb-false, eqb-true}
 use Rattle.reader.specs.Bytes.{Bytes, sameBytes}
 use Rattle.reader.specs.Held.{HasNode}
+use Rattle.reader.specs.Links.{Linked}
 use Rattle.reader.specs.Spans.{textAt}
 use Rattle.reader.specs.Table.{afterAt, startAt}
 use Rattle.sheet.specs.Condition.{Condition}
 use Rattle.sheet.specs.Sheet.{Sheet}
-use Rattle.operands.specs.Children.{ChildAt, ChildTold, Given, Named, WalkAt, begun, childrenOf}
+use Rattle.operands.specs.Children.{ChildAt, ChildrenAt, Given, Named, begun, childrenOf}
 use Rattle.operands.specs.Comparing.{alike}
 use Rattle.operands.specs.Layered.{LeavesAlike, alikeNodes, classOf, eachName, eachNode, kids, namesAgree, partAt, shapeOf, valueNode}
 use Rattle.operands.specs.Lazy as lazy
 use Rattle.operands.specs.Matched.{Holds, Paired}
 use Rattle.operands.specs.Shape.{alikeIn, alikeOf, alikeShapes}
 use Rattle.operands.specs.Stored.{Fits, Room, operandOf, table}
-use Rattle.operands.specs.declared.children.Child.{Child}
 use Rattle.operands.specs.declared.children.Child.the-variants as child
 use Rattle.operands.specs.declared.children.Children.{Children}
-use Rattle.operands.specs.declared.children.Next.{Next}
 use Rattle.operands.specs.declared.operand.Operand.{Operand}
 use Rattle.operands.proofs.Layered.{alike-layers, apart, array-is, array-kind, class-is, class-small, object-is, object-kind}
 use Rattle.operands.proofs.Ordered.{node-below}
 use Rattle.operands.proofs.Stands.{impossible}
-use Rattle.operands.proofs.Trees.{fields-begin, items-begin, past-node}
+use Rattle.operands.proofs.Trees.{begun-kids, each-kid, past-node}
 
 -- children and their names
 module _ (s : Bytes) (t : List ℕ) where
@@ -55,60 +54,44 @@ pub not-no : (b : Bool) → not b ≡ false → b ≡ true
 not-no true e = refl
 not-no false e = absurd (impossible (cc))
 
--- what a walk gave
-module _ (s : Bytes) (t : List ℕ) (c : Children) {r : Child} (h : ChildTold s t c r) where
-  pub child-end : r ≡ child.End → childrenOf s t c ≡ []
-  unfolding ChildTold
-  child-end e = subst (ChildTold s t c) e h
-
-  pub child-given : (x : Next) → r ≡ child.Is x → Given s t c (x .node) (x .rest)
-  unfolding ChildTold
-  child-given x e = subst (ChildTold s t c) e h
-
 -- a walk over the children of a node that holds them
-module _ (s : Bytes) (t : List ℕ) (named : Bool) (n : ℕ) (h : Holds s t named n) (c : Children) (e : c ≡ begun t n named) where
-  pub walk-begins : WalkAt s t (c .named) (c .first) (c .end) (c .at)
-  walk-begins = go named h e
-    where
-      go : (b : Bool) → Holds s t b n → c ≡ begun t n b → WalkAt s t (c .named) (c .first) (c .end) (c .at)
-      go true k q = fields-begin k c q
-      go false k q = items-begin k c q
+module _ {s : Bytes} {t : List ℕ} (named : Bool) {n : ℕ} (h : Holds s t named n) (l : Linked s t) {c : Children} (e : c ≡ begun t n named) where
+  pub walk-kids : childrenOf t c ≡ kids s t n named
+  walk-kids = rw e (begun-kids s t l named h)
+
+  pub walk-begins : ChildrenAt s t c
+  walk-begins = rw e (record { within = past-node (h .node) .1; each = rw (begun-kids s t l named h) (each-kid s t named h) })
 
   pub walk-named : c .named ≡ named
-  unfolding begun
-  walk-named = ap (λ (x : Children). x .named) e ∙ go named
-    where
-      go : (b : Bool) → begun t n b .named ≡ b
-      go true = refl
-      go false = refl
+  walk-named = ap (λ (x : Children). x .named) e
 
-pub begin-room : (s : Bytes) (w : List ℕ) (named : Bool) {n : ℕ} → 12288 ≤ length w → Holds s (table w) named n → Room w n × (n < afterAt (table w) n)
+pub begin-room : (s : Bytes) (w : List ℕ) (named : Bool) {n : ℕ} → 16384 ≤ length w → Holds s (table w) named n → Room w n × (n < afterAt (table w) n)
 begin-room s w named l h = (record { rows = l; node = node-below s (table w) (h .node) }, past-node (h .node) .0)
 
 -- parts of two operands, from a child on
 module _ (s : Bytes) (t : List ℕ) (f : lazy.Operand → lazy.Operand → Bool) (named : Bool) (g h : ℕ → lazy.Operand) (whole : Bool) where
   pub record Comparing (x y : Children) : Type 0 where
-    pub rest : whole ≡ alikeNodes s t f named g h (childrenOf s t x) (childrenOf s t y)
-    pub first : WalkAt s t (x .named) (x .first) (x .end) (x .at)
-    pub second : WalkAt s t (y .named) (y .first) (y .end) (y .at)
+    pub rest : whole ≡ alikeNodes s t f named g h (childrenOf t x) (childrenOf t y)
+    pub first : ChildrenAt s t x
+    pub second : ChildrenAt s t y
     pub names : x .named ≡ named
     pub others : y .named ≡ named
 
   module _ {x y : Children} (l : Comparing x y) where
-    pub both-end : childrenOf s t x ≡ [] → childrenOf s t y ≡ [] → true ≡ whole
+    pub both-end : childrenOf t x ≡ [] → childrenOf t y ≡ [] → true ≡ whole
     unfolding alikeNodes
     both-end p q = sym (l .rest ∙ rw (p, q))
 
-    pub first-ends : {n : ℕ} {r : Children} → childrenOf s t x ≡ [] → Given s t y n r → false ≡ whole
+    pub first-ends : {n : ℕ} {r : Children} → childrenOf t x ≡ [] → Given s t y n r → false ≡ whole
     unfolding alikeNodes
     first-ends p q = sym (l .rest ∙ rw (p, q .children))
 
-    pub second-ends : {n : ℕ} {r : Children} → Given s t x n r → childrenOf s t y ≡ [] → false ≡ whole
+    pub second-ends : {n : ℕ} {r : Children} → Given s t x n r → childrenOf t y ≡ [] → false ≡ whole
     unfolding alikeNodes
     second-ends p q = sym (l .rest ∙ rw (p .children, q))
 
     module _ {i j : ℕ} {xs ys : Children} (p : Given s t x i xs) (q : Given s t y j ys) where
-      turn : whole ≡ (namesAgree s t named i j && (f (g (valueNode named i)) (h (valueNode named j)) && alikeNodes s t f named g h (childrenOf s t xs) (childrenOf s t ys)))
+      turn : whole ≡ (namesAgree s t named i j && (f (g (valueNode named i)) (h (valueNode named j)) && alikeNodes s t f named g h (childrenOf t xs) (childrenOf t ys)))
       unfolding alikeNodes
       turn = l .rest ∙ rw (p .children, q .children)
 
@@ -122,7 +105,7 @@ module _ (s : Bytes) (t : List ℕ) (f : lazy.Operand → lazy.Operand → Bool)
       names-differ {r} e z = sym (turn ∙ rw (sym e ∙ not-yes r z))
 
       module _ {b : Bool} (agree : b ≡ namesAgree s t named i j) (yes : not b ≡ false) {r : Bool} {u v : lazy.Operand} (part : r ≡ f u v) (isU : u ≡ g (valueNode named i)) (isV : v ≡ h (valueNode named j)) where
-        compared : whole ≡ (r && alikeNodes s t f named g h (childrenOf s t xs) (childrenOf s t ys))
+        compared : whole ≡ (r && alikeNodes s t f named g h (childrenOf t xs) (childrenOf t ys))
         compared = turn ∙ rw (sym agree ∙ not-no b yes, part, isU, isV)
 
         pub parts-differ : not r ≡ true → false ≡ whole
@@ -130,6 +113,15 @@ module _ (s : Bytes) (t : List ℕ) (f : lazy.Operand → lazy.Operand → Bool)
 
         pub parts-same : not r ≡ false → Comparing xs ys
         parts-same z = record { rest = compared ∙ rw (not-no r z); first = p .walk; second = q .walk; names = p .same ∙ l .names; others = q .same ∙ l .others }
+
+pub compare-begins : {s : Bytes} {t : List ℕ} {f : lazy.Operand → lazy.Operand → Bool} {named : Bool} {g h : ℕ → lazy.Operand} {a b : Operand} {x y : Children} → Paired s t named a b → Linked s t → x ≡ begun t (a .node) named → y ≡ begun t (b .node) named → Comparing s t f named g h (alikeNodes s t f named g h (kids s t (a .node) named) (kids s t (b .node) named)) x y
+compare-begins {named = named} p l i j = record {
+  rest = rw (walk-kids named (p .first) l i, walk-kids named (p .second) l j);
+  first = walk-begins named (p .first) l i;
+  second = walk-begins named (p .second) l j;
+  names = walk-named named (p .first) l i;
+  others = walk-named named (p .second) l j;
+}
 
 -- lists of parts, by their nodes
 module _ (s : Bytes) (t : List ℕ) (f : lazy.Operand → lazy.Operand → Bool) (g h : ℕ → lazy.Operand) where

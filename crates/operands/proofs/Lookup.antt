@@ -7,12 +7,13 @@ use mathlib.Core.Path.{ap, refl, subst, sym, _∙_, _≡_}
 use Prim.Native.Nat.{Ordering, Ordering·eq, suc, zero, ℕ, _+_, _-_, _<_, _≤_}
 use native.Mathlib.Omega.{arith}
 use Rattle.reader.proofs.Laws.{sameBytes-true}
-use Rattle.reader.proofs.Sorted.{Above, Ascending, Less, OrderView, aboveMore, aboveNone, ascMore, ascNone, eachSorted, entries-sorted, inOrder, inOrder-ascending, isEq′, isGt, isLt, less-order, less-trans, order-view, put, same-order}
+use Rattle.reader.proofs.Sorted.{Above, Ascending, Less, OrderView, aboveMore, aboveNone, ascMore, ascNone, eachSorted, entries-sorted, inOrder-ascending, isEq′, isGt, isLt, less-order, less-trans, order-view, same-order}
 use Rattle.reader.proofs.Walk.{MoreMembers, members-done, members-more}
 use Rattle.reader.specs.Bytes.{Bytes, find, orderBytes, sameBytes}
 use Rattle.reader.specs.Cursor.{OnText}
 use Rattle.reader.specs.Held.{HasMembers, HasNode}
 use Rattle.reader.specs.Json.{entries}
+use Rattle.reader.specs.KeyOrder.{inOrder, put}
 use Rattle.reader.specs.Spans.{textAt}
 use Rattle.reader.specs.Table.{afterAt, endAt, membersAt, startAt}
 use Rattle.operands.specs.Reached.{FoundNode, MemberTold, foundTree}

@@ -8,17 +8,18 @@ use lib.ListN.{length}
 use Rattle.number.specs.Compare.{numberOrder}
 use Rattle.reader.specs.Bytes.{Bytes, isOneOf, sameBytes}
 use Rattle.reader.specs.Held.{HasNode}
+use Rattle.reader.specs.Links.{Linked}
 use Rattle.reader.specs.Spans.{textAt}
 use Rattle.reader.specs.Table.{startAt}
 use Rattle.sheet.specs.Condition as condition
 use Rattle.sheet.specs.Condition.{Condition}
 use Rattle.sheet.specs.Sheet.{Sheet}
-use Rattle.operands.specs.Children.{ChildAt, Given, Named, WalkAt, childrenOf}
+use Rattle.operands.specs.Children.{ChildAt, ChildrenAt, Given, Named, begun, childrenOf}
 use Rattle.semantics.specs.Forms.{isGreater, isLess}
 use Rattle.operands.specs.Comparing.{alike, holdsOf, nesting}
 use Rattle.operands.specs.Layered.{TextPlace, classOf, digitsOf, eachName, eachNode, kids, partAt, shapeOf, wordsOf}
 use Rattle.operands.specs.Lazy as lazy
-use Rattle.operands.specs.Matched.{NumbersTold, TextsTold, found, inOrder, namesOf}
+use Rattle.operands.specs.Matched.{Holds, NumbersTold, TextsTold, found, inOrder, namesOf}
 use Rattle.semantics.specs.Semantics.{isSame}
 use Rattle.operands.specs.Shape.{Shape, containedIn, digits, fields, holdsShapes, items, keysOf, nothing, oneAlike, truth, twoNumbers, twoTexts, words}
 use Rattle.operands.specs.Stored.{operandOf}
@@ -26,27 +27,31 @@ use Rattle.operands.specs.declared.children.Children.{Children}
 use Rattle.operands.specs.declared.holds.Where.{Where}
 use Rattle.operands.specs.declared.holds.Where.the-variants as wheres
 use Rattle.operands.specs.declared.operand.Operand.{Operand}
+use Rattle.operands.proofs.Alike.{walk-begins, walk-kids, walk-named}
 use Rattle.operands.proofs.Layered.{array-is, class-is, number-is, object-is, shape-kind, shapeClass, text-is}
 
 -- a walk that looks for one child
 pub record Looking (s : Bytes) (t : List ℕ) (named : Bool) (whole : Bool) (f : List ℕ → Bool) (c : Children) : Type 0 where
-  pub rest : whole ≡ f (childrenOf s t c)
-  pub walk : WalkAt s t (c .named) (c .first) (c .end) (c .at)
+  pub rest : whole ≡ f (childrenOf t c)
+  pub walk : ChildrenAt s t c
   pub over : c .named ≡ named
 
 module _ {s : Bytes} {t : List ℕ} {named whole : Bool} {f : List ℕ → Bool} {c : Children} (l : Looking s t named whole f c) where
-  pub looked-all : childrenOf s t c ≡ [] → f [] ≡ false → false ≡ whole
+  pub looked-all : childrenOf t c ≡ [] → f [] ≡ false → false ≡ whole
   looked-all e q = sym (l .rest ∙ ap f e ∙ q)
 
   module _ {k : ℕ} {c′ : Children} (x : Given s t c k c′) where
     pub looked-at : ChildAt s t named k
     looked-at = subst (λ (b : Bool). ChildAt s t b k) (l .over) (x .child)
 
-    pub looked-here : f (k ∷ childrenOf s t c′) ≡ true → true ≡ whole
+    pub looked-here : f (k ∷ childrenOf t c′) ≡ true → true ≡ whole
     looked-here q = sym (l .rest ∙ ap f (x .children) ∙ q)
 
-    pub looked-on : f (k ∷ childrenOf s t c′) ≡ f (childrenOf s t c′) → Looking s t named whole f c′
+    pub looked-on : f (k ∷ childrenOf t c′) ≡ f (childrenOf t c′) → Looking s t named whole f c′
     looked-on q = record { rest = l .rest ∙ ap f (x .children) ∙ q; walk = x .walk; over = x .same ∙ l .over }
+
+pub look-begins : {s : Bytes} {t : List ℕ} (named : Bool) {n : ℕ} {f : List ℕ → Bool} {c : Children} → Holds s t named n → Linked s t → c ≡ begun t n named → Looking s t named (f (kids s t n named)) f c
+look-begins named {f = f} h l e = record { rest = ap f (sym (walk-kids named h l e)); walk = walk-begins named h l e; over = walk-named named h l e }
 
 pub child-node : (s : Bytes) (t : List ℕ) {k : ℕ} → ChildAt s t false k → HasNode s t k
 unfolding ChildAt

@@ -119,6 +119,7 @@ module _ {s : Bytes} {w : List ℕ} {roots : Roots} {f : Frames} (r : Ready s w 
     rows = r .rows;
     short = r .short;
     rooted = r .rooted;
+    linked = r .linked;
     bound = record { within = omega (arith, r .bound .within); names = rw e (named-outer s (table w) d (held f) (r .bound .names)); operands = rw e (bound-outer s (table w) d (held f) (r .bound .operands)) };
   }
 

@@ -1,30 +1,33 @@
 -- The value at a node as evaluation sees it, one layer by the row's kind; and the children of a node as they stand in its value.
 -- Assumes nothing.
-use mathlib.Core.Bool.{Bool, cond, false, true}
+use mathlib.Core.Bool.{Bool, false, true}
 use mathlib.Core.List.{List, [], _∷_}
-use mathlib.Core.Option.{Option, none, some}
 use mathlib.Core.Path.{ap, refl, sym, _∙_, _≡_}
 use Prim.Native.Nat.{Ordering, Ordering·eq, Ordering·gt, Ordering·lt, suc, zero, ℕ, _+_, _-_, _<_, _≤_}
 use native.Mathlib.Omega.{arith}
 use lib.Dec.{ltb}
 use lib.Seq.{slice}
-use Rattle.reader.specs.KeyOrder.{after, better, chain, least, namesAt, namesBy, step}
+use borrow.Author.Tests.{ltb-true}
+use Rattle.reader.specs.KeyOrder.{inOrder, namesAt, namesBy, nodesOf, put}
+use Rattle.reader.specs.Links.{Linked, linkAt, linkedBy}
 use Rattle.reader.proofs.KeyOrder.{ascending-members}
 use Rattle.reader.proofs.Sorted.{valued}
-use Rattle.reader.proofs.Walk.{View, after-node, isArray, isObject, isPlain, view}
+use Rattle.reader.proofs.Walk.{View, after-node, isArray, isObject, isPlain, members-more, values-more, view}
 use Rattle.reader.specs.Bytes.{Bytes, orderBytes}
 use Rattle.reader.specs.Cursor.{OnText}
 use Rattle.reader.specs.Fits.{FitsLeaf, Numeral, Text}
-use Rattle.reader.specs.Held.{HasMembers, HasNode}
+use Rattle.reader.specs.Held.{AreMembers, AreNodes, HasMembers, HasNode}
 use Rattle.reader.specs.Json.{Members, Value, Values, array, bool, cons, empty, entries, member, nil, null, number, object, text}
 use Rattle.reader.specs.Sorted.{sorted, sortedIn}
 use Rattle.reader.specs.Spans.{Plain, plain, textAt}
 use Rattle.reader.specs.Table.{afterAt, code, endAt, kindAt, startAt, valueAt, valuesAt, valuesBy}
-use Rattle.operands.specs.Children.{WalkAt, begun, childrenBy, childrenOf, itemsBy, lastOf, nodesOf}
+use Rattle.operands.specs.Children.{EachAt, Named, begun, childrenBy, childrenOf}
+use Rattle.operands.specs.Layered.{kids}
+use Rattle.operands.specs.Matched.{Holds}
 use Rattle.operands.specs.Stored.{Fits, HasKind, HasNodes, Means, fieldsOf, itemsOf, meant, tree}
 use Rattle.operands.specs.Lazy.{given}
 use Rattle.operands.specs.Reached.{valueKind}
-use Rattle.operands.specs.declared.children.Children.{Children}
+use Rattle.operands.proofs.Ordered.{node-below}
 
 -- one layer of the value at a node
 pub data Layer (s : Bytes) (t : List ℕ) (n : ℕ) : Type 0 where
@@ -121,15 +124,6 @@ module _ {s : Bytes} {t : List ℕ} {n : ℕ} where
   pub past-node : HasNode s t n → (n < afterAt t n) × (afterAt t n ≤ 4096)
   past-node h = after-node s t (h .isNode)
 
-  -- a walk over a node's children begins
-  pub items-begin : HasKind s t n 5 → (c : Children) → c ≡ begun t n false → WalkAt s t (c .named) (c .first) (c .end) (c .at)
-  unfolding begun WalkAt
-  items-begin h c e = rw e (array-row h .nodes)
-
-  pub fields-begin : HasKind s t n 6 → (c : Children) → c ≡ begun t n true → WalkAt s t (c .named) (c .first) (c .end) (c .at)
-  unfolding begun WalkAt
-  fields-begin h c e = rw e (omega arith, object-row h .members, tt)
-
 -- the values at nodes, and members by the nodes of their names
 unfoldable pub fromNodes : (ℕ → Value) → List ℕ → Values
 fromNodes f [] = nil
@@ -140,59 +134,53 @@ unfolding textAt
 fromNames s t f [] = empty
 fromNames s t f (k ∷ ks) = member (textAt s (startAt t k)) (f (k + 1)) (fromNames s t f ks)
 
-items-by : (f : ℕ → Value) (t : List ℕ) (m k e : ℕ) → sortedIn (valuesBy f t m k e) ≡ fromNodes (λ j. sorted (f j)) (itemsBy t m k e)
-unfolding valuesBy itemsBy fromNodes sortedIn
+items-by : (f : ℕ → Value) (t : List ℕ) (m k e : ℕ) → sortedIn (valuesBy f t m k e) ≡ fromNodes (λ j. sorted (f j)) (childrenBy t false e k m)
+unfolding valuesBy childrenBy fromNodes sortedIn
 items-by f t zero k e = refl
 items-by f t (suc m) k e = go (ltb k e) refl (items-by f t m (afterAt t k) e)
   where
-    go : (b : Bool) → ltb k e ≡ b → sortedIn (valuesBy f t m (afterAt t k) e) ≡ fromNodes (λ j. sorted (f j)) (itemsBy t m (afterAt t k) e) → sortedIn (valuesBy f t (suc m) k e) ≡ fromNodes (λ j. sorted (f j)) (itemsBy t (suc m) k e)
-    go true q below = rw (q, valuesBy, itemsBy) (ap (cons (sorted (f k))) below)
-    go false q below = rw (q, valuesBy, itemsBy)
+    go : (b : Bool) → ltb k e ≡ b → sortedIn (valuesBy f t m (afterAt t k) e) ≡ fromNodes (λ j. sorted (f j)) (childrenBy t false e (afterAt t k) m) → sortedIn (valuesBy f t (suc m) k e) ≡ fromNodes (λ j. sorted (f j)) (childrenBy t false e k (suc m))
+    go true q below = rw (q, valuesBy, childrenBy) (ap (cons (sorted (f k))) below)
+    go false q below = rw (q, valuesBy, childrenBy)
 
-pub items-are : (s : Bytes) (t : List ℕ) (n : ℕ) → itemsOf s t n ≡ fromNodes (tree s t) (childrenOf s t (begun t n false))
-unfolding itemsOf valuesAt begun childrenBy tree
+pub items-are : (s : Bytes) (t : List ℕ) (n : ℕ) → itemsOf s t n ≡ fromNodes (tree s t) (kids s t n false)
+unfolding itemsOf valuesAt kids tree
 items-are s t n = items-by (valueAt s t) t (afterAt t n - (n + 1)) (n + 1) (afterAt t n)
 
--- each name of a chain is that of its node
+-- what holds of each name holds of each in their order
+module _ (P : Bytes × ℕ → Type 0) where
+  unfoldable Each : List (Bytes × ℕ) → Type 0
+  Each [] = Unit {0}
+  Each (x ∷ xs) = P x × Each xs
+
+  each-put : (x : Bytes × ℕ) (ys : List (Bytes × ℕ)) → P x → Each ys → Each (put x ys)
+  unfolding put Each
+  each-put x [] p h = (p, tt)
+  each-put x (y ∷ ys) p h = go (orderBytes (x .0) (y .0)) refl (each-put x ys p (h .1))
+    where
+      go : (o : Ordering) → orderBytes (x .0) (y .0) ≡ o → Each (put x ys) → Each (put x (y ∷ ys))
+      go Ordering·lt q below = rw (q, put) (p, h)
+      go Ordering·eq q below = rw (q, put) h
+      go Ordering·gt q below = rw (q, put) (h .0, below)
+
+  each-inOrder : (xs : List (Bytes × ℕ)) → Each xs → Each (inOrder xs)
+  unfolding inOrder Each
+  each-inOrder [] h = tt
+  each-inOrder (x ∷ xs) h = each-put x (inOrder xs) (h .0) (each-inOrder xs (h .1))
+
+-- each name is that of its node
 module _ (s : Bytes) (t : List ℕ) where
   abbrev Key : Bytes × ℕ → Type 0
   Key x = x .0 ≡ textAt s (startAt t (x .1))
 
-  unfoldable Keyed : List (Bytes × ℕ) → Type 0
-  Keyed [] = Unit {0}
-  Keyed (x ∷ xs) = Key x × Keyed xs
-
-  unfoldable KeyedBest : Option (Bytes × ℕ) → Type 0
-  KeyedBest none = Unit {0}
-  KeyedBest (some x) = Key x
-
-  keyed-names : (m k e : ℕ) → Keyed (namesBy s t m k e)
-  unfolding namesBy Keyed
+  keyed-names : (m k e : ℕ) → Each Key (namesBy s t m k e)
+  unfolding namesBy Each
   keyed-names zero k e = tt
   keyed-names (suc m) k e = go (ltb k e) refl (keyed-names m (afterAt t (k + 1)) e)
     where
-      go : (b : Bool) → ltb k e ≡ b → Keyed (namesBy s t m (afterAt t (k + 1)) e) → Keyed (namesBy s t (suc m) k e)
+      go : (b : Bool) → ltb k e ≡ b → Each Key (namesBy s t m (afterAt t (k + 1)) e) → Each Key (namesBy s t (suc m) k e)
       go true q below = rw (q, namesBy) (refl, below)
       go false q below = rw (q, namesBy) tt
-
-  keyed-better : (x : Bytes × ℕ) (o : Option (Bytes × ℕ)) → Key x → KeyedBest o → KeyedBest (better x o)
-  unfolding better KeyedBest
-  keyed-better x none h k = h
-  keyed-better x (some y) h k = go (orderBytes (x .0) (y .0)) refl
-    where
-      go : (o : Ordering) → orderBytes (x .0) (y .0) ≡ o → KeyedBest (better x (some y))
-      go Ordering·lt q = rw (q, better) h
-      go Ordering·eq q = rw (q, better) k
-      go Ordering·gt q = rw (q, better) k
-
-  keyed-least : (last : Option Bytes) (xs : List (Bytes × ℕ)) → Keyed xs → KeyedBest (least last xs)
-  unfolding least Keyed KeyedBest step
-  keyed-least last [] h = tt
-  keyed-least last (x ∷ xs) h = go (after last (x .0)) (keyed-least last xs (h .1))
-    where
-      go : (b : Bool) → KeyedBest (least last xs) → KeyedBest (cond b (better x (least last xs)) (least last xs))
-      go true k = keyed-better x (least last xs) (h .0) k
-      go false k = k
 
   unfoldable toMembers : List (Bytes × Value) → Members
   toMembers [] = empty
@@ -203,21 +191,64 @@ module _ (s : Bytes) (t : List ℕ) where
   to-entries empty = refl
   to-entries (member k v ms) = ap (member k v) (to-entries ms)
 
-  chain-names : (f : ℕ → Value) (m : ℕ) (last : Option Bytes) (xs : List (Bytes × ℕ)) → Keyed xs → toMembers (valued (λ j. f (j + 1)) (chain m last xs)) ≡ fromNames s t f (nodesOf (chain m last xs))
-  unfolding toMembers valued nodesOf fromNames chain KeyedBest
-  chain-names f zero last xs h = refl
-  chain-names f (suc m) last xs h = go (least last xs) refl (keyed-least last xs h) (λ l. chain-names f m l xs h)
-    where
-      go : (o : Option (Bytes × ℕ)) → least last xs ≡ o → KeyedBest o → ((l : Option Bytes) → toMembers (valued (λ j. f (j + 1)) (chain m l xs)) ≡ fromNames s t f (nodesOf (chain m l xs))) → toMembers (valued (λ j. f (j + 1)) (chain (suc m) last xs)) ≡ fromNames s t f (nodesOf (chain (suc m) last xs))
-      go none q k below = rw (q, chain)
-      go (some x) q k below = rw (q, chain) (ap (λ (b : Bytes). member b (f (x .1 + 1)) (toMembers (valued (λ j. f (j + 1)) (chain m (some (x .0)) xs)))) k ∙ ap (member (textAt s (startAt t (x .1))) (f (x .1 + 1))) (below (some (x .0))))
+  to-names : (f : ℕ → Value) (xs : List (Bytes × ℕ)) → Each Key xs → toMembers (valued (λ j. f (j + 1)) xs) ≡ fromNames s t f (nodesOf xs)
+  unfolding toMembers valued nodesOf fromNames Each
+  to-names f [] h = refl
+  to-names f (x ∷ xs) h = rw (h .0, to-names f xs (h .1))
 
-  pub fields-are : (n : ℕ) → fieldsOf s t n ≡ fromNames s t (tree s t) (childrenOf s t (begun t n true))
-  unfolding fieldsOf begun childrenBy lastOf tree namesAt
+  pub fields-are : (n : ℕ) → fieldsOf s t n ≡ fromNames s t (tree s t) (kids s t n true)
+  unfolding fieldsOf kids tree namesAt
   fields-are n =
       sym (to-entries (fieldsOf s t n))
       ∙ ap toMembers (ascending-members s t (n + 1) (afterAt t n))
-      ∙ chain-names (tree s t) (afterAt t n - (n + 1)) none (namesAt s t (n + 1) (afterAt t n)) (keyed-names (afterAt t n - (n + 1)) (n + 1) (afterAt t n))
+      ∙ to-names (tree s t) (inOrder (namesAt s t (n + 1) (afterAt t n))) (each-inOrder Key _ (keyed-names (afterAt t n - (n + 1)) (n + 1) (afterAt t n)))
+
+  -- the table holds them, and the links lead to them
+  named-names : (m : ℕ) {left k e : ℕ} → AreMembers s t left k e → Each (λ x. Named s t (x .1)) (namesBy s t m k e)
+  unfolding namesBy Each
+  named-names zero h = tt
+  named-names (suc m) {left} {k} {e} h = go (ltb k e) refl (λ a. named-names m a)
+    where
+      go : (b : Bool) → ltb k e ≡ b → (AreMembers s t left (afterAt t (k + 1)) e → Each (λ x. Named s t (x .1)) (namesBy s t m (afterAt t (k + 1)) e)) → Each (λ x. Named s t (x .1)) (namesBy s t (suc m) k e)
+      go true q below =
+          let x = members-more s t h (ltb-true k e q) in
+          rw (q, namesBy) (record { text = record { stop = endAt t k; text = x .name; few = omega arith }; value = record { left = left; isNode = x .here } }, below (x .others))
+      go false q below = rw (q, namesBy) tt
+
+  each-nodes : (xs : List (Bytes × ℕ)) → Each (λ x. Named s t (x .1)) xs → EachAt s t true (nodesOf xs)
+  unfolding nodesOf Each EachAt
+  each-nodes [] h = tt
+  each-nodes (x ∷ xs) h = (h .0, each-nodes xs (h .1))
+
+  each-item : (m : ℕ) {left k e : ℕ} → AreNodes s t left k e → EachAt s t false (childrenBy t false e k m)
+  unfolding childrenBy EachAt
+  each-item zero h = tt
+  each-item (suc m) {left} {k} {e} h = go (ltb k e) refl (λ a. each-item m a)
+    where
+      go : (b : Bool) → ltb k e ≡ b → (AreNodes s t left (afterAt t k) e → EachAt s t false (childrenBy t false e (afterAt t k) m)) → EachAt s t false (childrenBy t false e k (suc m))
+      go true q below =
+          let x = values-more s t h (ltb-true k e q) in
+          rw (q, childrenBy) (record { left = left; isNode = x .here }, below (x .others))
+      go false q below = rw (q, childrenBy) tt
+
+  pub each-kid : (named : Bool) {n : ℕ} → Holds s t named n → EachAt s t named (kids s t n named)
+  unfolding kids namesAt
+  each-kid false {n} h = each-item (afterAt t n - (n + 1)) (array-row h .nodes .nodes)
+  each-kid true {n} h = each-nodes _ (each-inOrder (λ x. Named s t (x .1)) _ (named-names (afterAt t n - (n + 1)) (object-row h .members .members)))
+
+  linked-are : (m k e : ℕ) → childrenBy t true e k m ≡ linkedBy t m k e
+  unfolding childrenBy linkedBy
+  linked-are zero k e = refl
+  linked-are (suc m) k e = go (ltb k e) (linked-are m (linkAt t k) e)
+    where
+      go : (b : Bool) → childrenBy t true e (linkAt t k) m ≡ linkedBy t m (linkAt t k) e → _≡_ {A = List ℕ} (elim b [ true ↦ k ∷ childrenBy t true e (linkAt t k) m | false ↦ [] ]) (elim b [ true ↦ k ∷ linkedBy t m (linkAt t k) e | false ↦ [] ])
+      go true below = ap (λ (l : List ℕ). k ∷ l) below
+      go false below = refl
+
+  pub begun-kids : Linked s t → (named : Bool) {n : ℕ} → Holds s t named n → childrenOf t (begun t n named) ≡ kids s t n named
+  unfolding kids
+  begun-kids l false h = refl
+  begun-kids l true {n} h = linked-are (afterAt t n - (n + 1)) (linkAt t n) (afterAt t n) ∙ l .links n (node-below s t (h .node)) (h .kind)
 
 -- the value at a node as an operand
 pub value-means : (s : Bytes) (t : List ℕ) (n k : ℕ) → k ≡ kindAt t n → HasNode s t n → Means s t (record { node = n; depth = 0; kind = valueKind k }) (given (tree s t n))

@@ -7,12 +7,13 @@ use Prim.Native.Nat.{ℕ, _+_, _-_, _≤_}
 use native.Mathlib.Omega.{arith}
 use lib.ListN.{length}
 use Rattle.reader.specs.Bytes.{Bytes}
+use Rattle.reader.specs.Links.{Linked}
 use Rattle.reader.specs.Json.{Members, Value, Values}
 use Rattle.reader.specs.Limits.{depth, depthIn, depthOf}
 use Rattle.reader.specs.Refusal.{Refusal, Result, ok, refused, _>>=_}
 use Rattle.sheet.specs.Condition.{Condition}
 use Rattle.sheet.specs.Sheet.{Sheet}
-use Rattle.operands.specs.Children.{ChildAt, Given, WalkAt, begun, childrenOf}
+use Rattle.operands.specs.Children.{ChildAt, ChildrenAt, Given, begun, childrenOf}
 use Rattle.operands.specs.Layered.{kids, valueNode}
 use Rattle.operands.specs.Lazy as lazy
 use Rattle.operands.specs.Lazy.{operand, operandIn, operandOf}
@@ -28,6 +29,7 @@ use Rattle.operands.specs.declared.operand.Operand.{Operand}
 use Rattle.operands.specs.declared.resolve.Part.the-variants as parts
 use Rattle.operands.specs.declared.resolve.Resolved as code
 use Rattle.operands.specs.declared.resolve.Resolved.the-variants as answers
+use Rattle.operands.proofs.Alike.{walk-begins, walk-kids, walk-named}
 use Rattle.operands.proofs.Marking.{heard-none, heard-then, left-none, left-then}
 use Rattle.operands.proofs.Stands.{impossible}
 use Rattle.operands.proofs.Trees.{array-row, fields-are, fromNames, fromNodes, items-are, object-row}
@@ -173,10 +175,10 @@ pub record Gathering (quiet : Bool) (s : Bytes) (w₀ : List ℕ) (sheet : Sheet
   pub names : Names
   pub none : whole ≡ true → names ≡ []
   pub left : Left s w₀ w (heard quiet names)
-  pub walk : WalkAt s (table w₀) (c .named) (c .first) (c .end) (c .at)
+  pub walk : ChildrenAt s (table w₀) c
   pub over : c .named ≡ named
-  pub shallow : Shallow s (table w₀) named l (childrenOf s (table w₀) c)
-  pub rest : m ≡ (partsAt sheet s (table w₀) fs named (childrenOf s (table w₀) c) >>= λ rs. ok (same (λ _. stored.operandOf s (table w₀) (holder n d named)) (join (soFar whole names) rs)))
+  pub shallow : Shallow s (table w₀) named l (childrenOf (table w₀) c)
+  pub rest : m ≡ (partsAt sheet s (table w₀) fs named (childrenOf (table w₀) c) >>= λ rs. ok (same (λ _. stored.operandOf s (table w₀) (holder n d named)) (join (soFar whole names) rs)))
 
 finish : (quiet : Bool) {s : Bytes} {w₀ w : List ℕ} (b y : Bool) (ns : Names) (n d : ℕ) → Holds s (table w₀) y n → (b ≡ true → ns ≡ []) → Left s w₀ w (heard quiet ns) → ResolvedAs quiet s w₀ w (gatheredOf n d y b) (ok (same (λ _. stored.operandOf s (table w₀) (holder n d y)) (soFar b ns)))
 unfolding Fits
@@ -191,7 +193,7 @@ bind-through (refused r) f g h = refl
 
 module _ {quiet : Bool} {s : Bytes} {w₀ : List ℕ} {sheet : Sheet Condition} {fs : lazy.Frames} {n d : ℕ} {named : Bool} {l : ℕ} {m : Result (Resolved lazy.Operand)} {w : List ℕ} {whole : Bool} {c : Children} (g : Gathering quiet s w₀ sheet fs n d named l m w whole c) where
   -- no part is left
-  pub gather-end : Holds s (table w₀) named n → childrenOf s (table w₀) c ≡ [] → {r : code.Resolved} → r ≡ gatheredOf n d named whole → ResolvedAs quiet s w₀ w r m
+  pub gather-end : Holds s (table w₀) named n → childrenOf (table w₀) c ≡ [] → {r : code.Resolved} → r ≡ gatheredOf n d named whole → ResolvedAs quiet s w₀ w r m
   unfolding partsAt
   gather-end h e q = rw (q, g .rest, e, join-none (soFar whole (g .names))) (finish quiet whole named (g .names) n d h (g .none) (g .left))
 
@@ -203,16 +205,16 @@ module _ {quiet : Bool} {s : Bytes} {w₀ : List ℕ} {sheet : Sheet Condition} 
     pub this-child : ChildAt s (table w₀) named k
     this-child = subst (λ (b : Bool). ChildAt s (table w₀) b k) (g .over) (x .child)
 
-    deeper : (depth v ≤ l) × Shallow s (table w₀) named l (childrenOf s (table w₀) c′)
+    deeper : (depth v ≤ l) × Shallow s (table w₀) named l (childrenOf (table w₀) c′)
     unfolding Shallow
     deeper = subst (Shallow s (table w₀) named l) (x .children) (g .shallow)
 
     pub this-shallow : depth (tree s (table w₀) (valueNode named k)) ≤ l
     this-shallow = deeper .0
 
-    turn : m ≡ (operand sheet fs v >>= λ r. partsAt sheet s (table w₀) fs named (childrenOf s (table w₀) c′) >>= λ rs. ok (same (λ _. stored.operandOf s (table w₀) (holder n d named)) (join (soFar whole (g .names)) (both (λ _ _. tt) r rs))))
+    turn : m ≡ (operand sheet fs v >>= λ r. partsAt sheet s (table w₀) fs named (childrenOf (table w₀) c′) >>= λ rs. ok (same (λ _. stored.operandOf s (table w₀) (holder n d named)) (join (soFar whole (g .names)) (both (λ _ _. tt) r rs))))
     unfolding partsAt
-    turn = g .rest ∙ rw (x .children) (push (operand sheet fs v) (partsAt sheet s (table w₀) fs named (childrenOf s (table w₀) c′)))
+    turn = g .rest ∙ rw (x .children) (push (operand sheet fs v) (partsAt sheet s (table w₀) fs named (childrenOf (table w₀) c′)))
       where
         push : (p : Result (Resolved lazy.Operand)) (q : Result (Resolved (Unit {0}))) → (p >>= (λ r. q >>= λ rs. ok (both (λ _ _. tt) r rs)) >>= λ rs. ok (same (λ _. stored.operandOf s (table w₀) (holder n d named)) (join (soFar whole (g .names)) rs))) ≡ (p >>= λ r. q >>= λ rs. ok (same (λ _. stored.operandOf s (table w₀) (holder n d named)) (join (soFar whole (g .names)) (both (λ _ _. tt) r rs))))
         push (ok r) (ok rs) = refl
@@ -233,16 +235,16 @@ module _ {quiet : Bool} {s : Bytes} {w₀ : List ℕ} {sheet : Sheet Condition} 
             walk = x .walk;
             over = x .same ∙ g .over;
             shallow = deeper .1;
-            rest = turn ∙ ap (λ (y : Result (Resolved lazy.Operand)). y >>= λ r₁. partsAt sheet s (table w₀) fs named (childrenOf s (table w₀) c′) >>= λ rs. ok (same (λ _. stored.operandOf s (table w₀) (holder n d named)) (join (soFar whole (g .names)) (both (λ _ _. tt) r₁ rs)))) (z .means) ∙ (bind-through (partsAt sheet s (table w₀) fs named (childrenOf s (table w₀) c′)) _ _ (λ rs. ap (λ (y : Resolved (Unit {0})). ok (same (λ _. stored.operandOf s (table w₀) (holder n d named)) y)) (ap (join (soFar whole (g .names))) (seen-both (z .is) rs ∙ ap (λ (y : Resolved (Unit {0})). join y rs) (z .as′)) ∙ sym (join-assoc (soFar whole (g .names)) (soFar b (z .names)) rs) ∙ ap (λ (y : Resolved (Unit {0})). join y rs) (sym (sofar-step whole b (g .names) (z .names) (g .none) (z .none))))));
+            rest = turn ∙ ap (λ (y : Result (Resolved lazy.Operand)). y >>= λ r₁. partsAt sheet s (table w₀) fs named (childrenOf (table w₀) c′) >>= λ rs. ok (same (λ _. stored.operandOf s (table w₀) (holder n d named)) (join (soFar whole (g .names)) (both (λ _ _. tt) r₁ rs)))) (z .means) ∙ (bind-through (partsAt sheet s (table w₀) fs named (childrenOf (table w₀) c′)) _ _ (λ rs. ap (λ (y : Resolved (Unit {0})). ok (same (λ _. stored.operandOf s (table w₀) (holder n d named)) y)) (ap (join (soFar whole (g .names))) (seen-both (z .is) rs ∙ ap (λ (y : Resolved (Unit {0})). join y rs) (z .as′)) ∙ sym (join-assoc (soFar whole (g .names)) (soFar b (z .names)) rs) ∙ ap (λ (y : Resolved (Unit {0})). join y rs) (sym (sofar-step whole b (g .names) (z .names) (g .none) (z .none))))));
           }
 
-pub gather-begin : (quiet : Bool) (s : Bytes) (w : List ℕ) (sheet : Sheet Condition) (fs : lazy.Frames) (n d : ℕ) (named : Bool) (l : ℕ) → Holds s (table w) named n → length fs ≡ d → depth (tree s (table w) n) ≤ l → (c : Children) → c ≡ begun (table w) n named → WalkAt s (table w) (c .named) (c .first) (c .end) (c .at) → c .named ≡ named → Gathering quiet s w sheet fs n d named (l - 1) (operand sheet fs (tree s (table w) n)) w true c
-gather-begin quiet s w sheet fs n d named l h e sh c q wk nm = record {
+pub gather-begin : (quiet : Bool) (s : Bytes) (w : List ℕ) (sheet : Sheet Condition) (fs : lazy.Frames) (n d : ℕ) (named : Bool) (l : ℕ) → Holds s (table w) named n → Linked s (table w) → length fs ≡ d → depth (tree s (table w) n) ≤ l → {c : Children} → c ≡ begun (table w) n named → Gathering quiet s w sheet fs n d named (l - 1) (operand sheet fs (tree s (table w) n)) w true c
+gather-begin quiet s w sheet fs n d named l h k e sh q = record {
   names = [];
   none = λ _. refl;
   left = subst (Left s w w) (sym (heard-none quiet)) (left-none s w);
-  walk = wk;
-  over = nm;
-  shallow = rw q (whole-shallow s (table w) named n l h sh .1);
-  rest = whole-parts sheet s (table w) fs named n h ∙ rw (q, e) (bind-through (partsAt sheet s (table w) fs named (kids s (table w) n named)) _ _ (λ rs. ap (λ (y : Resolved (Unit {0})). ok (same (λ _. stored.operandOf s (table w) (holder n d named)) y)) (sym (join-first rs))));
+  walk = walk-begins named h k q;
+  over = walk-named named h k q;
+  shallow = rw (walk-kids named h k q) (whole-shallow s (table w) named n l h sh .1);
+  rest = whole-parts sheet s (table w) fs named n h ∙ rw (walk-kids named h k q, e) (bind-through (partsAt sheet s (table w) fs named (kids s (table w) n named)) _ _ (λ rs. ap (λ (y : Resolved (Unit {0})). ok (same (λ _. stored.operandOf s (table w) (holder n d named)) y)) (sym (join-first rs))));
 }

@@ -7,8 +7,9 @@ use mathlib.Core.Path.{_≡_}
 use lib.Seq.{slice}
 use Rattle.reader.specs.Bytes.{Bytes, sameBytes}
 use Rattle.reader.specs.Cursor.{OnText}
+use Rattle.reader.specs.KeyOrder.{inOrder, namesAt, nodesOf}
 use Rattle.reader.specs.Spans.{textAt}
-use Rattle.reader.specs.Table.{endAt, startAt}
+use Rattle.reader.specs.Table.{afterAt, endAt, startAt}
 use Rattle.sheet.specs.Condition.{Condition}
 use Rattle.sheet.specs.Sheet.{Sheet}
 use Rattle.operands.specs.Children.{begun, childrenBy, childrenOf}
@@ -71,9 +72,11 @@ module _ (sheet : Sheet Condition) (s : Bytes) (t : List ℕ) where
   abbrev pub partAt : lazy.Frames → Operand → ℕ → lazy.Operand
   partAt fs o k = partBy fs (o .depth) (o .kind) k
 
--- the children's nodes, an object's being its names
-abbrev pub kids : Bytes → List ℕ → ℕ → Bool → List ℕ
-kids s t n named = childrenOf s t (begun t n named)
+-- the children's nodes, an object's being its names by ascending bytes
+unfoldable pub kids : Bytes → List ℕ → ℕ → Bool → List ℕ
+unfolding childrenBy nodesOf inOrder namesAt
+kids s t n false = childrenOf t (begun t n false)
+kids s t n true = nodesOf (inOrder (namesAt s t (n + 1) (afterAt t n)))
 
 unfoldable pub eachNode : (ℕ → lazy.Operand) → List ℕ → List lazy.Operand
 eachNode g [] = []
@@ -85,7 +88,7 @@ eachName s t g [] = []
 eachName s t g (k ∷ ks) = (textAt s (startAt t k), g (k + 1)) ∷ eachName s t g ks
 
 unfoldable pub shapeBy : Sheet Condition → Bytes → List ℕ → lazy.Frames → ℕ → ℕ → Kind → Shape lazy.Operand
-unfolding partBy eachNode eachName wordsOf childrenBy begun
+unfolding partBy eachNode eachName wordsOf kids
 shapeBy sheet s t fs n d kinds.Null = nothing
 shapeBy sheet s t fs n d kinds.False = truth false
 shapeBy sheet s t fs n d kinds.True = truth true

@@ -13,7 +13,7 @@ use Rattle.operands.specs.declared.frames.Frames.{Frames}
 use Rattle.operands.specs.declared.roots.Roots.{Roots}
 
 pub record Ready (s : Bytes) (w : List ℕ) (roots : Roots) (frames : Frames) : Type 0 where
-  pub rows : 3 * maxNodes ≤ length w
+  pub rows : 4 * maxNodes ≤ length w
   pub short : length s ≤ maxBytes
   pub rooted : Rooted (sheetIn s) s (table w) roots
   pub linked : Linked s (table w)

@@ -32,9 +32,9 @@ unfoldable pub table : List ℕ → List ℕ
 unfolding unmarked
 table w = take (3 * maxNodes) w ++ unmarked (take maxNodes (drop (3 * maxNodes) w))
 
--- a row's words can be read
+-- a row's words and its link can be read
 pub record Room (w : List ℕ) (n : ℕ) : Type 0 where
-  pub rows : 3 * maxNodes ≤ length w
+  pub rows : 4 * maxNodes ≤ length w
   pub node : n < maxNodes
 
 -- the value at a node as evaluation sees it, the elements of an array, and the members of an object

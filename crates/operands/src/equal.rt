@@ -5,7 +5,6 @@ use crate::frames::Frames;
 use crate::operand::Operand;
 use crate::roots::Roots;
 ghost use mathlib.Core.Path.{_≡_};
-ghost use Prim.Native.Nat.{_≤_};
 ghost use Rattle.operands.specs.Comparing.{alike};
 ghost use Rattle.operands.specs.Layered.{alikeNodes, kids, partAt};
 ghost use Rattle.operands.specs.Matched.{Paired};
@@ -57,8 +56,8 @@ fn equal_parts(
     let mut x = Children::of(work, a.node, named);
     let mut y = Children::of(work, b.node, named);
     loop {
-        match x.next(s, work) {
-            Child::End => match y.next(s, work) {
+        match x.next(work) {
+            Child::End => match y.next(work) {
                 Child::End => {
                     return true;
                 }
@@ -66,7 +65,7 @@ fn equal_parts(
                     return false;
                 }
             },
-            Child::Is(p) => match y.next(s, work) {
+            Child::Is(p) => match y.next(work) {
                 Child::End => {
                     return false;
                 }

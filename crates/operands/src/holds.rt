@@ -10,6 +10,7 @@ ghost use mathlib.Core.Path.{_≡_};
 ghost use Prim.Native.Nat.{_≤_};
 ghost use Rattle.reader.specs.Bytes.{isOneOf};
 ghost use Rattle.reader.specs.Cursor.{OnText};
+ghost use Rattle.reader.specs.Links.{Linked};
 ghost use Rattle.reader.specs.Spans.{textAt};
 ghost use Rattle.sheet.specs.Answers.{formOf};
 ghost use Rattle.sheet.specs.Condition.{contains, isIn};
@@ -43,7 +44,7 @@ fn is_element(
 {
     let mut c = Children::of(work, whole.node, false);
     loop {
-        match c.next(s, work) {
+        match c.next(work) {
             Child::End => {
                 return false;
             }
@@ -60,12 +61,12 @@ fn is_element(
 
 // Whether a text is the name of a member.
 fn has_key(s: &[u8], work: &[u32], node: usize, key: usize) -> bool
-    requires { ⌜ Room (now work) 0 × OnText (now s) key 0 × Holds (now s) (table (now work)) true node ⌝ }
+    requires { ⌜ Room (now work) 0 × OnText (now s) key 0 × Holds (now s) (table (now work)) true node × Linked (now s) (table (now work)) ⌝ }
     ensures { λ r. ⌜ r ≡ isOneOf (textAt (now (s .entry)) key) (namesOf (now (s .entry)) (table (now (work .entry))) (kids (now (s .entry)) (table (now (work .entry))) node true)) ⌝ }
 {
     let mut c = Children::of(work, node, true);
     loop {
-        match c.next(s, work) {
+        match c.next(work) {
             Child::End => {
                 return false;
             }

@@ -187,7 +187,7 @@ fn resolve_parts(
     let mut whole = true;
     let mut c = Children::of(work, node, named);
     loop {
-        match c.next(s, work) {
+        match c.next(work) {
             Child::End => {
                 return gathered(node, frames.depth, named, whole);
             }

@@ -1,5 +1,6 @@
-// Words of a node's row. The rows stand before the marks, so marking changes none of them.
+// Words of a node's row, and its link. Marking changes none of them.
 ghost use mathlib.Core.Path.{_≡_};
+ghost use Rattle.reader.specs.Links.{linkAt};
 ghost use Rattle.reader.specs.Table.{afterAt, endAt, kindAt, startAt};
 ghost use Rattle.operands.specs.Stored.{Room, table};
 
@@ -30,4 +31,11 @@ pub fn after_at(work: &[u32], node: usize) -> usize
     ensures { λ r. ⌜ r ≡ afterAt (table (now (work .entry))) node ⌝ }
 {
     reader::rows::after_at(work, node)
+}
+
+pub fn link_at(work: &[u32], node: usize) -> usize
+    requires { ⌜ Room (now work) node ⌝ }
+    ensures { λ r. ⌜ r ≡ linkAt (table (now (work .entry))) node ⌝ }
+{
+    (work[12288 + node] / 2) as usize
 }

@@ -24,7 +24,8 @@ use Rattle.operands.specs.Comparing.{alike}
 use Rattle.operands.specs.Layered.{alikeNodes, kids, partAt}
 use Rattle.operands.specs.Rooted.{sheetIn}
 use Rattle.operands.specs.Stored.{framesOf, table}
-use Rattle.operands.proofs.Alike.{Comparing, begin-room, both-end, child-end, child-given, equal-apart, equal-leaves, equal-none, equal-paired, equal-whole, first-child, first-ends, names-differ, parts-differ, parts-same, second-child, second-ends, value-there, walk-begins, walk-named}
+use Rattle.operands.proofs.Alike.{Comparing, begin-room, both-end, compare-begins, equal-apart, equal-leaves, equal-none, equal-paired, equal-whole, first-child, first-ends, names-differ, parts-differ, parts-same, second-child, second-ends, value-there}
+use Rattle.operands.proofs.Ordered.{child-end, child-given}
 use Rattle.operands.proofs.Slices.{layer-falls, one-less, part-falls}
 use borrow.Author.Needs.{needs}
 use native.Mathlib.Omega.{arith}
@@ -96,79 +97,73 @@ equal-parts-of-requires-2 : (t : ℕ) → equal-parts-lts.Need-of-requires-2 (eq
 equal-parts-of-requires-2 t c κs = begin-room (c .before .before .before .args .s .now) (c .before .before .before .args .work .now) (c .before .before .before .args .named) (c .before .before .before .pre .1 .0 .rows) (c .before .before .before .pre .1 .1 .second)
 
 equal-parts-loop-holds : (t : ℕ) → equal-parts-lts.Need-loop-holds (equal-parts-claims t) (equal-parts-at t) equal-parts.Post equal-parts-Inv-loop equal-parts-μ-loop
-equal-parts-loop-holds t c = record {
-  rest = rw (c .before .of .ensures, c .of2 .ensures);
-  first = walk-begins (c .before .before .before .before .args .s .now) (table (c .before .before .before .before .args .work .now)) (c .before .before .before .before .args .named) (c .before .before .before .before .args .a .node) (c .before .before .before .before .pre .1 .1 .first) _ (c .before .of .ensures);
-  second = walk-begins (c .before .before .before .before .args .s .now) (table (c .before .before .before .before .args .work .now)) (c .before .before .before .before .args .named) (c .before .before .before .before .args .b .node) (c .before .before .before .before .pre .1 .1 .second) _ (c .of2 .ensures);
-  names = walk-named (c .before .before .before .before .args .s .now) (table (c .before .before .before .before .args .work .now)) (c .before .before .before .before .args .named) (c .before .before .before .before .args .a .node) (c .before .before .before .before .pre .1 .1 .first) _ (c .before .of .ensures);
-  others = walk-named (c .before .before .before .before .args .s .now) (table (c .before .before .before .before .args .work .now)) (c .before .before .before .before .args .named) (c .before .before .before .before .args .b .node) (c .before .before .before .before .pre .1 .1 .second) _ (c .of2 .ensures);
-}
+equal-parts-loop-holds t c = compare-begins (c .before .before .before .before .pre .1 .1) (c .before .before .before .before .pre .1 .0 .linked) (c .before .of .ensures) (c .of2 .ensures)
 
 equal-parts-next-requires : (t : ℕ) → equal-parts-lts.Need-next-requires (equal-parts-claims t) (equal-parts-at t) equal-parts.Post equal-parts-Inv-loop equal-parts-μ-loop
-equal-parts-next-requires t c κs = (record { rows = c .before .before .before .before .before .pre .1 .0 .rows; node = omega arith }, c .loop .inv .first)
+equal-parts-next-requires t c κs = (record { rows = c .before .before .before .before .before .pre .1 .0 .rows; node = omega arith }, c .loop .inv .first .within)
 
 equal-parts-enum-told : (t : ℕ) → equal-parts-lts.Need-enum-told (equal-parts-claims t) (equal-parts-at t) equal-parts.Post equal-parts-Inv-loop equal-parts-μ-loop
 equal-parts-enum-told t c = search needs
 
 equal-parts-next-requires-2 : (t : ℕ) → equal-parts-lts.Need-next-requires-2 (equal-parts-claims t) (equal-parts-at t) equal-parts.Post equal-parts-Inv-loop equal-parts-μ-loop
-equal-parts-next-requires-2 t c κs = (record { rows = c .before .before .before .before .before .before .before .before .pre .1 .0 .rows; node = omega arith }, c .before .before .before .loop .inv .second)
+equal-parts-next-requires-2 t c κs = (record { rows = c .before .before .before .before .before .before .before .before .pre .1 .0 .rows; node = omega arith }, c .before .before .before .loop .inv .second .within)
 
 equal-parts-enum-told-2 : (t : ℕ) → equal-parts-lts.Need-enum-told-2 (equal-parts-claims t) (equal-parts-at t) equal-parts.Post equal-parts-Inv-loop equal-parts-μ-loop
 equal-parts-enum-told-2 t c = search needs
 
 equal-parts-returns : (t : ℕ) → equal-parts-lts.Need-returns (equal-parts-claims t) (equal-parts-at t) equal-parts.Post equal-parts-Inv-loop equal-parts-μ-loop
-equal-parts-returns t c = both-end (c .before .before .before .before .before .before .before .before .before .before .before .args .s .now) (table (c .before .before .before .before .before .before .before .before .before .before .before .args .work .now)) (alike (sheetIn (c .before .before .before .before .before .before .before .before .before .before .before .args .s .now)) (c .before .before .before .before .before .before .before .before .before .before .before .args .left) (framesOf (c .before .before .before .before .before .before .before .before .before .before .before .args .s .now) (table (c .before .before .before .before .before .before .before .before .before .before .before .args .work .now)) (c .before .before .before .before .before .before .before .before .before .before .before .args .frames))) (c .before .before .before .before .before .before .before .before .before .before .before .args .named) (partAt (sheetIn (c .before .before .before .before .before .before .before .before .before .before .before .args .s .now)) (c .before .before .before .before .before .before .before .before .before .before .before .args .s .now) (table (c .before .before .before .before .before .before .before .before .before .before .before .args .work .now)) (framesOf (c .before .before .before .before .before .before .before .before .before .before .before .args .s .now) (table (c .before .before .before .before .before .before .before .before .before .before .before .args .work .now)) (c .before .before .before .before .before .before .before .before .before .before .before .args .frames)) (c .before .before .before .before .before .before .before .before .before .before .before .args .a)) (partAt (sheetIn (c .before .before .before .before .before .before .before .before .before .before .before .args .s .now)) (c .before .before .before .before .before .before .before .before .before .before .before .args .s .now) (table (c .before .before .before .before .before .before .before .before .before .before .before .args .work .now)) (framesOf (c .before .before .before .before .before .before .before .before .before .before .before .args .s .now) (table (c .before .before .before .before .before .before .before .before .before .before .before .args .work .now)) (c .before .before .before .before .before .before .before .before .before .before .before .args .frames)) (c .before .before .before .before .before .before .before .before .before .before .before .args .b)) _ (c .before .before .before .before .before .before .loop .inv) (child-end (c .before .before .before .before .before .before .before .before .before .before .before .args .s .now) (table (c .before .before .before .before .before .before .before .before .before .before .before .args .work .now)) (c .before .before .before .before .before .before .loop .x) (c .before .before .before .before .before .next .ensures) (c .before .before .before .enum-told .given .1)) (child-end (c .before .before .before .before .before .before .before .before .before .before .before .args .s .now) (table (c .before .before .before .before .before .before .before .before .before .before .before .args .work .now)) (c .before .before .before .before .before .before .loop .y) (c .before .before .next2 .ensures) (c .enum-told2 .given .1))
+equal-parts-returns t c = both-end (c .before .before .before .before .before .before .before .before .before .before .before .args .s .now) (table (c .before .before .before .before .before .before .before .before .before .before .before .args .work .now)) (alike (sheetIn (c .before .before .before .before .before .before .before .before .before .before .before .args .s .now)) (c .before .before .before .before .before .before .before .before .before .before .before .args .left) (framesOf (c .before .before .before .before .before .before .before .before .before .before .before .args .s .now) (table (c .before .before .before .before .before .before .before .before .before .before .before .args .work .now)) (c .before .before .before .before .before .before .before .before .before .before .before .args .frames))) (c .before .before .before .before .before .before .before .before .before .before .before .args .named) (partAt (sheetIn (c .before .before .before .before .before .before .before .before .before .before .before .args .s .now)) (c .before .before .before .before .before .before .before .before .before .before .before .args .s .now) (table (c .before .before .before .before .before .before .before .before .before .before .before .args .work .now)) (framesOf (c .before .before .before .before .before .before .before .before .before .before .before .args .s .now) (table (c .before .before .before .before .before .before .before .before .before .before .before .args .work .now)) (c .before .before .before .before .before .before .before .before .before .before .before .args .frames)) (c .before .before .before .before .before .before .before .before .before .before .before .args .a)) (partAt (sheetIn (c .before .before .before .before .before .before .before .before .before .before .before .args .s .now)) (c .before .before .before .before .before .before .before .before .before .before .before .args .s .now) (table (c .before .before .before .before .before .before .before .before .before .before .before .args .work .now)) (framesOf (c .before .before .before .before .before .before .before .before .before .before .before .args .s .now) (table (c .before .before .before .before .before .before .before .before .before .before .before .args .work .now)) (c .before .before .before .before .before .before .before .before .before .before .before .args .frames)) (c .before .before .before .before .before .before .before .before .before .before .before .args .b)) _ (c .before .before .before .before .before .before .loop .inv) (child-end (c .before .before .before .before .before .before .loop .inv .first) (c .before .before .before .before .before .next .ensures) (c .before .before .before .enum-told .given .1)) (child-end (c .before .before .before .before .before .before .loop .inv .second) (c .before .before .next2 .ensures) (c .enum-told2 .given .1))
 
 equal-parts-enum-known--q : (t : ℕ) → equal-parts-lts.Need-enum-known--q (equal-parts-claims t) (equal-parts-at t) equal-parts.Post equal-parts-Inv-loop equal-parts-μ-loop
 equal-parts-enum-known--q t c = search needs
 
 equal-parts-returns-2 : (t : ℕ) → equal-parts-lts.Need-returns-2 (equal-parts-claims t) (equal-parts-at t) equal-parts.Post equal-parts-Inv-loop equal-parts-μ-loop
-equal-parts-returns-2 t c = first-ends (c .before .before .before .before .before .before .before .before .before .before .before .before .args .s .now) (table (c .before .before .before .before .before .before .before .before .before .before .before .before .args .work .now)) (alike (sheetIn (c .before .before .before .before .before .before .before .before .before .before .before .before .args .s .now)) (c .before .before .before .before .before .before .before .before .before .before .before .before .args .left) (framesOf (c .before .before .before .before .before .before .before .before .before .before .before .before .args .s .now) (table (c .before .before .before .before .before .before .before .before .before .before .before .before .args .work .now)) (c .before .before .before .before .before .before .before .before .before .before .before .before .args .frames))) (c .before .before .before .before .before .before .before .before .before .before .before .before .args .named) (partAt (sheetIn (c .before .before .before .before .before .before .before .before .before .before .before .before .args .s .now)) (c .before .before .before .before .before .before .before .before .before .before .before .before .args .s .now) (table (c .before .before .before .before .before .before .before .before .before .before .before .before .args .work .now)) (framesOf (c .before .before .before .before .before .before .before .before .before .before .before .before .args .s .now) (table (c .before .before .before .before .before .before .before .before .before .before .before .before .args .work .now)) (c .before .before .before .before .before .before .before .before .before .before .before .before .args .frames)) (c .before .before .before .before .before .before .before .before .before .before .before .before .args .a)) (partAt (sheetIn (c .before .before .before .before .before .before .before .before .before .before .before .before .args .s .now)) (c .before .before .before .before .before .before .before .before .before .before .before .before .args .s .now) (table (c .before .before .before .before .before .before .before .before .before .before .before .before .args .work .now)) (framesOf (c .before .before .before .before .before .before .before .before .before .before .before .before .args .s .now) (table (c .before .before .before .before .before .before .before .before .before .before .before .before .args .work .now)) (c .before .before .before .before .before .before .before .before .before .before .before .before .args .frames)) (c .before .before .before .before .before .before .before .before .before .before .before .before .args .b)) _ (c .before .before .before .before .before .before .before .loop .inv) (child-end (c .before .before .before .before .before .before .before .before .before .before .before .before .args .s .now) (table (c .before .before .before .before .before .before .before .before .before .before .before .before .args .work .now)) (c .before .before .before .before .before .before .before .loop .x) (c .before .before .before .before .before .before .next .ensures) (c .before .before .before .before .enum-told .given .1)) (child-given (c .before .before .before .before .before .before .before .before .before .before .before .before .args .s .now) (table (c .before .before .before .before .before .before .before .before .before .before .before .before .args .work .now)) (c .before .before .before .before .before .before .before .loop .y) (c .before .before .before .next2 .ensures) (c .before .-q .given .0 .0) (c .before .-q .given .1))
+equal-parts-returns-2 t c = first-ends (c .before .before .before .before .before .before .before .before .before .before .before .before .args .s .now) (table (c .before .before .before .before .before .before .before .before .before .before .before .before .args .work .now)) (alike (sheetIn (c .before .before .before .before .before .before .before .before .before .before .before .before .args .s .now)) (c .before .before .before .before .before .before .before .before .before .before .before .before .args .left) (framesOf (c .before .before .before .before .before .before .before .before .before .before .before .before .args .s .now) (table (c .before .before .before .before .before .before .before .before .before .before .before .before .args .work .now)) (c .before .before .before .before .before .before .before .before .before .before .before .before .args .frames))) (c .before .before .before .before .before .before .before .before .before .before .before .before .args .named) (partAt (sheetIn (c .before .before .before .before .before .before .before .before .before .before .before .before .args .s .now)) (c .before .before .before .before .before .before .before .before .before .before .before .before .args .s .now) (table (c .before .before .before .before .before .before .before .before .before .before .before .before .args .work .now)) (framesOf (c .before .before .before .before .before .before .before .before .before .before .before .before .args .s .now) (table (c .before .before .before .before .before .before .before .before .before .before .before .before .args .work .now)) (c .before .before .before .before .before .before .before .before .before .before .before .before .args .frames)) (c .before .before .before .before .before .before .before .before .before .before .before .before .args .a)) (partAt (sheetIn (c .before .before .before .before .before .before .before .before .before .before .before .before .args .s .now)) (c .before .before .before .before .before .before .before .before .before .before .before .before .args .s .now) (table (c .before .before .before .before .before .before .before .before .before .before .before .before .args .work .now)) (framesOf (c .before .before .before .before .before .before .before .before .before .before .before .before .args .s .now) (table (c .before .before .before .before .before .before .before .before .before .before .before .before .args .work .now)) (c .before .before .before .before .before .before .before .before .before .before .before .before .args .frames)) (c .before .before .before .before .before .before .before .before .before .before .before .before .args .b)) _ (c .before .before .before .before .before .before .before .loop .inv) (child-end (c .before .before .before .before .before .before .before .loop .inv .first) (c .before .before .before .before .before .before .next .ensures) (c .before .before .before .before .enum-told .given .1)) (child-given (c .before .before .before .before .before .before .before .loop .inv .second) (c .before .before .before .next2 .ensures) (c .before .-q .given .0 .0) (c .before .-q .given .1))
 
 equal-parts-enum-known-p : (t : ℕ) → equal-parts-lts.Need-enum-known-p (equal-parts-claims t) (equal-parts-at t) equal-parts.Post equal-parts-Inv-loop equal-parts-μ-loop
 equal-parts-enum-known-p t c = search needs
 
 equal-parts-next-requires-3 : (t : ℕ) → equal-parts-lts.Need-next-requires-3 (equal-parts-claims t) (equal-parts-at t) equal-parts.Post equal-parts-Inv-loop equal-parts-μ-loop
-equal-parts-next-requires-3 t c κs = (record { rows = c .before .before .before .before .before .before .before .before .before .pre .1 .0 .rows; node = omega arith }, c .before .before .before .before .loop .inv .second)
+equal-parts-next-requires-3 t c κs = (record { rows = c .before .before .before .before .before .before .before .before .before .pre .1 .0 .rows; node = omega arith }, c .before .before .before .before .loop .inv .second .within)
 
 equal-parts-enum-told-3 : (t : ℕ) → equal-parts-lts.Need-enum-told-3 (equal-parts-claims t) (equal-parts-at t) equal-parts.Post equal-parts-Inv-loop equal-parts-μ-loop
 equal-parts-enum-told-3 t c = search needs
 
 equal-parts-returns-3 : (t : ℕ) → equal-parts-lts.Need-returns-3 (equal-parts-claims t) (equal-parts-at t) equal-parts.Post equal-parts-Inv-loop equal-parts-μ-loop
-equal-parts-returns-3 t c = second-ends (c .before .before .before .before .before .before .before .before .before .before .before .before .args .s .now) (table (c .before .before .before .before .before .before .before .before .before .before .before .before .args .work .now)) (alike (sheetIn (c .before .before .before .before .before .before .before .before .before .before .before .before .args .s .now)) (c .before .before .before .before .before .before .before .before .before .before .before .before .args .left) (framesOf (c .before .before .before .before .before .before .before .before .before .before .before .before .args .s .now) (table (c .before .before .before .before .before .before .before .before .before .before .before .before .args .work .now)) (c .before .before .before .before .before .before .before .before .before .before .before .before .args .frames))) (c .before .before .before .before .before .before .before .before .before .before .before .before .args .named) (partAt (sheetIn (c .before .before .before .before .before .before .before .before .before .before .before .before .args .s .now)) (c .before .before .before .before .before .before .before .before .before .before .before .before .args .s .now) (table (c .before .before .before .before .before .before .before .before .before .before .before .before .args .work .now)) (framesOf (c .before .before .before .before .before .before .before .before .before .before .before .before .args .s .now) (table (c .before .before .before .before .before .before .before .before .before .before .before .before .args .work .now)) (c .before .before .before .before .before .before .before .before .before .before .before .before .args .frames)) (c .before .before .before .before .before .before .before .before .before .before .before .before .args .a)) (partAt (sheetIn (c .before .before .before .before .before .before .before .before .before .before .before .before .args .s .now)) (c .before .before .before .before .before .before .before .before .before .before .before .before .args .s .now) (table (c .before .before .before .before .before .before .before .before .before .before .before .before .args .work .now)) (framesOf (c .before .before .before .before .before .before .before .before .before .before .before .before .args .s .now) (table (c .before .before .before .before .before .before .before .before .before .before .before .before .args .work .now)) (c .before .before .before .before .before .before .before .before .before .before .before .before .args .frames)) (c .before .before .before .before .before .before .before .before .before .before .before .before .args .b)) _ (c .before .before .before .before .before .before .before .loop .inv) (child-given (c .before .before .before .before .before .before .before .before .before .before .before .before .args .s .now) (table (c .before .before .before .before .before .before .before .before .before .before .before .before .args .work .now)) (c .before .before .before .before .before .before .before .loop .x) (c .before .before .before .before .before .before .next .ensures) (c .before .before .before .before .p .given .0 .0) (c .before .before .before .before .p .given .1)) (child-end (c .before .before .before .before .before .before .before .before .before .before .before .before .args .s .now) (table (c .before .before .before .before .before .before .before .before .before .before .before .before .args .work .now)) (c .before .before .before .before .before .before .before .loop .y) (c .before .before .next3 .ensures) (c .enum-told3 .given .1))
+equal-parts-returns-3 t c = second-ends (c .before .before .before .before .before .before .before .before .before .before .before .before .args .s .now) (table (c .before .before .before .before .before .before .before .before .before .before .before .before .args .work .now)) (alike (sheetIn (c .before .before .before .before .before .before .before .before .before .before .before .before .args .s .now)) (c .before .before .before .before .before .before .before .before .before .before .before .before .args .left) (framesOf (c .before .before .before .before .before .before .before .before .before .before .before .before .args .s .now) (table (c .before .before .before .before .before .before .before .before .before .before .before .before .args .work .now)) (c .before .before .before .before .before .before .before .before .before .before .before .before .args .frames))) (c .before .before .before .before .before .before .before .before .before .before .before .before .args .named) (partAt (sheetIn (c .before .before .before .before .before .before .before .before .before .before .before .before .args .s .now)) (c .before .before .before .before .before .before .before .before .before .before .before .before .args .s .now) (table (c .before .before .before .before .before .before .before .before .before .before .before .before .args .work .now)) (framesOf (c .before .before .before .before .before .before .before .before .before .before .before .before .args .s .now) (table (c .before .before .before .before .before .before .before .before .before .before .before .before .args .work .now)) (c .before .before .before .before .before .before .before .before .before .before .before .before .args .frames)) (c .before .before .before .before .before .before .before .before .before .before .before .before .args .a)) (partAt (sheetIn (c .before .before .before .before .before .before .before .before .before .before .before .before .args .s .now)) (c .before .before .before .before .before .before .before .before .before .before .before .before .args .s .now) (table (c .before .before .before .before .before .before .before .before .before .before .before .before .args .work .now)) (framesOf (c .before .before .before .before .before .before .before .before .before .before .before .before .args .s .now) (table (c .before .before .before .before .before .before .before .before .before .before .before .before .args .work .now)) (c .before .before .before .before .before .before .before .before .before .before .before .before .args .frames)) (c .before .before .before .before .before .before .before .before .before .before .before .before .args .b)) _ (c .before .before .before .before .before .before .before .loop .inv) (child-given (c .before .before .before .before .before .before .before .loop .inv .first) (c .before .before .before .before .before .before .next .ensures) (c .before .before .before .before .p .given .0 .0) (c .before .before .before .before .p .given .1)) (child-end (c .before .before .before .before .before .before .before .loop .inv .second) (c .before .before .next3 .ensures) (c .enum-told3 .given .1))
 
 equal-parts-enum-known-q : (t : ℕ) → equal-parts-lts.Need-enum-known-q (equal-parts-claims t) (equal-parts-at t) equal-parts.Post equal-parts-Inv-loop equal-parts-μ-loop
 equal-parts-enum-known-q t c = search needs
 
 equal-parts-names-agree-requires : (t : ℕ) → equal-parts-lts.Need-names-agree-requires (equal-parts-claims t) (equal-parts-at t) equal-parts.Post equal-parts-Inv-loop equal-parts-μ-loop
-equal-parts-names-agree-requires t c κs = (record { rows = c .before .before .before .before .before .before .before .before .before .before .before .before .before .pre .1 .0 .rows; node = omega arith }, first-child (c .before .before .before .before .before .before .before .before .before .before .before .before .before .args .s .now) (table (c .before .before .before .before .before .before .before .before .before .before .before .before .before .args .work .now)) (alike (sheetIn (c .before .before .before .before .before .before .before .before .before .before .before .before .before .args .s .now)) (c .before .before .before .before .before .before .before .before .before .before .before .before .before .args .left) (framesOf (c .before .before .before .before .before .before .before .before .before .before .before .before .before .args .s .now) (table (c .before .before .before .before .before .before .before .before .before .before .before .before .before .args .work .now)) (c .before .before .before .before .before .before .before .before .before .before .before .before .before .args .frames))) (c .before .before .before .before .before .before .before .before .before .before .before .before .before .args .named) (partAt (sheetIn (c .before .before .before .before .before .before .before .before .before .before .before .before .before .args .s .now)) (c .before .before .before .before .before .before .before .before .before .before .before .before .before .args .s .now) (table (c .before .before .before .before .before .before .before .before .before .before .before .before .before .args .work .now)) (framesOf (c .before .before .before .before .before .before .before .before .before .before .before .before .before .args .s .now) (table (c .before .before .before .before .before .before .before .before .before .before .before .before .before .args .work .now)) (c .before .before .before .before .before .before .before .before .before .before .before .before .before .args .frames)) (c .before .before .before .before .before .before .before .before .before .before .before .before .before .args .a)) (partAt (sheetIn (c .before .before .before .before .before .before .before .before .before .before .before .before .before .args .s .now)) (c .before .before .before .before .before .before .before .before .before .before .before .before .before .args .s .now) (table (c .before .before .before .before .before .before .before .before .before .before .before .before .before .args .work .now)) (framesOf (c .before .before .before .before .before .before .before .before .before .before .before .before .before .args .s .now) (table (c .before .before .before .before .before .before .before .before .before .before .before .before .before .args .work .now)) (c .before .before .before .before .before .before .before .before .before .before .before .before .before .args .frames)) (c .before .before .before .before .before .before .before .before .before .before .before .before .before .args .b)) _ (c .before .before .before .before .before .before .before .before .loop .inv) (child-given (c .before .before .before .before .before .before .before .before .before .before .before .before .before .args .s .now) (table (c .before .before .before .before .before .before .before .before .before .before .before .before .before .args .work .now)) (c .before .before .before .before .before .before .before .before .loop .x) (c .before .before .before .before .before .before .before .next .ensures) (c .before .before .before .before .before .p .given .0 .0) (c .before .before .before .before .before .p .given .1)) (child-given (c .before .before .before .before .before .before .before .before .before .before .before .before .before .args .s .now) (table (c .before .before .before .before .before .before .before .before .before .before .before .before .before .args .work .now)) (c .before .before .before .before .before .before .before .before .loop .y) (c .before .before .before .next3 .ensures) (c .before .q .given .0 .0) (c .before .q .given .1)), second-child (c .before .before .before .before .before .before .before .before .before .before .before .before .before .args .s .now) (table (c .before .before .before .before .before .before .before .before .before .before .before .before .before .args .work .now)) (alike (sheetIn (c .before .before .before .before .before .before .before .before .before .before .before .before .before .args .s .now)) (c .before .before .before .before .before .before .before .before .before .before .before .before .before .args .left) (framesOf (c .before .before .before .before .before .before .before .before .before .before .before .before .before .args .s .now) (table (c .before .before .before .before .before .before .before .before .before .before .before .before .before .args .work .now)) (c .before .before .before .before .before .before .before .before .before .before .before .before .before .args .frames))) (c .before .before .before .before .before .before .before .before .before .before .before .before .before .args .named) (partAt (sheetIn (c .before .before .before .before .before .before .before .before .before .before .before .before .before .args .s .now)) (c .before .before .before .before .before .before .before .before .before .before .before .before .before .args .s .now) (table (c .before .before .before .before .before .before .before .before .before .before .before .before .before .args .work .now)) (framesOf (c .before .before .before .before .before .before .before .before .before .before .before .before .before .args .s .now) (table (c .before .before .before .before .before .before .before .before .before .before .before .before .before .args .work .now)) (c .before .before .before .before .before .before .before .before .before .before .before .before .before .args .frames)) (c .before .before .before .before .before .before .before .before .before .before .before .before .before .args .a)) (partAt (sheetIn (c .before .before .before .before .before .before .before .before .before .before .before .before .before .args .s .now)) (c .before .before .before .before .before .before .before .before .before .before .before .before .before .args .s .now) (table (c .before .before .before .before .before .before .before .before .before .before .before .before .before .args .work .now)) (framesOf (c .before .before .before .before .before .before .before .before .before .before .before .before .before .args .s .now) (table (c .before .before .before .before .before .before .before .before .before .before .before .before .before .args .work .now)) (c .before .before .before .before .before .before .before .before .before .before .before .before .before .args .frames)) (c .before .before .before .before .before .before .before .before .before .before .before .before .before .args .b)) _ (c .before .before .before .before .before .before .before .before .loop .inv) (child-given (c .before .before .before .before .before .before .before .before .before .before .before .before .before .args .s .now) (table (c .before .before .before .before .before .before .before .before .before .before .before .before .before .args .work .now)) (c .before .before .before .before .before .before .before .before .loop .x) (c .before .before .before .before .before .before .before .next .ensures) (c .before .before .before .before .before .p .given .0 .0) (c .before .before .before .before .before .p .given .1)) (child-given (c .before .before .before .before .before .before .before .before .before .before .before .before .before .args .s .now) (table (c .before .before .before .before .before .before .before .before .before .before .before .before .before .args .work .now)) (c .before .before .before .before .before .before .before .before .loop .y) (c .before .before .before .next3 .ensures) (c .before .q .given .0 .0) (c .before .q .given .1)))
+equal-parts-names-agree-requires t c κs = (record { rows = c .before .before .before .before .before .before .before .before .before .before .before .before .before .pre .1 .0 .rows; node = omega arith }, first-child (c .before .before .before .before .before .before .before .before .before .before .before .before .before .args .s .now) (table (c .before .before .before .before .before .before .before .before .before .before .before .before .before .args .work .now)) (alike (sheetIn (c .before .before .before .before .before .before .before .before .before .before .before .before .before .args .s .now)) (c .before .before .before .before .before .before .before .before .before .before .before .before .before .args .left) (framesOf (c .before .before .before .before .before .before .before .before .before .before .before .before .before .args .s .now) (table (c .before .before .before .before .before .before .before .before .before .before .before .before .before .args .work .now)) (c .before .before .before .before .before .before .before .before .before .before .before .before .before .args .frames))) (c .before .before .before .before .before .before .before .before .before .before .before .before .before .args .named) (partAt (sheetIn (c .before .before .before .before .before .before .before .before .before .before .before .before .before .args .s .now)) (c .before .before .before .before .before .before .before .before .before .before .before .before .before .args .s .now) (table (c .before .before .before .before .before .before .before .before .before .before .before .before .before .args .work .now)) (framesOf (c .before .before .before .before .before .before .before .before .before .before .before .before .before .args .s .now) (table (c .before .before .before .before .before .before .before .before .before .before .before .before .before .args .work .now)) (c .before .before .before .before .before .before .before .before .before .before .before .before .before .args .frames)) (c .before .before .before .before .before .before .before .before .before .before .before .before .before .args .a)) (partAt (sheetIn (c .before .before .before .before .before .before .before .before .before .before .before .before .before .args .s .now)) (c .before .before .before .before .before .before .before .before .before .before .before .before .before .args .s .now) (table (c .before .before .before .before .before .before .before .before .before .before .before .before .before .args .work .now)) (framesOf (c .before .before .before .before .before .before .before .before .before .before .before .before .before .args .s .now) (table (c .before .before .before .before .before .before .before .before .before .before .before .before .before .args .work .now)) (c .before .before .before .before .before .before .before .before .before .before .before .before .before .args .frames)) (c .before .before .before .before .before .before .before .before .before .before .before .before .before .args .b)) _ (c .before .before .before .before .before .before .before .before .loop .inv) (child-given (c .before .before .before .before .before .before .before .before .loop .inv .first) (c .before .before .before .before .before .before .before .next .ensures) (c .before .before .before .before .before .p .given .0 .0) (c .before .before .before .before .before .p .given .1)) (child-given (c .before .before .before .before .before .before .before .before .loop .inv .second) (c .before .before .before .next3 .ensures) (c .before .q .given .0 .0) (c .before .q .given .1)), second-child (c .before .before .before .before .before .before .before .before .before .before .before .before .before .args .s .now) (table (c .before .before .before .before .before .before .before .before .before .before .before .before .before .args .work .now)) (alike (sheetIn (c .before .before .before .before .before .before .before .before .before .before .before .before .before .args .s .now)) (c .before .before .before .before .before .before .before .before .before .before .before .before .before .args .left) (framesOf (c .before .before .before .before .before .before .before .before .before .before .before .before .before .args .s .now) (table (c .before .before .before .before .before .before .before .before .before .before .before .before .before .args .work .now)) (c .before .before .before .before .before .before .before .before .before .before .before .before .before .args .frames))) (c .before .before .before .before .before .before .before .before .before .before .before .before .before .args .named) (partAt (sheetIn (c .before .before .before .before .before .before .before .before .before .before .before .before .before .args .s .now)) (c .before .before .before .before .before .before .before .before .before .before .before .before .before .args .s .now) (table (c .before .before .before .before .before .before .before .before .before .before .before .before .before .args .work .now)) (framesOf (c .before .before .before .before .before .before .before .before .before .before .before .before .before .args .s .now) (table (c .before .before .before .before .before .before .before .before .before .before .before .before .before .args .work .now)) (c .before .before .before .before .before .before .before .before .before .before .before .before .before .args .frames)) (c .before .before .before .before .before .before .before .before .before .before .before .before .before .args .a)) (partAt (sheetIn (c .before .before .before .before .before .before .before .before .before .before .before .before .before .args .s .now)) (c .before .before .before .before .before .before .before .before .before .before .before .before .before .args .s .now) (table (c .before .before .before .before .before .before .before .before .before .before .before .before .before .args .work .now)) (framesOf (c .before .before .before .before .before .before .before .before .before .before .before .before .before .args .s .now) (table (c .before .before .before .before .before .before .before .before .before .before .before .before .before .args .work .now)) (c .before .before .before .before .before .before .before .before .before .before .before .before .before .args .frames)) (c .before .before .before .before .before .before .before .before .before .before .before .before .before .args .b)) _ (c .before .before .before .before .before .before .before .before .loop .inv) (child-given (c .before .before .before .before .before .before .before .before .loop .inv .first) (c .before .before .before .before .before .before .before .next .ensures) (c .before .before .before .before .before .p .given .0 .0) (c .before .before .before .before .before .p .given .1)) (child-given (c .before .before .before .before .before .before .before .before .loop .inv .second) (c .before .before .before .next3 .ensures) (c .before .q .given .0 .0) (c .before .q .given .1)))
 
 equal-parts-returns-4 : (t : ℕ) → equal-parts-lts.Need-returns-4 (equal-parts-claims t) (equal-parts-at t) equal-parts.Post equal-parts-Inv-loop equal-parts-μ-loop
-equal-parts-returns-4 t c = names-differ (c .before .before .before .before .before .before .before .before .before .before .before .before .before .before .before .args .s .now) (table (c .before .before .before .before .before .before .before .before .before .before .before .before .before .before .before .args .work .now)) (alike (sheetIn (c .before .before .before .before .before .before .before .before .before .before .before .before .before .before .before .args .s .now)) (c .before .before .before .before .before .before .before .before .before .before .before .before .before .before .before .args .left) (framesOf (c .before .before .before .before .before .before .before .before .before .before .before .before .before .before .before .args .s .now) (table (c .before .before .before .before .before .before .before .before .before .before .before .before .before .before .before .args .work .now)) (c .before .before .before .before .before .before .before .before .before .before .before .before .before .before .before .args .frames))) (c .before .before .before .before .before .before .before .before .before .before .before .before .before .before .before .args .named) (partAt (sheetIn (c .before .before .before .before .before .before .before .before .before .before .before .before .before .before .before .args .s .now)) (c .before .before .before .before .before .before .before .before .before .before .before .before .before .before .before .args .s .now) (table (c .before .before .before .before .before .before .before .before .before .before .before .before .before .before .before .args .work .now)) (framesOf (c .before .before .before .before .before .before .before .before .before .before .before .before .before .before .before .args .s .now) (table (c .before .before .before .before .before .before .before .before .before .before .before .before .before .before .before .args .work .now)) (c .before .before .before .before .before .before .before .before .before .before .before .before .before .before .before .args .frames)) (c .before .before .before .before .before .before .before .before .before .before .before .before .before .before .before .args .a)) (partAt (sheetIn (c .before .before .before .before .before .before .before .before .before .before .before .before .before .before .before .args .s .now)) (c .before .before .before .before .before .before .before .before .before .before .before .before .before .before .before .args .s .now) (table (c .before .before .before .before .before .before .before .before .before .before .before .before .before .before .before .args .work .now)) (framesOf (c .before .before .before .before .before .before .before .before .before .before .before .before .before .before .before .args .s .now) (table (c .before .before .before .before .before .before .before .before .before .before .before .before .before .before .before .args .work .now)) (c .before .before .before .before .before .before .before .before .before .before .before .before .before .before .before .args .frames)) (c .before .before .before .before .before .before .before .before .before .before .before .before .before .before .before .args .b)) _ (c .before .before .before .before .before .before .before .before .before .before .loop .inv) (child-given (c .before .before .before .before .before .before .before .before .before .before .before .before .before .before .before .args .s .now) (table (c .before .before .before .before .before .before .before .before .before .before .before .before .before .before .before .args .work .now)) (c .before .before .before .before .before .before .before .before .before .before .loop .x) (c .before .before .before .before .before .before .before .before .before .next .ensures) (c .before .before .before .before .before .before .before .p .given .0 .0) (c .before .before .before .before .before .before .before .p .given .1)) (child-given (c .before .before .before .before .before .before .before .before .before .before .before .before .before .before .before .args .s .now) (table (c .before .before .before .before .before .before .before .before .before .before .before .before .before .before .before .args .work .now)) (c .before .before .before .before .before .before .before .before .before .before .loop .y) (c .before .before .before .before .before .next3 .ensures) (c .before .before .before .q .given .0 .0) (c .before .before .before .q .given .1)) (c .before .names-agree .ensures) (c .if1 .taken)
+equal-parts-returns-4 t c = names-differ (c .before .before .before .before .before .before .before .before .before .before .before .before .before .before .before .args .s .now) (table (c .before .before .before .before .before .before .before .before .before .before .before .before .before .before .before .args .work .now)) (alike (sheetIn (c .before .before .before .before .before .before .before .before .before .before .before .before .before .before .before .args .s .now)) (c .before .before .before .before .before .before .before .before .before .before .before .before .before .before .before .args .left) (framesOf (c .before .before .before .before .before .before .before .before .before .before .before .before .before .before .before .args .s .now) (table (c .before .before .before .before .before .before .before .before .before .before .before .before .before .before .before .args .work .now)) (c .before .before .before .before .before .before .before .before .before .before .before .before .before .before .before .args .frames))) (c .before .before .before .before .before .before .before .before .before .before .before .before .before .before .before .args .named) (partAt (sheetIn (c .before .before .before .before .before .before .before .before .before .before .before .before .before .before .before .args .s .now)) (c .before .before .before .before .before .before .before .before .before .before .before .before .before .before .before .args .s .now) (table (c .before .before .before .before .before .before .before .before .before .before .before .before .before .before .before .args .work .now)) (framesOf (c .before .before .before .before .before .before .before .before .before .before .before .before .before .before .before .args .s .now) (table (c .before .before .before .before .before .before .before .before .before .before .before .before .before .before .before .args .work .now)) (c .before .before .before .before .before .before .before .before .before .before .before .before .before .before .before .args .frames)) (c .before .before .before .before .before .before .before .before .before .before .before .before .before .before .before .args .a)) (partAt (sheetIn (c .before .before .before .before .before .before .before .before .before .before .before .before .before .before .before .args .s .now)) (c .before .before .before .before .before .before .before .before .before .before .before .before .before .before .before .args .s .now) (table (c .before .before .before .before .before .before .before .before .before .before .before .before .before .before .before .args .work .now)) (framesOf (c .before .before .before .before .before .before .before .before .before .before .before .before .before .before .before .args .s .now) (table (c .before .before .before .before .before .before .before .before .before .before .before .before .before .before .before .args .work .now)) (c .before .before .before .before .before .before .before .before .before .before .before .before .before .before .before .args .frames)) (c .before .before .before .before .before .before .before .before .before .before .before .before .before .before .before .args .b)) _ (c .before .before .before .before .before .before .before .before .before .before .loop .inv) (child-given (c .before .before .before .before .before .before .before .before .before .before .loop .inv .first) (c .before .before .before .before .before .before .before .before .before .next .ensures) (c .before .before .before .before .before .before .before .p .given .0 .0) (c .before .before .before .before .before .before .before .p .given .1)) (child-given (c .before .before .before .before .before .before .before .before .before .before .loop .inv .second) (c .before .before .before .before .before .next3 .ensures) (c .before .before .before .q .given .0 .0) (c .before .before .before .q .given .1)) (c .before .names-agree .ensures) (c .if1 .taken)
 
 equal-parts-value-node-requires : (t : ℕ) → equal-parts-lts.Need-value-node-requires (equal-parts-claims t) (equal-parts-at t) equal-parts.Post equal-parts-Inv-loop equal-parts-μ-loop
-equal-parts-value-node-requires t c κs = value-there (c .before .before .before .before .before .before .before .before .before .before .before .before .before .before .before .args .s .now) (table (c .before .before .before .before .before .before .before .before .before .before .before .before .before .before .before .args .work .now)) (c .before .before .before .before .before .before .before .before .before .before .before .before .before .before .before .args .named) (first-child (c .before .before .before .before .before .before .before .before .before .before .before .before .before .before .before .args .s .now) (table (c .before .before .before .before .before .before .before .before .before .before .before .before .before .before .before .args .work .now)) (alike (sheetIn (c .before .before .before .before .before .before .before .before .before .before .before .before .before .before .before .args .s .now)) (c .before .before .before .before .before .before .before .before .before .before .before .before .before .before .before .args .left) (framesOf (c .before .before .before .before .before .before .before .before .before .before .before .before .before .before .before .args .s .now) (table (c .before .before .before .before .before .before .before .before .before .before .before .before .before .before .before .args .work .now)) (c .before .before .before .before .before .before .before .before .before .before .before .before .before .before .before .args .frames))) (c .before .before .before .before .before .before .before .before .before .before .before .before .before .before .before .args .named) (partAt (sheetIn (c .before .before .before .before .before .before .before .before .before .before .before .before .before .before .before .args .s .now)) (c .before .before .before .before .before .before .before .before .before .before .before .before .before .before .before .args .s .now) (table (c .before .before .before .before .before .before .before .before .before .before .before .before .before .before .before .args .work .now)) (framesOf (c .before .before .before .before .before .before .before .before .before .before .before .before .before .before .before .args .s .now) (table (c .before .before .before .before .before .before .before .before .before .before .before .before .before .before .before .args .work .now)) (c .before .before .before .before .before .before .before .before .before .before .before .before .before .before .before .args .frames)) (c .before .before .before .before .before .before .before .before .before .before .before .before .before .before .before .args .a)) (partAt (sheetIn (c .before .before .before .before .before .before .before .before .before .before .before .before .before .before .before .args .s .now)) (c .before .before .before .before .before .before .before .before .before .before .before .before .before .before .before .args .s .now) (table (c .before .before .before .before .before .before .before .before .before .before .before .before .before .before .before .args .work .now)) (framesOf (c .before .before .before .before .before .before .before .before .before .before .before .before .before .before .before .args .s .now) (table (c .before .before .before .before .before .before .before .before .before .before .before .before .before .before .before .args .work .now)) (c .before .before .before .before .before .before .before .before .before .before .before .before .before .before .before .args .frames)) (c .before .before .before .before .before .before .before .before .before .before .before .before .before .before .before .args .b)) _ (c .before .before .before .before .before .before .before .before .before .before .loop .inv) (child-given (c .before .before .before .before .before .before .before .before .before .before .before .before .before .before .before .args .s .now) (table (c .before .before .before .before .before .before .before .before .before .before .before .before .before .before .before .args .work .now)) (c .before .before .before .before .before .before .before .before .before .before .loop .x) (c .before .before .before .before .before .before .before .before .before .next .ensures) (c .before .before .before .before .before .before .before .p .given .0 .0) (c .before .before .before .before .before .before .before .p .given .1)) (child-given (c .before .before .before .before .before .before .before .before .before .before .before .before .before .before .before .args .s .now) (table (c .before .before .before .before .before .before .before .before .before .before .before .before .before .before .before .args .work .now)) (c .before .before .before .before .before .before .before .before .before .before .loop .y) (c .before .before .before .before .before .next3 .ensures) (c .before .before .before .q .given .0 .0) (c .before .before .before .q .given .1))) .1
+equal-parts-value-node-requires t c κs = value-there (c .before .before .before .before .before .before .before .before .before .before .before .before .before .before .before .args .s .now) (table (c .before .before .before .before .before .before .before .before .before .before .before .before .before .before .before .args .work .now)) (c .before .before .before .before .before .before .before .before .before .before .before .before .before .before .before .args .named) (first-child (c .before .before .before .before .before .before .before .before .before .before .before .before .before .before .before .args .s .now) (table (c .before .before .before .before .before .before .before .before .before .before .before .before .before .before .before .args .work .now)) (alike (sheetIn (c .before .before .before .before .before .before .before .before .before .before .before .before .before .before .before .args .s .now)) (c .before .before .before .before .before .before .before .before .before .before .before .before .before .before .before .args .left) (framesOf (c .before .before .before .before .before .before .before .before .before .before .before .before .before .before .before .args .s .now) (table (c .before .before .before .before .before .before .before .before .before .before .before .before .before .before .before .args .work .now)) (c .before .before .before .before .before .before .before .before .before .before .before .before .before .before .before .args .frames))) (c .before .before .before .before .before .before .before .before .before .before .before .before .before .before .before .args .named) (partAt (sheetIn (c .before .before .before .before .before .before .before .before .before .before .before .before .before .before .before .args .s .now)) (c .before .before .before .before .before .before .before .before .before .before .before .before .before .before .before .args .s .now) (table (c .before .before .before .before .before .before .before .before .before .before .before .before .before .before .before .args .work .now)) (framesOf (c .before .before .before .before .before .before .before .before .before .before .before .before .before .before .before .args .s .now) (table (c .before .before .before .before .before .before .before .before .before .before .before .before .before .before .before .args .work .now)) (c .before .before .before .before .before .before .before .before .before .before .before .before .before .before .before .args .frames)) (c .before .before .before .before .before .before .before .before .before .before .before .before .before .before .before .args .a)) (partAt (sheetIn (c .before .before .before .before .before .before .before .before .before .before .before .before .before .before .before .args .s .now)) (c .before .before .before .before .before .before .before .before .before .before .before .before .before .before .before .args .s .now) (table (c .before .before .before .before .before .before .before .before .before .before .before .before .before .before .before .args .work .now)) (framesOf (c .before .before .before .before .before .before .before .before .before .before .before .before .before .before .before .args .s .now) (table (c .before .before .before .before .before .before .before .before .before .before .before .before .before .before .before .args .work .now)) (c .before .before .before .before .before .before .before .before .before .before .before .before .before .before .before .args .frames)) (c .before .before .before .before .before .before .before .before .before .before .before .before .before .before .before .args .b)) _ (c .before .before .before .before .before .before .before .before .before .before .loop .inv) (child-given (c .before .before .before .before .before .before .before .before .before .before .loop .inv .first) (c .before .before .before .before .before .before .before .before .before .next .ensures) (c .before .before .before .before .before .before .before .p .given .0 .0) (c .before .before .before .before .before .before .before .p .given .1)) (child-given (c .before .before .before .before .before .before .before .before .before .before .loop .inv .second) (c .before .before .before .before .before .next3 .ensures) (c .before .before .before .q .given .0 .0) (c .before .before .before .q .given .1))) .1
 
 equal-parts-part-of-requires : (t : ℕ) → equal-parts-lts.Need-part-of-requires (equal-parts-claims t) (equal-parts-at t) equal-parts.Post equal-parts-Inv-loop equal-parts-μ-loop
-equal-parts-part-of-requires t c κs = (c .before .before .before .before .before .before .before .before .before .before .before .before .before .before .before .before .pre .1 .0, rw (c .value-node .ensures) (value-there (c .before .before .before .before .before .before .before .before .before .before .before .before .before .before .before .before .args .s .now) (table (c .before .before .before .before .before .before .before .before .before .before .before .before .before .before .before .before .args .work .now)) (c .before .before .before .before .before .before .before .before .before .before .before .before .before .before .before .before .args .named) (first-child (c .before .before .before .before .before .before .before .before .before .before .before .before .before .before .before .before .args .s .now) (table (c .before .before .before .before .before .before .before .before .before .before .before .before .before .before .before .before .args .work .now)) (alike (sheetIn (c .before .before .before .before .before .before .before .before .before .before .before .before .before .before .before .before .args .s .now)) (c .before .before .before .before .before .before .before .before .before .before .before .before .before .before .before .before .args .left) (framesOf (c .before .before .before .before .before .before .before .before .before .before .before .before .before .before .before .before .args .s .now) (table (c .before .before .before .before .before .before .before .before .before .before .before .before .before .before .before .before .args .work .now)) (c .before .before .before .before .before .before .before .before .before .before .before .before .before .before .before .before .args .frames))) (c .before .before .before .before .before .before .before .before .before .before .before .before .before .before .before .before .args .named) (partAt (sheetIn (c .before .before .before .before .before .before .before .before .before .before .before .before .before .before .before .before .args .s .now)) (c .before .before .before .before .before .before .before .before .before .before .before .before .before .before .before .before .args .s .now) (table (c .before .before .before .before .before .before .before .before .before .before .before .before .before .before .before .before .args .work .now)) (framesOf (c .before .before .before .before .before .before .before .before .before .before .before .before .before .before .before .before .args .s .now) (table (c .before .before .before .before .before .before .before .before .before .before .before .before .before .before .before .before .args .work .now)) (c .before .before .before .before .before .before .before .before .before .before .before .before .before .before .before .before .args .frames)) (c .before .before .before .before .before .before .before .before .before .before .before .before .before .before .before .before .args .a)) (partAt (sheetIn (c .before .before .before .before .before .before .before .before .before .before .before .before .before .before .before .before .args .s .now)) (c .before .before .before .before .before .before .before .before .before .before .before .before .before .before .before .before .args .s .now) (table (c .before .before .before .before .before .before .before .before .before .before .before .before .before .before .before .before .args .work .now)) (framesOf (c .before .before .before .before .before .before .before .before .before .before .before .before .before .before .before .before .args .s .now) (table (c .before .before .before .before .before .before .before .before .before .before .before .before .before .before .before .before .args .work .now)) (c .before .before .before .before .before .before .before .before .before .before .before .before .before .before .before .before .args .frames)) (c .before .before .before .before .before .before .before .before .before .before .before .before .before .before .before .before .args .b)) _ (c .before .before .before .before .before .before .before .before .before .before .before .loop .inv) (child-given (c .before .before .before .before .before .before .before .before .before .before .before .before .before .before .before .before .args .s .now) (table (c .before .before .before .before .before .before .before .before .before .before .before .before .before .before .before .before .args .work .now)) (c .before .before .before .before .before .before .before .before .before .before .before .loop .x) (c .before .before .before .before .before .before .before .before .before .before .next .ensures) (c .before .before .before .before .before .before .before .before .p .given .0 .0) (c .before .before .before .before .before .before .before .before .p .given .1)) (child-given (c .before .before .before .before .before .before .before .before .before .before .before .before .before .before .before .before .args .s .now) (table (c .before .before .before .before .before .before .before .before .before .before .before .before .before .before .before .before .args .work .now)) (c .before .before .before .before .before .before .before .before .before .before .before .loop .y) (c .before .before .before .before .before .before .next3 .ensures) (c .before .before .before .before .q .given .0 .0) (c .before .before .before .before .q .given .1))) .0))
+equal-parts-part-of-requires t c κs = (c .before .before .before .before .before .before .before .before .before .before .before .before .before .before .before .before .pre .1 .0, rw (c .value-node .ensures) (value-there (c .before .before .before .before .before .before .before .before .before .before .before .before .before .before .before .before .args .s .now) (table (c .before .before .before .before .before .before .before .before .before .before .before .before .before .before .before .before .args .work .now)) (c .before .before .before .before .before .before .before .before .before .before .before .before .before .before .before .before .args .named) (first-child (c .before .before .before .before .before .before .before .before .before .before .before .before .before .before .before .before .args .s .now) (table (c .before .before .before .before .before .before .before .before .before .before .before .before .before .before .before .before .args .work .now)) (alike (sheetIn (c .before .before .before .before .before .before .before .before .before .before .before .before .before .before .before .before .args .s .now)) (c .before .before .before .before .before .before .before .before .before .before .before .before .before .before .before .before .args .left) (framesOf (c .before .before .before .before .before .before .before .before .before .before .before .before .before .before .before .before .args .s .now) (table (c .before .before .before .before .before .before .before .before .before .before .before .before .before .before .before .before .args .work .now)) (c .before .before .before .before .before .before .before .before .before .before .before .before .before .before .before .before .args .frames))) (c .before .before .before .before .before .before .before .before .before .before .before .before .before .before .before .before .args .named) (partAt (sheetIn (c .before .before .before .before .before .before .before .before .before .before .before .before .before .before .before .before .args .s .now)) (c .before .before .before .before .before .before .before .before .before .before .before .before .before .before .before .before .args .s .now) (table (c .before .before .before .before .before .before .before .before .before .before .before .before .before .before .before .before .args .work .now)) (framesOf (c .before .before .before .before .before .before .before .before .before .before .before .before .before .before .before .before .args .s .now) (table (c .before .before .before .before .before .before .before .before .before .before .before .before .before .before .before .before .args .work .now)) (c .before .before .before .before .before .before .before .before .before .before .before .before .before .before .before .before .args .frames)) (c .before .before .before .before .before .before .before .before .before .before .before .before .before .before .before .before .args .a)) (partAt (sheetIn (c .before .before .before .before .before .before .before .before .before .before .before .before .before .before .before .before .args .s .now)) (c .before .before .before .before .before .before .before .before .before .before .before .before .before .before .before .before .args .s .now) (table (c .before .before .before .before .before .before .before .before .before .before .before .before .before .before .before .before .args .work .now)) (framesOf (c .before .before .before .before .before .before .before .before .before .before .before .before .before .before .before .before .args .s .now) (table (c .before .before .before .before .before .before .before .before .before .before .before .before .before .before .before .before .args .work .now)) (c .before .before .before .before .before .before .before .before .before .before .before .before .before .before .before .before .args .frames)) (c .before .before .before .before .before .before .before .before .before .before .before .before .before .before .before .before .args .b)) _ (c .before .before .before .before .before .before .before .before .before .before .before .loop .inv) (child-given (c .before .before .before .before .before .before .before .before .before .before .before .loop .inv .first) (c .before .before .before .before .before .before .before .before .before .before .next .ensures) (c .before .before .before .before .before .before .before .before .p .given .0 .0) (c .before .before .before .before .before .before .before .before .p .given .1)) (child-given (c .before .before .before .before .before .before .before .before .before .before .before .loop .inv .second) (c .before .before .before .before .before .before .next3 .ensures) (c .before .before .before .before .q .given .0 .0) (c .before .before .before .before .q .given .1))) .0))
 
 equal-parts-value-node-requires-2 : (t : ℕ) → equal-parts-lts.Need-value-node-requires-2 (equal-parts-claims t) (equal-parts-at t) equal-parts.Post equal-parts-Inv-loop equal-parts-μ-loop
-equal-parts-value-node-requires-2 t c κs = value-there (c .before .before .before .before .before .before .before .before .before .before .before .before .before .before .before .before .before .args .s .now) (table (c .before .before .before .before .before .before .before .before .before .before .before .before .before .before .before .before .before .args .work .now)) (c .before .before .before .before .before .before .before .before .before .before .before .before .before .before .before .before .before .args .named) (second-child (c .before .before .before .before .before .before .before .before .before .before .before .before .before .before .before .before .before .args .s .now) (table (c .before .before .before .before .before .before .before .before .before .before .before .before .before .before .before .before .before .args .work .now)) (alike (sheetIn (c .before .before .before .before .before .before .before .before .before .before .before .before .before .before .before .before .before .args .s .now)) (c .before .before .before .before .before .before .before .before .before .before .before .before .before .before .before .before .before .args .left) (framesOf (c .before .before .before .before .before .before .before .before .before .before .before .before .before .before .before .before .before .args .s .now) (table (c .before .before .before .before .before .before .before .before .before .before .before .before .before .before .before .before .before .args .work .now)) (c .before .before .before .before .before .before .before .before .before .before .before .before .before .before .before .before .before .args .frames))) (c .before .before .before .before .before .before .before .before .before .before .before .before .before .before .before .before .before .args .named) (partAt (sheetIn (c .before .before .before .before .before .before .before .before .before .before .before .before .before .before .before .before .before .args .s .now)) (c .before .before .before .before .before .before .before .before .before .before .before .before .before .before .before .before .before .args .s .now) (table (c .before .before .before .before .before .before .before .before .before .before .before .before .before .before .before .before .before .args .work .now)) (framesOf (c .before .before .before .before .before .before .before .before .before .before .before .before .before .before .before .before .before .args .s .now) (table (c .before .before .before .before .before .before .before .before .before .before .before .before .before .before .before .before .before .args .work .now)) (c .before .before .before .before .before .before .before .before .before .before .before .before .before .before .before .before .before .args .frames)) (c .before .before .before .before .before .before .before .before .before .before .before .before .before .before .before .before .before .args .a)) (partAt (sheetIn (c .before .before .before .before .before .before .before .before .before .before .before .before .before .before .before .before .before .args .s .now)) (c .before .before .before .before .before .before .before .before .before .before .before .before .before .before .before .before .before .args .s .now) (table (c .before .before .before .before .before .before .before .before .before .before .before .before .before .before .before .before .before .args .work .now)) (framesOf (c .before .before .before .before .before .before .before .before .before .before .before .before .before .before .before .before .before .args .s .now) (table (c .before .before .before .before .before .before .before .before .before .before .before .before .before .before .before .before .before .args .work .now)) (c .before .before .before .before .before .before .before .before .before .before .before .before .before .before .before .before .before .args .frames)) (c .before .before .before .before .before .before .before .before .before .before .before .before .before .before .before .before .before .args .b)) _ (c .before .before .before .before .before .before .before .before .before .before .before .before .loop .inv) (child-given (c .before .before .before .before .before .before .before .before .before .before .before .before .before .before .before .before .before .args .s .now) (table (c .before .before .before .before .before .before .before .before .before .before .before .before .before .before .before .before .before .args .work .now)) (c .before .before .before .before .before .before .before .before .before .before .before .before .loop .x) (c .before .before .before .before .before .before .before .before .before .before .before .next .ensures) (c .before .before .before .before .before .before .before .before .before .p .given .0 .0) (c .before .before .before .before .before .before .before .before .before .p .given .1)) (child-given (c .before .before .before .before .before .before .before .before .before .before .before .before .before .before .before .before .before .args .s .now) (table (c .before .before .before .before .before .before .before .before .before .before .before .before .before .before .before .before .before .args .work .now)) (c .before .before .before .before .before .before .before .before .before .before .before .before .loop .y) (c .before .before .before .before .before .before .before .next3 .ensures) (c .before .before .before .before .before .q .given .0 .0) (c .before .before .before .before .before .q .given .1))) .1
+equal-parts-value-node-requires-2 t c κs = value-there (c .before .before .before .before .before .before .before .before .before .before .before .before .before .before .before .before .before .args .s .now) (table (c .before .before .before .before .before .before .before .before .before .before .before .before .before .before .before .before .before .args .work .now)) (c .before .before .before .before .before .before .before .before .before .before .before .before .before .before .before .before .before .args .named) (second-child (c .before .before .before .before .before .before .before .before .before .before .before .before .before .before .before .before .before .args .s .now) (table (c .before .before .before .before .before .before .before .before .before .before .before .before .before .before .before .before .before .args .work .now)) (alike (sheetIn (c .before .before .before .before .before .before .before .before .before .before .before .before .before .before .before .before .before .args .s .now)) (c .before .before .before .before .before .before .before .before .before .before .before .before .before .before .before .before .before .args .left) (framesOf (c .before .before .before .before .before .before .before .before .before .before .before .before .before .before .before .before .before .args .s .now) (table (c .before .before .before .before .before .before .before .before .before .before .before .before .before .before .before .before .before .args .work .now)) (c .before .before .before .before .before .before .before .before .before .before .before .before .before .before .before .before .before .args .frames))) (c .before .before .before .before .before .before .before .before .before .before .before .before .before .before .before .before .before .args .named) (partAt (sheetIn (c .before .before .before .before .before .before .before .before .before .before .before .before .before .before .before .before .before .args .s .now)) (c .before .before .before .before .before .before .before .before .before .before .before .before .before .before .before .before .before .args .s .now) (table (c .before .before .before .before .before .before .before .before .before .before .before .before .before .before .before .before .before .args .work .now)) (framesOf (c .before .before .before .before .before .before .before .before .before .before .before .before .before .before .before .before .before .args .s .now) (table (c .before .before .before .before .before .before .before .before .before .before .before .before .before .before .before .before .before .args .work .now)) (c .before .before .before .before .before .before .before .before .before .before .before .before .before .before .before .before .before .args .frames)) (c .before .before .before .before .before .before .before .before .before .before .before .before .before .before .before .before .before .args .a)) (partAt (sheetIn (c .before .before .before .before .before .before .before .before .before .before .before .before .before .before .before .before .before .args .s .now)) (c .before .before .before .before .before .before .before .before .before .before .before .before .before .before .before .before .before .args .s .now) (table (c .before .before .before .before .before .before .before .before .before .before .before .before .before .before .before .before .before .args .work .now)) (framesOf (c .before .before .before .before .before .before .before .before .before .before .before .before .before .before .before .before .before .args .s .now) (table (c .before .before .before .before .before .before .before .before .before .before .before .before .before .before .before .before .before .args .work .now)) (c .before .before .before .before .before .before .before .before .before .before .before .before .before .before .before .before .before .args .frames)) (c .before .before .before .before .before .before .before .before .before .before .before .before .before .before .before .before .before .args .b)) _ (c .before .before .before .before .before .before .before .before .before .before .before .before .loop .inv) (child-given (c .before .before .before .before .before .before .before .before .before .before .before .before .loop .inv .first) (c .before .before .before .before .before .before .before .before .before .before .before .next .ensures) (c .before .before .before .before .before .before .before .before .before .p .given .0 .0) (c .before .before .before .before .before .before .before .before .before .p .given .1)) (child-given (c .before .before .before .before .before .before .before .before .before .before .before .before .loop .inv .second) (c .before .before .before .before .before .before .before .next3 .ensures) (c .before .before .before .before .before .q .given .0 .0) (c .before .before .before .before .before .q .given .1))) .1
 
 equal-parts-part-of-requires-2 : (t : ℕ) → equal-parts-lts.Need-part-of-requires-2 (equal-parts-claims t) (equal-parts-at t) equal-parts.Post equal-parts-Inv-loop equal-parts-μ-loop
-equal-parts-part-of-requires-2 t c κs = (c .before .before .before .before .before .before .before .before .before .before .before .before .before .before .before .before .before .before .pre .1 .0, rw (c .value-node2 .ensures) (value-there (c .before .before .before .before .before .before .before .before .before .before .before .before .before .before .before .before .before .before .args .s .now) (table (c .before .before .before .before .before .before .before .before .before .before .before .before .before .before .before .before .before .before .args .work .now)) (c .before .before .before .before .before .before .before .before .before .before .before .before .before .before .before .before .before .before .args .named) (second-child (c .before .before .before .before .before .before .before .before .before .before .before .before .before .before .before .before .before .before .args .s .now) (table (c .before .before .before .before .before .before .before .before .before .before .before .before .before .before .before .before .before .before .args .work .now)) (alike (sheetIn (c .before .before .before .before .before .before .before .before .before .before .before .before .before .before .before .before .before .before .args .s .now)) (c .before .before .before .before .before .before .before .before .before .before .before .before .before .before .before .before .before .before .args .left) (framesOf (c .before .before .before .before .before .before .before .before .before .before .before .before .before .before .before .before .before .before .args .s .now) (table (c .before .before .before .before .before .before .before .before .before .before .before .before .before .before .before .before .before .before .args .work .now)) (c .before .before .before .before .before .before .before .before .before .before .before .before .before .before .before .before .before .before .args .frames))) (c .before .before .before .before .before .before .before .before .before .before .before .before .before .before .before .before .before .before .args .named) (partAt (sheetIn (c .before .before .before .before .before .before .before .before .before .before .before .before .before .before .before .before .before .before .args .s .now)) (c .before .before .before .before .before .before .before .before .before .before .before .before .before .before .before .before .before .before .args .s .now) (table (c .before .before .before .before .before .before .before .before .before .before .before .before .before .before .before .before .before .before .args .work .now)) (framesOf (c .before .before .before .before .before .before .before .before .before .before .before .before .before .before .before .before .before .before .args .s .now) (table (c .before .before .before .before .before .before .before .before .before .before .before .before .before .before .before .before .before .before .args .work .now)) (c .before .before .before .before .before .before .before .before .before .before .before .before .before .before .before .before .before .before .args .frames)) (c .before .before .before .before .before .before .before .before .before .before .before .before .before .before .before .before .before .before .args .a)) (partAt (sheetIn (c .before .before .before .before .before .before .before .before .before .before .before .before .before .before .before .before .before .before .args .s .now)) (c .before .before .before .before .before .before .before .before .before .before .before .before .before .before .before .before .before .before .args .s .now) (table (c .before .before .before .before .before .before .before .before .before .before .before .before .before .before .before .before .before .before .args .work .now)) (framesOf (c .before .before .before .before .before .before .before .before .before .before .before .before .before .before .before .before .before .before .args .s .now) (table (c .before .before .before .before .before .before .before .before .before .before .before .before .before .before .before .before .before .before .args .work .now)) (c .before .before .before .before .before .before .before .before .before .before .before .before .before .before .before .before .before .before .args .frames)) (c .before .before .before .before .before .before .before .before .before .before .before .before .before .before .before .before .before .before .args .b)) _ (c .before .before .before .before .before .before .before .before .before .before .before .before .before .loop .inv) (child-given (c .before .before .before .before .before .before .before .before .before .before .before .before .before .before .before .before .before .before .args .s .now) (table (c .before .before .before .before .before .before .before .before .before .before .before .before .before .before .before .before .before .before .args .work .now)) (c .before .before .before .before .before .before .before .before .before .before .before .before .before .loop .x) (c .before .before .before .before .before .before .before .before .before .before .before .before .next .ensures) (c .before .before .before .before .before .before .before .before .before .before .p .given .0 .0) (c .before .before .before .before .before .before .before .before .before .before .p .given .1)) (child-given (c .before .before .before .before .before .before .before .before .before .before .before .before .before .before .before .before .before .before .args .s .now) (table (c .before .before .before .before .before .before .before .before .before .before .before .before .before .before .before .before .before .before .args .work .now)) (c .before .before .before .before .before .before .before .before .before .before .before .before .before .loop .y) (c .before .before .before .before .before .before .before .before .next3 .ensures) (c .before .before .before .before .before .before .q .given .0 .0) (c .before .before .before .before .before .before .q .given .1))) .0))
+equal-parts-part-of-requires-2 t c κs = (c .before .before .before .before .before .before .before .before .before .before .before .before .before .before .before .before .before .before .pre .1 .0, rw (c .value-node2 .ensures) (value-there (c .before .before .before .before .before .before .before .before .before .before .before .before .before .before .before .before .before .before .args .s .now) (table (c .before .before .before .before .before .before .before .before .before .before .before .before .before .before .before .before .before .before .args .work .now)) (c .before .before .before .before .before .before .before .before .before .before .before .before .before .before .before .before .before .before .args .named) (second-child (c .before .before .before .before .before .before .before .before .before .before .before .before .before .before .before .before .before .before .args .s .now) (table (c .before .before .before .before .before .before .before .before .before .before .before .before .before .before .before .before .before .before .args .work .now)) (alike (sheetIn (c .before .before .before .before .before .before .before .before .before .before .before .before .before .before .before .before .before .before .args .s .now)) (c .before .before .before .before .before .before .before .before .before .before .before .before .before .before .before .before .before .before .args .left) (framesOf (c .before .before .before .before .before .before .before .before .before .before .before .before .before .before .before .before .before .before .args .s .now) (table (c .before .before .before .before .before .before .before .before .before .before .before .before .before .before .before .before .before .before .args .work .now)) (c .before .before .before .before .before .before .before .before .before .before .before .before .before .before .before .before .before .before .args .frames))) (c .before .before .before .before .before .before .before .before .before .before .before .before .before .before .before .before .before .before .args .named) (partAt (sheetIn (c .before .before .before .before .before .before .before .before .before .before .before .before .before .before .before .before .before .before .args .s .now)) (c .before .before .before .before .before .before .before .before .before .before .before .before .before .before .before .before .before .before .args .s .now) (table (c .before .before .before .before .before .before .before .before .before .before .before .before .before .before .before .before .before .before .args .work .now)) (framesOf (c .before .before .before .before .before .before .before .before .before .before .before .before .before .before .before .before .before .before .args .s .now) (table (c .before .before .before .before .before .before .before .before .before .before .before .before .before .before .before .before .before .before .args .work .now)) (c .before .before .before .before .before .before .before .before .before .before .before .before .before .before .before .before .before .before .args .frames)) (c .before .before .before .before .before .before .before .before .before .before .before .before .before .before .before .before .before .before .args .a)) (partAt (sheetIn (c .before .before .before .before .before .before .before .before .before .before .before .before .before .before .before .before .before .before .args .s .now)) (c .before .before .before .before .before .before .before .before .before .before .before .before .before .before .before .before .before .before .args .s .now) (table (c .before .before .before .before .before .before .before .before .before .before .before .before .before .before .before .before .before .before .args .work .now)) (framesOf (c .before .before .before .before .before .before .before .before .before .before .before .before .before .before .before .before .before .before .args .s .now) (table (c .before .before .before .before .before .before .before .before .before .before .before .before .before .before .before .before .before .before .args .work .now)) (c .before .before .before .before .before .before .before .before .before .before .before .before .before .before .before .before .before .before .args .frames)) (c .before .before .before .before .before .before .before .before .before .before .before .before .before .before .before .before .before .before .args .b)) _ (c .before .before .before .before .before .before .before .before .before .before .before .before .before .loop .inv) (child-given (c .before .before .before .before .before .before .before .before .before .before .before .before .before .loop .inv .first) (c .before .before .before .before .before .before .before .before .before .before .before .before .next .ensures) (c .before .before .before .before .before .before .before .before .before .before .p .given .0 .0) (c .before .before .before .before .before .before .before .before .before .before .p .given .1)) (child-given (c .before .before .before .before .before .before .before .before .before .before .before .before .before .loop .inv .second) (c .before .before .before .before .before .before .before .before .next3 .ensures) (c .before .before .before .before .before .before .q .given .0 .0) (c .before .before .before .before .before .before .q .given .1))) .0))
 
 equal-parts-equal-at-requires : (t : ℕ) → equal-parts-lts.Need-equal-at-requires (equal-parts-claims t) (equal-parts-at t) equal-parts.Post equal-parts-Inv-loop equal-parts-μ-loop
 equal-parts-equal-at-requires t c κs = (part-falls (c .before .before .before .before .before .before .before .before .before .before .before .before .before .before .before .before .before .before .before .args .left) (c .before .before .before .before .before .before .before .before .before .before .before .before .before .before .before .before .before .before .before .pre .0), (c .before .before .before .before .before .before .before .before .before .before .before .before .before .before .before .before .before .before .before .pre .1 .0, c .before .before .part-of .ensures .fits, c .part-of2 .ensures .fits))
 
 equal-parts-returns-5 : (t : ℕ) → equal-parts-lts.Need-returns-5 (equal-parts-claims t) (equal-parts-at t) equal-parts.Post equal-parts-Inv-loop equal-parts-μ-loop
-equal-parts-returns-5 t c = parts-differ (c .before .before .before .before .before .before .before .before .before .before .before .before .before .before .before .before .before .before .before .before .before .args .s .now) (table (c .before .before .before .before .before .before .before .before .before .before .before .before .before .before .before .before .before .before .before .before .before .args .work .now)) (alike (sheetIn (c .before .before .before .before .before .before .before .before .before .before .before .before .before .before .before .before .before .before .before .before .before .args .s .now)) (c .before .before .before .before .before .before .before .before .before .before .before .before .before .before .before .before .before .before .before .before .before .args .left) (framesOf (c .before .before .before .before .before .before .before .before .before .before .before .before .before .before .before .before .before .before .before .before .before .args .s .now) (table (c .before .before .before .before .before .before .before .before .before .before .before .before .before .before .before .before .before .before .before .before .before .args .work .now)) (c .before .before .before .before .before .before .before .before .before .before .before .before .before .before .before .before .before .before .before .before .before .args .frames))) (c .before .before .before .before .before .before .before .before .before .before .before .before .before .before .before .before .before .before .before .before .before .args .named) (partAt (sheetIn (c .before .before .before .before .before .before .before .before .before .before .before .before .before .before .before .before .before .before .before .before .before .args .s .now)) (c .before .before .before .before .before .before .before .before .before .before .before .before .before .before .before .before .before .before .before .before .before .args .s .now) (table (c .before .before .before .before .before .before .before .before .before .before .before .before .before .before .before .before .before .before .before .before .before .args .work .now)) (framesOf (c .before .before .before .before .before .before .before .before .before .before .before .before .before .before .before .before .before .before .before .before .before .args .s .now) (table (c .before .before .before .before .before .before .before .before .before .before .before .before .before .before .before .before .before .before .before .before .before .args .work .now)) (c .before .before .before .before .before .before .before .before .before .before .before .before .before .before .before .before .before .before .before .before .before .args .frames)) (c .before .before .before .before .before .before .before .before .before .before .before .before .before .before .before .before .before .before .before .before .before .args .a)) (partAt (sheetIn (c .before .before .before .before .before .before .before .before .before .before .before .before .before .before .before .before .before .before .before .before .before .args .s .now)) (c .before .before .before .before .before .before .before .before .before .before .before .before .before .before .before .before .before .before .before .before .before .args .s .now) (table (c .before .before .before .before .before .before .before .before .before .before .before .before .before .before .before .before .before .before .before .before .before .args .work .now)) (framesOf (c .before .before .before .before .before .before .before .before .before .before .before .before .before .before .before .before .before .before .before .before .before .args .s .now) (table (c .before .before .before .before .before .before .before .before .before .before .before .before .before .before .before .before .before .before .before .before .before .args .work .now)) (c .before .before .before .before .before .before .before .before .before .before .before .before .before .before .before .before .before .before .before .before .before .args .frames)) (c .before .before .before .before .before .before .before .before .before .before .before .before .before .before .before .before .before .before .before .before .before .args .b)) _ (c .before .before .before .before .before .before .before .before .before .before .before .before .before .before .before .before .loop .inv) (child-given (c .before .before .before .before .before .before .before .before .before .before .before .before .before .before .before .before .before .before .before .before .before .args .s .now) (table (c .before .before .before .before .before .before .before .before .before .before .before .before .before .before .before .before .before .before .before .before .before .args .work .now)) (c .before .before .before .before .before .before .before .before .before .before .before .before .before .before .before .before .loop .x) (c .before .before .before .before .before .before .before .before .before .before .before .before .before .before .before .next .ensures) (c .before .before .before .before .before .before .before .before .before .before .before .before .before .p .given .0 .0) (c .before .before .before .before .before .before .before .before .before .before .before .before .before .p .given .1)) (child-given (c .before .before .before .before .before .before .before .before .before .before .before .before .before .before .before .before .before .before .before .before .before .args .s .now) (table (c .before .before .before .before .before .before .before .before .before .before .before .before .before .before .before .before .before .before .before .before .before .args .work .now)) (c .before .before .before .before .before .before .before .before .before .before .before .before .before .before .before .before .loop .y) (c .before .before .before .before .before .before .before .before .before .before .before .next3 .ensures) (c .before .before .before .before .before .before .before .before .before .q .given .0 .0) (c .before .before .before .before .before .before .before .before .before .q .given .1)) (c .before .before .before .before .before .before .before .names-agree .ensures) (c .before .before .before .before .before .before .if1 .left) (c .before .equal-at .ensures) (rw (c .before .before .before .before .before .value-node .ensures) at (c .before .before .before .before .part-of .ensures .means)) (rw (c .before .before .before .value-node2 .ensures) at (c .before .before .part-of2 .ensures .means)) (c .if2 .taken)
+equal-parts-returns-5 t c = parts-differ (c .before .before .before .before .before .before .before .before .before .before .before .before .before .before .before .before .before .before .before .before .before .args .s .now) (table (c .before .before .before .before .before .before .before .before .before .before .before .before .before .before .before .before .before .before .before .before .before .args .work .now)) (alike (sheetIn (c .before .before .before .before .before .before .before .before .before .before .before .before .before .before .before .before .before .before .before .before .before .args .s .now)) (c .before .before .before .before .before .before .before .before .before .before .before .before .before .before .before .before .before .before .before .before .before .args .left) (framesOf (c .before .before .before .before .before .before .before .before .before .before .before .before .before .before .before .before .before .before .before .before .before .args .s .now) (table (c .before .before .before .before .before .before .before .before .before .before .before .before .before .before .before .before .before .before .before .before .before .args .work .now)) (c .before .before .before .before .before .before .before .before .before .before .before .before .before .before .before .before .before .before .before .before .before .args .frames))) (c .before .before .before .before .before .before .before .before .before .before .before .before .before .before .before .before .before .before .before .before .before .args .named) (partAt (sheetIn (c .before .before .before .before .before .before .before .before .before .before .before .before .before .before .before .before .before .before .before .before .before .args .s .now)) (c .before .before .before .before .before .before .before .before .before .before .before .before .before .before .before .before .before .before .before .before .before .args .s .now) (table (c .before .before .before .before .before .before .before .before .before .before .before .before .before .before .before .before .before .before .before .before .before .args .work .now)) (framesOf (c .before .before .before .before .before .before .before .before .before .before .before .before .before .before .before .before .before .before .before .before .before .args .s .now) (table (c .before .before .before .before .before .before .before .before .before .before .before .before .before .before .before .before .before .before .before .before .before .args .work .now)) (c .before .before .before .before .before .before .before .before .before .before .before .before .before .before .before .before .before .before .before .before .before .args .frames)) (c .before .before .before .before .before .before .before .before .before .before .before .before .before .before .before .before .before .before .before .before .before .args .a)) (partAt (sheetIn (c .before .before .before .before .before .before .before .before .before .before .before .before .before .before .before .before .before .before .before .before .before .args .s .now)) (c .before .before .before .before .before .before .before .before .before .before .before .before .before .before .before .before .before .before .before .before .before .args .s .now) (table (c .before .before .before .before .before .before .before .before .before .before .before .before .before .before .before .before .before .before .before .before .before .args .work .now)) (framesOf (c .before .before .before .before .before .before .before .before .before .before .before .before .before .before .before .before .before .before .before .before .before .args .s .now) (table (c .before .before .before .before .before .before .before .before .before .before .before .before .before .before .before .before .before .before .before .before .before .args .work .now)) (c .before .before .before .before .before .before .before .before .before .before .before .before .before .before .before .before .before .before .before .before .before .args .frames)) (c .before .before .before .before .before .before .before .before .before .before .before .before .before .before .before .before .before .before .before .before .before .args .b)) _ (c .before .before .before .before .before .before .before .before .before .before .before .before .before .before .before .before .loop .inv) (child-given (c .before .before .before .before .before .before .before .before .before .before .before .before .before .before .before .before .loop .inv .first) (c .before .before .before .before .before .before .before .before .before .before .before .before .before .before .before .next .ensures) (c .before .before .before .before .before .before .before .before .before .before .before .before .before .p .given .0 .0) (c .before .before .before .before .before .before .before .before .before .before .before .before .before .p .given .1)) (child-given (c .before .before .before .before .before .before .before .before .before .before .before .before .before .before .before .before .loop .inv .second) (c .before .before .before .before .before .before .before .before .before .before .before .next3 .ensures) (c .before .before .before .before .before .before .before .before .before .q .given .0 .0) (c .before .before .before .before .before .before .before .before .before .q .given .1)) (c .before .before .before .before .before .before .before .names-agree .ensures) (c .before .before .before .before .before .before .if1 .left) (c .before .equal-at .ensures) (rw (c .before .before .before .before .before .value-node .ensures) at (c .before .before .before .before .part-of .ensures .means)) (rw (c .before .before .before .value-node2 .ensures) at (c .before .before .part-of2 .ensures .means)) (c .if2 .taken)
 
 equal-parts-loop-less : (t : ℕ) → equal-parts-lts.Need-loop-less (equal-parts-claims t) (equal-parts-at t) equal-parts.Post equal-parts-Inv-loop equal-parts-μ-loop
-equal-parts-loop-less t c = (child-given (c .before .before .before .before .before .before .before .before .before .before .before .before .before .before .before .before .before .before .before .before .before .before .before .args .s .now) (table (c .before .before .before .before .before .before .before .before .before .before .before .before .before .before .before .before .before .before .before .before .before .before .before .args .work .now)) (c .before .before .before .before .before .before .before .before .before .before .before .before .before .before .before .before .before .before .loop .x) (c .before .before .before .before .before .before .before .before .before .before .before .before .before .before .before .before .before .next .ensures) (c .before .before .before .before .before .before .before .before .before .before .before .before .before .before .before .p .given .0 .0) (c .before .before .before .before .before .before .before .before .before .before .before .before .before .before .before .p .given .1)) .falls
+equal-parts-loop-less t c = (child-given (c .before .before .before .before .before .before .before .before .before .before .before .before .before .before .before .before .before .before .loop .inv .first) (c .before .before .before .before .before .before .before .before .before .before .before .before .before .before .before .before .before .next .ensures) (c .before .before .before .before .before .before .before .before .before .before .before .before .before .before .before .p .given .0 .0) (c .before .before .before .before .before .before .before .before .before .before .before .before .before .before .before .p .given .1)) .falls
 
 equal-parts-loop-again : (t : ℕ) → equal-parts-lts.Need-loop-again (equal-parts-claims t) (equal-parts-at t) equal-parts.Post equal-parts-Inv-loop equal-parts-μ-loop
-equal-parts-loop-again t c = parts-same (c .before .before .before .before .before .before .before .before .before .before .before .before .before .before .before .before .before .before .before .before .before .before .before .args .s .now) (table (c .before .before .before .before .before .before .before .before .before .before .before .before .before .before .before .before .before .before .before .before .before .before .before .args .work .now)) (alike (sheetIn (c .before .before .before .before .before .before .before .before .before .before .before .before .before .before .before .before .before .before .before .before .before .before .before .args .s .now)) (c .before .before .before .before .before .before .before .before .before .before .before .before .before .before .before .before .before .before .before .before .before .before .before .args .left) (framesOf (c .before .before .before .before .before .before .before .before .before .before .before .before .before .before .before .before .before .before .before .before .before .before .before .args .s .now) (table (c .before .before .before .before .before .before .before .before .before .before .before .before .before .before .before .before .before .before .before .before .before .before .before .args .work .now)) (c .before .before .before .before .before .before .before .before .before .before .before .before .before .before .before .before .before .before .before .before .before .before .before .args .frames))) (c .before .before .before .before .before .before .before .before .before .before .before .before .before .before .before .before .before .before .before .before .before .before .before .args .named) (partAt (sheetIn (c .before .before .before .before .before .before .before .before .before .before .before .before .before .before .before .before .before .before .before .before .before .before .before .args .s .now)) (c .before .before .before .before .before .before .before .before .before .before .before .before .before .before .before .before .before .before .before .before .before .before .before .args .s .now) (table (c .before .before .before .before .before .before .before .before .before .before .before .before .before .before .before .before .before .before .before .before .before .before .before .args .work .now)) (framesOf (c .before .before .before .before .before .before .before .before .before .before .before .before .before .before .before .before .before .before .before .before .before .before .before .args .s .now) (table (c .before .before .before .before .before .before .before .before .before .before .before .before .before .before .before .before .before .before .before .before .before .before .before .args .work .now)) (c .before .before .before .before .before .before .before .before .before .before .before .before .before .before .before .before .before .before .before .before .before .before .before .args .frames)) (c .before .before .before .before .before .before .before .before .before .before .before .before .before .before .before .before .before .before .before .before .before .before .before .args .a)) (partAt (sheetIn (c .before .before .before .before .before .before .before .before .before .before .before .before .before .before .before .before .before .before .before .before .before .before .before .args .s .now)) (c .before .before .before .before .before .before .before .before .before .before .before .before .before .before .before .before .before .before .before .before .before .before .before .args .s .now) (table (c .before .before .before .before .before .before .before .before .before .before .before .before .before .before .before .before .before .before .before .before .before .before .before .args .work .now)) (framesOf (c .before .before .before .before .before .before .before .before .before .before .before .before .before .before .before .before .before .before .before .before .before .before .before .args .s .now) (table (c .before .before .before .before .before .before .before .before .before .before .before .before .before .before .before .before .before .before .before .before .before .before .before .args .work .now)) (c .before .before .before .before .before .before .before .before .before .before .before .before .before .before .before .before .before .before .before .before .before .before .before .args .frames)) (c .before .before .before .before .before .before .before .before .before .before .before .before .before .before .before .before .before .before .before .before .before .before .before .args .b)) _ (c .before .before .before .before .before .before .before .before .before .before .before .before .before .before .before .before .before .before .loop .inv) (child-given (c .before .before .before .before .before .before .before .before .before .before .before .before .before .before .before .before .before .before .before .before .before .before .before .args .s .now) (table (c .before .before .before .before .before .before .before .before .before .before .before .before .before .before .before .before .before .before .before .before .before .before .before .args .work .now)) (c .before .before .before .before .before .before .before .before .before .before .before .before .before .before .before .before .before .before .loop .x) (c .before .before .before .before .before .before .before .before .before .before .before .before .before .before .before .before .before .next .ensures) (c .before .before .before .before .before .before .before .before .before .before .before .before .before .before .before .p .given .0 .0) (c .before .before .before .before .before .before .before .before .before .before .before .before .before .before .before .p .given .1)) (child-given (c .before .before .before .before .before .before .before .before .before .before .before .before .before .before .before .before .before .before .before .before .before .before .before .args .s .now) (table (c .before .before .before .before .before .before .before .before .before .before .before .before .before .before .before .before .before .before .before .before .before .before .before .args .work .now)) (c .before .before .before .before .before .before .before .before .before .before .before .before .before .before .before .before .before .before .loop .y) (c .before .before .before .before .before .before .before .before .before .before .before .before .before .next3 .ensures) (c .before .before .before .before .before .before .before .before .before .before .before .q .given .0 .0) (c .before .before .before .before .before .before .before .before .before .before .before .q .given .1)) (c .before .before .before .before .before .before .before .before .before .names-agree .ensures) (c .before .before .before .before .before .before .before .before .if1 .left) (c .before .before .before .equal-at .ensures) (rw (c .before .before .before .before .before .before .before .value-node .ensures) at (c .before .before .before .before .before .before .part-of .ensures .means)) (rw (c .before .before .before .before .before .value-node2 .ensures) at (c .before .before .before .before .part-of2 .ensures .means)) (c .before .before .if2 .left)
+equal-parts-loop-again t c = parts-same (c .before .before .before .before .before .before .before .before .before .before .before .before .before .before .before .before .before .before .before .before .before .before .before .args .s .now) (table (c .before .before .before .before .before .before .before .before .before .before .before .before .before .before .before .before .before .before .before .before .before .before .before .args .work .now)) (alike (sheetIn (c .before .before .before .before .before .before .before .before .before .before .before .before .before .before .before .before .before .before .before .before .before .before .before .args .s .now)) (c .before .before .before .before .before .before .before .before .before .before .before .before .before .before .before .before .before .before .before .before .before .before .before .args .left) (framesOf (c .before .before .before .before .before .before .before .before .before .before .before .before .before .before .before .before .before .before .before .before .before .before .before .args .s .now) (table (c .before .before .before .before .before .before .before .before .before .before .before .before .before .before .before .before .before .before .before .before .before .before .before .args .work .now)) (c .before .before .before .before .before .before .before .before .before .before .before .before .before .before .before .before .before .before .before .before .before .before .before .args .frames))) (c .before .before .before .before .before .before .before .before .before .before .before .before .before .before .before .before .before .before .before .before .before .before .before .args .named) (partAt (sheetIn (c .before .before .before .before .before .before .before .before .before .before .before .before .before .before .before .before .before .before .before .before .before .before .before .args .s .now)) (c .before .before .before .before .before .before .before .before .before .before .before .before .before .before .before .before .before .before .before .before .before .before .before .args .s .now) (table (c .before .before .before .before .before .before .before .before .before .before .before .before .before .before .before .before .before .before .before .before .before .before .before .args .work .now)) (framesOf (c .before .before .before .before .before .before .before .before .before .before .before .before .before .before .before .before .before .before .before .before .before .before .before .args .s .now) (table (c .before .before .before .before .before .before .before .before .before .before .before .before .before .before .before .before .before .before .before .before .before .before .before .args .work .now)) (c .before .before .before .before .before .before .before .before .before .before .before .before .before .before .before .before .before .before .before .before .before .before .before .args .frames)) (c .before .before .before .before .before .before .before .before .before .before .before .before .before .before .before .before .before .before .before .before .before .before .before .args .a)) (partAt (sheetIn (c .before .before .before .before .before .before .before .before .before .before .before .before .before .before .before .before .before .before .before .before .before .before .before .args .s .now)) (c .before .before .before .before .before .before .before .before .before .before .before .before .before .before .before .before .before .before .before .before .before .before .before .args .s .now) (table (c .before .before .before .before .before .before .before .before .before .before .before .before .before .before .before .before .before .before .before .before .before .before .before .args .work .now)) (framesOf (c .before .before .before .before .before .before .before .before .before .before .before .before .before .before .before .before .before .before .before .before .before .before .before .args .s .now) (table (c .before .before .before .before .before .before .before .before .before .before .before .before .before .before .before .before .before .before .before .before .before .before .before .args .work .now)) (c .before .before .before .before .before .before .before .before .before .before .before .before .before .before .before .before .before .before .before .before .before .before .before .args .frames)) (c .before .before .before .before .before .before .before .before .before .before .before .before .before .before .before .before .before .before .before .before .before .before .before .args .b)) _ (c .before .before .before .before .before .before .before .before .before .before .before .before .before .before .before .before .before .before .loop .inv) (child-given (c .before .before .before .before .before .before .before .before .before .before .before .before .before .before .before .before .before .before .loop .inv .first) (c .before .before .before .before .before .before .before .before .before .before .before .before .before .before .before .before .before .next .ensures) (c .before .before .before .before .before .before .before .before .before .before .before .before .before .before .before .p .given .0 .0) (c .before .before .before .before .before .before .before .before .before .before .before .before .before .before .before .p .given .1)) (child-given (c .before .before .before .before .before .before .before .before .before .before .before .before .before .before .before .before .before .before .loop .inv .second) (c .before .before .before .before .before .before .before .before .before .before .before .before .before .next3 .ensures) (c .before .before .before .before .before .before .before .before .before .before .before .q .given .0 .0) (c .before .before .before .before .before .before .before .before .before .before .before .q .given .1)) (c .before .before .before .before .before .before .before .before .before .names-agree .ensures) (c .before .before .before .before .before .before .before .before .if1 .left) (c .before .before .before .equal-at .ensures) (rw (c .before .before .before .before .before .before .before .value-node .ensures) at (c .before .before .before .before .before .before .part-of .ensures .means)) (rw (c .before .before .before .before .before .value-node2 .ensures) at (c .before .before .before .before .part-of2 .ensures .means)) (c .before .before .if2 .left)
 
 pub +equal-at+equal-parts-spec : {M : Type 1} → statement M
 +equal-at+equal-parts-spec = close μ-equal-at μ-equal-parts (λ t. equal-at-lts.spec (equal-at-claims t) (equal-at-at t) equal-at.Post

@@ -8,8 +8,9 @@ use Rattle.operands.specs.Layered.{eachNode, kids, partAt}
 use Rattle.operands.specs.Rooted.{sheetIn}
 use Rattle.operands.specs.Shape.{oneAlike}
 use Rattle.operands.specs.Stored.{framesOf, operandOf, table}
-use Rattle.operands.proofs.Alike.{begin-room, child-end, child-given, walk-begins, walk-named}
-use Rattle.operands.proofs.Pairs.{Looking, child-node, element-here, element-none, element-on, looked-all, looked-at, looked-here, looked-on}
+use Rattle.operands.proofs.Alike.{begin-room}
+use Rattle.operands.proofs.Ordered.{child-end, child-given}
+use Rattle.operands.proofs.Pairs.{Looking, child-node, element-here, element-none, element-on, look-begins, looked-all, looked-at, looked-here, looked-on}
 use borrow.Author.Needs.{needs}
 use native.Mathlib.Omega.{arith}
 
@@ -23,34 +24,34 @@ of-requires : tie.Need-of-requires Inv-loop μ-loop
 of-requires c κs = begin-room (c .before .before .args .s .now) (c .before .before .args .work .now) false (c .before .before .pre .0 .rows) (c .before .before .pre .2)
 
 loop-holds : tie.Need-loop-holds Inv-loop μ-loop
-loop-holds c = record { rest = rw (c .of .ensures); walk = walk-begins (c .before .before .before .args .s .now) (table (c .before .before .before .args .work .now)) false (c .before .before .before .args .whole .node) (c .before .before .before .pre .2) _ (c .of .ensures); over = walk-named (c .before .before .before .args .s .now) (table (c .before .before .before .args .work .now)) false (c .before .before .before .args .whole .node) (c .before .before .before .pre .2) _ (c .of .ensures) }
+loop-holds c = look-begins false (c .before .before .before .pre .2) (c .before .before .before .pre .0 .linked) (c .of .ensures)
 
 next-requires : tie.Need-next-requires Inv-loop μ-loop
-next-requires c κs = (record { rows = c .before .before .before .before .pre .0 .rows; node = omega arith }, c .loop .inv .walk)
+next-requires c κs = (record { rows = c .before .before .before .before .pre .0 .rows; node = omega arith }, c .loop .inv .walk .within)
 
 enum-told : tie.Need-enum-told Inv-loop μ-loop
 enum-told c = search needs
 
 returns : tie.Need-returns Inv-loop μ-loop
-returns c = looked-all (c .before .before .before .loop .inv) (child-end (c .before .before .before .before .before .before .before .args .s .now) (table (c .before .before .before .before .before .before .before .args .work .now)) (c .before .before .before .loop .c) (c .before .before .next .ensures) (c .enum-told .given .1)) (element-none (alike (sheetIn (c .before .before .before .before .before .before .before .args .s .now)) (c .before .before .before .before .before .before .before .args .left) (framesOf (c .before .before .before .before .before .before .before .args .s .now) (table (c .before .before .before .before .before .before .before .args .work .now)) (c .before .before .before .before .before .before .before .args .frames))) (operandOf (c .before .before .before .before .before .before .before .args .s .now) (table (c .before .before .before .before .before .before .before .args .work .now)) (c .before .before .before .before .before .before .before .args .o)) (partAt (sheetIn (c .before .before .before .before .before .before .before .args .s .now)) (c .before .before .before .before .before .before .before .args .s .now) (table (c .before .before .before .before .before .before .before .args .work .now)) (framesOf (c .before .before .before .before .before .before .before .args .s .now) (table (c .before .before .before .before .before .before .before .args .work .now)) (c .before .before .before .before .before .before .before .args .frames)) (c .before .before .before .before .before .before .before .args .whole)))
+returns c = looked-all (c .before .before .before .loop .inv) (child-end (c .before .before .before .loop .inv .walk) (c .before .before .next .ensures) (c .enum-told .given .1)) (element-none (alike (sheetIn (c .before .before .before .before .before .before .before .args .s .now)) (c .before .before .before .before .before .before .before .args .left) (framesOf (c .before .before .before .before .before .before .before .args .s .now) (table (c .before .before .before .before .before .before .before .args .work .now)) (c .before .before .before .before .before .before .before .args .frames))) (operandOf (c .before .before .before .before .before .before .before .args .s .now) (table (c .before .before .before .before .before .before .before .args .work .now)) (c .before .before .before .before .before .before .before .args .o)) (partAt (sheetIn (c .before .before .before .before .before .before .before .args .s .now)) (c .before .before .before .before .before .before .before .args .s .now) (table (c .before .before .before .before .before .before .before .args .work .now)) (framesOf (c .before .before .before .before .before .before .before .args .s .now) (table (c .before .before .before .before .before .before .before .args .work .now)) (c .before .before .before .before .before .before .before .args .frames)) (c .before .before .before .before .before .before .before .args .whole)))
 
 enum-known-x : tie.Need-enum-known-x Inv-loop μ-loop
 enum-known-x c = search needs
 
 part-of-requires : tie.Need-part-of-requires Inv-loop μ-loop
-part-of-requires c κs = (c .before .before .before .before .before .before .before .before .pre .0, child-node (c .before .before .before .before .before .before .before .before .args .s .now) (table (c .before .before .before .before .before .before .before .before .args .work .now)) (looked-at (c .before .before .before .before .loop .inv) (child-given (c .before .before .before .before .before .before .before .before .args .s .now) (table (c .before .before .before .before .before .before .before .before .args .work .now)) (c .before .before .before .before .loop .c) (c .before .before .before .next .ensures) (c .before .x .given .0 .0) (c .before .x .given .1))))
+part-of-requires c κs = (c .before .before .before .before .before .before .before .before .pre .0, child-node (c .before .before .before .before .before .before .before .before .args .s .now) (table (c .before .before .before .before .before .before .before .before .args .work .now)) (looked-at (c .before .before .before .before .loop .inv) (child-given (c .before .before .before .before .loop .inv .walk) (c .before .before .before .next .ensures) (c .before .x .given .0 .0) (c .before .x .given .1))))
 
 equal-at-requires : tie.Need-equal-at-requires Inv-loop μ-loop
 equal-at-requires c κs = (c .before .before .before .before .before .before .before .before .before .pre .0, c .part-of .ensures .fits, c .before .before .before .before .before .before .before .before .before .pre .1)
 
 returns-2 : tie.Need-returns-2 Inv-loop μ-loop
-returns-2 c = looked-here (c .before .before .before .before .before .before .before .loop .inv) (child-given (c .before .before .before .before .before .before .before .before .before .before .before .args .s .now) (table (c .before .before .before .before .before .before .before .before .before .before .before .args .work .now)) (c .before .before .before .before .before .before .before .loop .c) (c .before .before .before .before .before .before .next .ensures) (c .before .before .before .before .x .given .0 .0) (c .before .before .before .before .x .given .1)) (element-here (alike (sheetIn (c .before .before .before .before .before .before .before .before .before .before .before .args .s .now)) (c .before .before .before .before .before .before .before .before .before .before .before .args .left) (framesOf (c .before .before .before .before .before .before .before .before .before .before .before .args .s .now) (table (c .before .before .before .before .before .before .before .before .before .before .before .args .work .now)) (c .before .before .before .before .before .before .before .before .before .before .before .args .frames))) (operandOf (c .before .before .before .before .before .before .before .before .before .before .before .args .s .now) (table (c .before .before .before .before .before .before .before .before .before .before .before .args .work .now)) (c .before .before .before .before .before .before .before .before .before .before .before .args .o)) (partAt (sheetIn (c .before .before .before .before .before .before .before .before .before .before .before .args .s .now)) (c .before .before .before .before .before .before .before .before .before .before .before .args .s .now) (table (c .before .before .before .before .before .before .before .before .before .before .before .args .work .now)) (framesOf (c .before .before .before .before .before .before .before .before .before .before .before .args .s .now) (table (c .before .before .before .before .before .before .before .before .before .before .before .args .work .now)) (c .before .before .before .before .before .before .before .before .before .before .before .args .frames)) (c .before .before .before .before .before .before .before .before .before .before .before .args .whole)) _ _ (c .before .before .part-of .ensures .means) (c .before .equal-at .ensures) (c .if1 .taken))
+returns-2 c = looked-here (c .before .before .before .before .before .before .before .loop .inv) (child-given (c .before .before .before .before .before .before .before .loop .inv .walk) (c .before .before .before .before .before .before .next .ensures) (c .before .before .before .before .x .given .0 .0) (c .before .before .before .before .x .given .1)) (element-here (alike (sheetIn (c .before .before .before .before .before .before .before .before .before .before .before .args .s .now)) (c .before .before .before .before .before .before .before .before .before .before .before .args .left) (framesOf (c .before .before .before .before .before .before .before .before .before .before .before .args .s .now) (table (c .before .before .before .before .before .before .before .before .before .before .before .args .work .now)) (c .before .before .before .before .before .before .before .before .before .before .before .args .frames))) (operandOf (c .before .before .before .before .before .before .before .before .before .before .before .args .s .now) (table (c .before .before .before .before .before .before .before .before .before .before .before .args .work .now)) (c .before .before .before .before .before .before .before .before .before .before .before .args .o)) (partAt (sheetIn (c .before .before .before .before .before .before .before .before .before .before .before .args .s .now)) (c .before .before .before .before .before .before .before .before .before .before .before .args .s .now) (table (c .before .before .before .before .before .before .before .before .before .before .before .args .work .now)) (framesOf (c .before .before .before .before .before .before .before .before .before .before .before .args .s .now) (table (c .before .before .before .before .before .before .before .before .before .before .before .args .work .now)) (c .before .before .before .before .before .before .before .before .before .before .before .args .frames)) (c .before .before .before .before .before .before .before .before .before .before .before .args .whole)) _ _ (c .before .before .part-of .ensures .means) (c .before .equal-at .ensures) (c .if1 .taken))
 
 loop-less : tie.Need-loop-less Inv-loop μ-loop
-loop-less c = (child-given (c .before .before .before .before .before .before .before .before .before .before .before .before .args .s .now) (table (c .before .before .before .before .before .before .before .before .before .before .before .before .args .work .now)) (c .before .before .before .before .before .before .before .before .loop .c) (c .before .before .before .before .before .before .before .next .ensures) (c .before .before .before .before .before .x .given .0 .0) (c .before .before .before .before .before .x .given .1)) .falls
+loop-less c = (child-given (c .before .before .before .before .before .before .before .before .loop .inv .walk) (c .before .before .before .before .before .before .before .next .ensures) (c .before .before .before .before .before .x .given .0 .0) (c .before .before .before .before .before .x .given .1)) .falls
 
 loop-again : tie.Need-loop-again Inv-loop μ-loop
-loop-again c = looked-on (c .before .before .before .before .before .before .before .before .loop .inv) (child-given (c .before .before .before .before .before .before .before .before .before .before .before .before .args .s .now) (table (c .before .before .before .before .before .before .before .before .before .before .before .before .args .work .now)) (c .before .before .before .before .before .before .before .before .loop .c) (c .before .before .before .before .before .before .before .next .ensures) (c .before .before .before .before .before .x .given .0 .0) (c .before .before .before .before .before .x .given .1)) (element-on (alike (sheetIn (c .before .before .before .before .before .before .before .before .before .before .before .before .args .s .now)) (c .before .before .before .before .before .before .before .before .before .before .before .before .args .left) (framesOf (c .before .before .before .before .before .before .before .before .before .before .before .before .args .s .now) (table (c .before .before .before .before .before .before .before .before .before .before .before .before .args .work .now)) (c .before .before .before .before .before .before .before .before .before .before .before .before .args .frames))) (operandOf (c .before .before .before .before .before .before .before .before .before .before .before .before .args .s .now) (table (c .before .before .before .before .before .before .before .before .before .before .before .before .args .work .now)) (c .before .before .before .before .before .before .before .before .before .before .before .before .args .o)) (partAt (sheetIn (c .before .before .before .before .before .before .before .before .before .before .before .before .args .s .now)) (c .before .before .before .before .before .before .before .before .before .before .before .before .args .s .now) (table (c .before .before .before .before .before .before .before .before .before .before .before .before .args .work .now)) (framesOf (c .before .before .before .before .before .before .before .before .before .before .before .before .args .s .now) (table (c .before .before .before .before .before .before .before .before .before .before .before .before .args .work .now)) (c .before .before .before .before .before .before .before .before .before .before .before .before .args .frames)) (c .before .before .before .before .before .before .before .before .before .before .before .before .args .whole)) _ _ (c .before .before .before .part-of .ensures .means) (c .before .before .equal-at .ensures) (c .before .if1 .left))
+loop-again c = looked-on (c .before .before .before .before .before .before .before .before .loop .inv) (child-given (c .before .before .before .before .before .before .before .before .loop .inv .walk) (c .before .before .before .before .before .before .before .next .ensures) (c .before .before .before .before .before .x .given .0 .0) (c .before .before .before .before .before .x .given .1)) (element-on (alike (sheetIn (c .before .before .before .before .before .before .before .before .before .before .before .before .args .s .now)) (c .before .before .before .before .before .before .before .before .before .before .before .before .args .left) (framesOf (c .before .before .before .before .before .before .before .before .before .before .before .before .args .s .now) (table (c .before .before .before .before .before .before .before .before .before .before .before .before .args .work .now)) (c .before .before .before .before .before .before .before .before .before .before .before .before .args .frames))) (operandOf (c .before .before .before .before .before .before .before .before .before .before .before .before .args .s .now) (table (c .before .before .before .before .before .before .before .before .before .before .before .before .args .work .now)) (c .before .before .before .before .before .before .before .before .before .before .before .before .args .o)) (partAt (sheetIn (c .before .before .before .before .before .before .before .before .before .before .before .before .args .s .now)) (c .before .before .before .before .before .before .before .before .before .before .before .before .args .s .now) (table (c .before .before .before .before .before .before .before .before .before .before .before .before .args .work .now)) (framesOf (c .before .before .before .before .before .before .before .before .before .before .before .before .args .s .now) (table (c .before .before .before .before .before .before .before .before .before .before .before .before .args .work .now)) (c .before .before .before .before .before .before .before .before .before .before .before .before .args .frames)) (c .before .before .before .before .before .before .before .before .before .before .before .before .args .whole)) _ _ (c .before .before .before .part-of .ensures .means) (c .before .before .equal-at .ensures) (c .before .if1 .left))
 
 pub is-element-spec : {M : Type 1} → statement M
 is-element-spec =

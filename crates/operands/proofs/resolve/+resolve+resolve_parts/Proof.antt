@@ -25,9 +25,10 @@ use Prim.Native.Nat.{ℕ, _<_, _+_, _*_, _-_}
 use Rattle.operands.specs.Lazy.{operand}
 use Rattle.operands.specs.Rooted.{sheetIn}
 use Rattle.operands.specs.Stored.{framesOf, table, tree}
-use Rattle.operands.proofs.Alike.{begin-room, child-end, child-given, value-there, walk-begins, walk-named}
+use Rattle.operands.proofs.Alike.{begin-room, value-there}
 use Rattle.operands.proofs.Gathering.{plain-value}
 use Rattle.operands.proofs.Marking.{working-after}
+use Rattle.operands.proofs.Ordered.{child-end, child-given}
 use Rattle.operands.proofs.Slices.{frames-length, node-room, part-falls, parts-falls}
 use Rattle.operands.proofs.Wholes.{Gathering, gather-begin, gather-end, gather-on, gather-refused, this-child, this-shallow, whole-shallow}
 use borrow.Author.Needs.{needs}
@@ -112,13 +113,10 @@ resolve-parts-of-requires : (t : ℕ) → resolve-parts-lts.Need-of-requires (re
 resolve-parts-of-requires t c κs = begin-room (c .before .before .before .args .s .now) (c .before .before .before .args .work .now) (c .before .before .before .args .named) (c .before .before .before .pre .1 .0 .ready .rows) (c .before .before .before .pre .1 .1)
 
 resolve-parts-loop-holds : (t : ℕ) → resolve-parts-lts.Need-loop-holds (resolve-parts-claims t) (resolve-parts-at t) resolve-parts.Post resolve-parts-Inv-loop resolve-parts-μ-loop
-resolve-parts-loop-holds t c =
-    let walk = walk-begins (c .before .before .before .before .args .s .now) (table (c .before .before .before .before .args .work .now)) (c .before .before .before .before .args .named) (c .before .before .before .before .args .node) (c .before .before .before .before .pre .1 .1) _ (c .of .ensures) in
-    let named = walk-named (c .before .before .before .before .args .s .now) (table (c .before .before .before .before .args .work .now)) (c .before .before .before .before .args .named) (c .before .before .before .before .args .node) (c .before .before .before .before .pre .1 .1) _ (c .of .ensures) in
-    gather-begin (c .before .before .before .before .args .quiet) (c .before .before .before .before .args .s .now) (c .before .before .before .before .args .work .now) (sheetIn (c .before .before .before .before .args .s .now)) (framesOf (c .before .before .before .before .args .s .now) (table (c .before .before .before .before .args .work .now)) (c .before .before .before .before .args .frames)) (c .before .before .before .before .args .node) (c .before .before .before .before .args .frames .depth) (c .before .before .before .before .args .named) (c .before .before .before .before .args .left) (c .before .before .before .before .pre .1 .1) (frames-length (c .before .before .before .before .pre .1 .0 .ready)) (c .before .before .before .before .pre .1 .2) _ (c .of .ensures) walk named
+resolve-parts-loop-holds t c = gather-begin (c .before .before .before .before .args .quiet) (c .before .before .before .before .args .s .now) (c .before .before .before .before .args .work .now) (sheetIn (c .before .before .before .before .args .s .now)) (framesOf (c .before .before .before .before .args .s .now) (table (c .before .before .before .before .args .work .now)) (c .before .before .before .before .args .frames)) (c .before .before .before .before .args .node) (c .before .before .before .before .args .frames .depth) (c .before .before .before .before .args .named) (c .before .before .before .before .args .left) (c .before .before .before .before .pre .1 .1) (c .before .before .before .before .pre .1 .0 .ready .linked) (frames-length (c .before .before .before .before .pre .1 .0 .ready)) (c .before .before .before .before .pre .1 .2) (c .of .ensures)
 
 resolve-parts-next-requires : (t : ℕ) → resolve-parts-lts.Need-next-requires (resolve-parts-claims t) (resolve-parts-at t) resolve-parts.Post resolve-parts-Inv-loop resolve-parts-μ-loop
-resolve-parts-next-requires t c κs = (record { rows = working-after (c .before .before .before .before .before .before .pre .1 .0) (c .before .loop .inv .left) .ready .rows; node = omega arith }, rw (c .before .loop .inv .left .rows) (c .before .loop .inv .walk))
+resolve-parts-next-requires t c κs = (record { rows = working-after (c .before .before .before .before .before .before .pre .1 .0) (c .before .loop .inv .left) .ready .rows; node = omega arith }, c .before .loop .inv .walk .within)
 
 resolve-parts-enum-told : (t : ℕ) → resolve-parts-lts.Need-enum-told (resolve-parts-claims t) (resolve-parts-at t) resolve-parts.Post resolve-parts-Inv-loop resolve-parts-μ-loop
 resolve-parts-enum-told t c = search needs
@@ -130,13 +128,13 @@ resolve-parts-same-length : (t : ℕ) → resolve-parts-lts.Need-same-length (re
 resolve-parts-same-length t c = c .before .before .before .before .before .loop .inv .left .long
 
 resolve-parts-returns : (t : ℕ) → resolve-parts-lts.Need-returns (resolve-parts-claims t) (resolve-parts-at t) resolve-parts.Post resolve-parts-Inv-loop resolve-parts-μ-loop
-resolve-parts-returns t c = gather-end (c .before .before .before .before .before .loop .inv) (c .before .before .before .before .before .before .before .before .before .before .pre .1 .1) (child-end (c .before .before .before .before .before .before .before .before .before .before .args .s .now) (table (c .before .before .before .before .before .before .before .before .before .before .args .work .now)) (c .before .before .before .before .before .loop .c) (rw (c .before .before .before .before .before .loop .inv .left .rows) at (c .before .before .before .next .ensures)) (c .before .enum-told .given .1)) (c .gathered .ensures)
+resolve-parts-returns t c = gather-end (c .before .before .before .before .before .loop .inv) (c .before .before .before .before .before .before .before .before .before .before .pre .1 .1) (child-end (c .before .before .before .before .before .loop .inv .walk) (rw (c .before .before .before .before .before .loop .inv .left .rows) at (c .before .before .before .next .ensures)) (c .before .enum-told .given .1)) (c .gathered .ensures)
 
 resolve-parts-enum-known-x : (t : ℕ) → resolve-parts-lts.Need-enum-known-x (resolve-parts-claims t) (resolve-parts-at t) resolve-parts.Post resolve-parts-Inv-loop resolve-parts-μ-loop
 resolve-parts-enum-known-x t c = search needs
 
 resolve-parts-value-node-requires : (t : ℕ) → resolve-parts-lts.Need-value-node-requires (resolve-parts-claims t) (resolve-parts-at t) resolve-parts.Post resolve-parts-Inv-loop resolve-parts-μ-loop
-resolve-parts-value-node-requires t c κs = value-there (c .before .before .before .before .before .before .before .before .before .before .args .s .now) (table (c .before .before .before .before .before .before .before .before .before .before .args .work .now)) (c .before .before .before .before .before .before .before .before .before .before .args .named) (this-child (c .before .before .before .before .before .loop .inv) (child-given (c .before .before .before .before .before .before .before .before .before .before .args .s .now) (table (c .before .before .before .before .before .before .before .before .before .before .args .work .now)) (c .before .before .before .before .before .loop .c) (rw (c .before .before .before .before .before .loop .inv .left .rows) at (c .before .before .before .next .ensures)) (c .before .x .given .0 .0) (c .before .x .given .1))) .1
+resolve-parts-value-node-requires t c κs = value-there (c .before .before .before .before .before .before .before .before .before .before .args .s .now) (table (c .before .before .before .before .before .before .before .before .before .before .args .work .now)) (c .before .before .before .before .before .before .before .before .before .before .args .named) (this-child (c .before .before .before .before .before .loop .inv) (child-given (c .before .before .before .before .before .loop .inv .walk) (rw (c .before .before .before .before .before .loop .inv .left .rows) at (c .before .before .before .next .ensures)) (c .before .x .given .0 .0) (c .before .x .given .1))) .1
 
 resolve-parts-sub-resolve : (t : ℕ) → resolve-parts-lts.Need-sub-resolve (resolve-parts-claims t) (resolve-parts-at t) resolve-parts.Post resolve-parts-Inv-loop resolve-parts-μ-loop
 resolve-parts-sub-resolve t c = whole-shallow (c .before .before .before .before .before .before .before .before .before .before .before .before .args .s .now) (table (c .before .before .before .before .before .before .before .before .before .before .before .before .args .work .now)) (c .before .before .before .before .before .before .before .before .before .before .before .before .args .named) (c .before .before .before .before .before .before .before .before .before .before .before .before .args .node) (c .before .before .before .before .before .before .before .before .before .before .before .before .args .left) (c .before .before .before .before .before .before .before .before .before .before .before .before .pre .1 .1) (c .before .before .before .before .before .before .before .before .before .before .before .before .pre .1 .2) .0
@@ -144,7 +142,7 @@ resolve-parts-sub-resolve t c = whole-shallow (c .before .before .before .before
 resolve-parts-resolve-requires : (t : ℕ) → resolve-parts-lts.Need-resolve-requires (resolve-parts-claims t) (resolve-parts-at t) resolve-parts.Post resolve-parts-Inv-loop resolve-parts-μ-loop
 resolve-parts-resolve-requires t c κs =
     let one = whole-shallow (c .before .before .before .before .before .before .before .before .before .before .before .before .args .s .now) (table (c .before .before .before .before .before .before .before .before .before .before .before .before .args .work .now)) (c .before .before .before .before .before .before .before .before .before .before .before .before .args .named) (c .before .before .before .before .before .before .before .before .before .before .before .before .args .node) (c .before .before .before .before .before .before .before .before .before .before .before .before .args .left) (c .before .before .before .before .before .before .before .before .before .before .before .before .pre .1 .1) (c .before .before .before .before .before .before .before .before .before .before .before .before .pre .1 .2) .0 in
-    (parts-falls (c .before .before .before .before .before .before .before .before .before .before .before .before .args .left) (c .before .before .before .before .before .before .before .before .before .before .before .before .pre .0) one, (working-after (c .before .before .before .before .before .before .before .before .before .before .before .before .pre .1 .0) (c .before .before .before .before .before .before .before .loop .inv .left), rw (c .before .before .before .before .before .before .before .loop .inv .left .rows, c .before .value-node .ensures) (value-there (c .before .before .before .before .before .before .before .before .before .before .before .before .args .s .now) (table (c .before .before .before .before .before .before .before .before .before .before .before .before .args .work .now)) (c .before .before .before .before .before .before .before .before .before .before .before .before .args .named) (this-child (c .before .before .before .before .before .before .before .loop .inv) (child-given (c .before .before .before .before .before .before .before .before .before .before .before .before .args .s .now) (table (c .before .before .before .before .before .before .before .before .before .before .before .before .args .work .now)) (c .before .before .before .before .before .before .before .loop .c) (rw (c .before .before .before .before .before .before .before .loop .inv .left .rows) at (c .before .before .before .before .before .next .ensures)) (c .before .before .before .x .given .0 .0) (c .before .before .before .x .given .1))) .0), rw (c .before .before .before .before .before .before .before .loop .inv .left .rows, c .before .value-node .ensures) (this-shallow (c .before .before .before .before .before .before .before .loop .inv) (child-given (c .before .before .before .before .before .before .before .before .before .before .before .before .args .s .now) (table (c .before .before .before .before .before .before .before .before .before .before .before .before .args .work .now)) (c .before .before .before .before .before .before .before .loop .c) (rw (c .before .before .before .before .before .before .before .loop .inv .left .rows) at (c .before .before .before .before .before .next .ensures)) (c .before .before .before .x .given .0 .0) (c .before .before .before .x .given .1)))))
+    (parts-falls (c .before .before .before .before .before .before .before .before .before .before .before .before .args .left) (c .before .before .before .before .before .before .before .before .before .before .before .before .pre .0) one, (working-after (c .before .before .before .before .before .before .before .before .before .before .before .before .pre .1 .0) (c .before .before .before .before .before .before .before .loop .inv .left), rw (c .before .before .before .before .before .before .before .loop .inv .left .rows, c .before .value-node .ensures) (value-there (c .before .before .before .before .before .before .before .before .before .before .before .before .args .s .now) (table (c .before .before .before .before .before .before .before .before .before .before .before .before .args .work .now)) (c .before .before .before .before .before .before .before .before .before .before .before .before .args .named) (this-child (c .before .before .before .before .before .before .before .loop .inv) (child-given (c .before .before .before .before .before .before .before .loop .inv .walk) (rw (c .before .before .before .before .before .before .before .loop .inv .left .rows) at (c .before .before .before .before .before .next .ensures)) (c .before .before .before .x .given .0 .0) (c .before .before .before .x .given .1))) .0), rw (c .before .before .before .before .before .before .before .loop .inv .left .rows, c .before .value-node .ensures) (this-shallow (c .before .before .before .before .before .before .before .loop .inv) (child-given (c .before .before .before .before .before .before .before .loop .inv .walk) (rw (c .before .before .before .before .before .before .before .loop .inv .left .rows) at (c .before .before .before .before .before .next .ensures)) (c .before .before .before .x .given .0 .0) (c .before .before .before .x .given .1)))))
 
 resolve-parts-seen-requires : (t : ℕ) → resolve-parts-lts.Need-seen-requires (resolve-parts-claims t) (resolve-parts-at t) resolve-parts.Post resolve-parts-Inv-loop resolve-parts-μ-loop
 resolve-parts-seen-requires t c κs = search needs
@@ -156,7 +154,7 @@ resolve-parts-same-length-2 : (t : ℕ) → resolve-parts-lts.Need-same-length-2
 resolve-parts-same-length-2 t c = c .before .before .before .before .before .before .resolve .ensures .left .long ∙ c .before .before .before .before .before .before .before .before .before .before .before .before .before .before .loop .inv .left .long
 
 resolve-parts-returns-2 : (t : ℕ) → resolve-parts-lts.Need-returns-2 (resolve-parts-claims t) (resolve-parts-at t) resolve-parts.Post resolve-parts-Inv-loop resolve-parts-μ-loop
-resolve-parts-returns-2 t c = gather-refused (c .before .before .before .before .before .before .before .before .before .before .before .before .before .before .loop .inv) (child-given (c .before .before .before .before .before .before .before .before .before .before .before .before .before .before .before .before .before .before .before .args .s .now) (table (c .before .before .before .before .before .before .before .before .before .before .before .before .before .before .before .before .before .before .before .args .work .now)) (c .before .before .before .before .before .before .before .before .before .before .before .before .before .before .loop .c) (rw (c .before .before .before .before .before .before .before .before .before .before .before .before .before .before .loop .inv .left .rows) at (c .before .before .before .before .before .before .before .before .before .before .before .before .next .ensures)) (c .before .before .before .before .before .before .before .before .before .before .x .given .0 .0) (c .before .before .before .before .before .before .before .before .before .before .x .given .1)) (rw (c .before .before .before .before .before .before .before .before .before .before .before .before .before .before .loop .inv .left .rows, c .before .before .before .before .before .before .before .before .value-node .ensures) at (c .before .before .before .before .before .before .resolve .ensures)) _ (sym (c .before .before .before .seen .ensures) ∙ c .before .r .given .1)
+resolve-parts-returns-2 t c = gather-refused (c .before .before .before .before .before .before .before .before .before .before .before .before .before .before .loop .inv) (child-given (c .before .before .before .before .before .before .before .before .before .before .before .before .before .before .loop .inv .walk) (rw (c .before .before .before .before .before .before .before .before .before .before .before .before .before .before .loop .inv .left .rows) at (c .before .before .before .before .before .before .before .before .before .before .before .before .next .ensures)) (c .before .before .before .before .before .before .before .before .before .before .x .given .0 .0) (c .before .before .before .before .before .before .before .before .before .before .x .given .1)) (rw (c .before .before .before .before .before .before .before .before .before .before .before .before .before .before .loop .inv .left .rows, c .before .before .before .before .before .before .before .before .value-node .ensures) at (c .before .before .before .before .before .before .resolve .ensures)) _ (sym (c .before .before .before .seen .ensures) ∙ c .before .r .given .1)
 
 resolve-parts-enum-known-present : (t : ℕ) → resolve-parts-lts.Need-enum-known-present (resolve-parts-claims t) (resolve-parts-at t) resolve-parts.Post resolve-parts-Inv-loop resolve-parts-μ-loop
 resolve-parts-enum-known-present t c = search needs
@@ -165,10 +163,10 @@ resolve-parts-both-requires : (t : ℕ) → resolve-parts-lts.Need-both-requires
 resolve-parts-both-requires t c κs = search needs
 
 resolve-parts-loop-less : (t : ℕ) → resolve-parts-lts.Need-loop-less (resolve-parts-claims t) (resolve-parts-at t) resolve-parts.Post resolve-parts-Inv-loop resolve-parts-μ-loop
-resolve-parts-loop-less t c = (child-given (c .before .before .before .before .before .before .before .before .before .before .before .before .before .before .before .before .before .before .before .before .before .args .s .now) (table (c .before .before .before .before .before .before .before .before .before .before .before .before .before .before .before .before .before .before .before .before .before .args .work .now)) (c .before .before .before .before .before .before .before .before .before .before .before .before .before .before .before .before .loop .c) (rw (c .before .before .before .before .before .before .before .before .before .before .before .before .before .before .before .before .loop .inv .left .rows) at (c .before .before .before .before .before .before .before .before .before .before .before .before .before .before .next .ensures)) (c .before .before .before .before .before .before .before .before .before .before .before .before .x .given .0 .0) (c .before .before .before .before .before .before .before .before .before .before .before .before .x .given .1)) .falls
+resolve-parts-loop-less t c = (child-given (c .before .before .before .before .before .before .before .before .before .before .before .before .before .before .before .before .loop .inv .walk) (rw (c .before .before .before .before .before .before .before .before .before .before .before .before .before .before .before .before .loop .inv .left .rows) at (c .before .before .before .before .before .before .before .before .before .before .before .before .before .before .next .ensures)) (c .before .before .before .before .before .before .before .before .before .before .before .before .x .given .0 .0) (c .before .before .before .before .before .before .before .before .before .before .before .before .x .given .1)) .falls
 
 resolve-parts-loop-again : (t : ℕ) → resolve-parts-lts.Need-loop-again (resolve-parts-claims t) (resolve-parts-at t) resolve-parts.Post resolve-parts-Inv-loop resolve-parts-μ-loop
-resolve-parts-loop-again t c = gather-on (c .before .before .before .before .before .before .before .before .before .before .before .before .before .before .before .before .loop .inv) (child-given (c .before .before .before .before .before .before .before .before .before .before .before .before .before .before .before .before .before .before .before .before .before .args .s .now) (table (c .before .before .before .before .before .before .before .before .before .before .before .before .before .before .before .before .before .before .before .before .before .args .work .now)) (c .before .before .before .before .before .before .before .before .before .before .before .before .before .before .before .before .loop .c) (rw (c .before .before .before .before .before .before .before .before .before .before .before .before .before .before .before .before .loop .inv .left .rows) at (c .before .before .before .before .before .before .before .before .before .before .before .before .before .before .next .ensures)) (c .before .before .before .before .before .before .before .before .before .before .before .before .x .given .0 .0) (c .before .before .before .before .before .before .before .before .before .before .before .before .x .given .1)) (rw (c .before .before .before .before .before .before .before .before .before .before .before .before .before .before .before .before .loop .inv .left .rows, c .before .before .before .before .before .before .before .before .before .before .value-node .ensures) at (c .before .before .before .before .before .before .before .before .resolve .ensures)) _ (sym (c .before .before .before .before .before .seen .ensures) ∙ c .before .before .before .present .given .1) (c .before .both .ensures)
+resolve-parts-loop-again t c = gather-on (c .before .before .before .before .before .before .before .before .before .before .before .before .before .before .before .before .loop .inv) (child-given (c .before .before .before .before .before .before .before .before .before .before .before .before .before .before .before .before .loop .inv .walk) (rw (c .before .before .before .before .before .before .before .before .before .before .before .before .before .before .before .before .loop .inv .left .rows) at (c .before .before .before .before .before .before .before .before .before .before .before .before .before .before .next .ensures)) (c .before .before .before .before .before .before .before .before .before .before .before .before .x .given .0 .0) (c .before .before .before .before .before .before .before .before .before .before .before .before .x .given .1)) (rw (c .before .before .before .before .before .before .before .before .before .before .before .before .before .before .before .before .loop .inv .left .rows, c .before .before .before .before .before .before .before .before .before .before .value-node .ensures) at (c .before .before .before .before .before .before .before .before .resolve .ensures)) _ (sym (c .before .before .before .before .before .seen .ensures) ∙ c .before .before .before .present .given .1) (c .before .both .ensures)
 
 pub +resolve+resolve-parts-spec : {M : Type 1} → statement M
 +resolve+resolve-parts-spec = close μ-resolve μ-resolve-parts (λ t. resolve-lts.spec (resolve-claims t) (resolve-at t) resolve.Post

@@ -1,27 +1,24 @@
--- `operands::children::Children::of` starts a walk: by whether it goes over names.
+-- `operands::children::Children::of` starts a walk.
 -- Assumes nothing.
 use borrow.Author.Needs.{needs}
 use Rattle.operands.proofs.children.Children.of.Statement.{statement}
 use Rattle.operands.proofs.children.Children.of.Tie as tie
-use Rattle.operands.specs.Children.{begun}
 use native.Mathlib.Omega.{arith}
-
-add-first : tie.Need-add-first
-add-first c = search needs
 
 after-at-requires : tie.Need-after-at-requires
 after-at-requires c κs = search needs
 
-sub-left : tie.Need-sub-left
-sub-left c = omega (arith, c .after-at .ensures)
+first-at-requires : tie.Need-first-at-requires
+first-at-requires c κs = search needs
+
+add-t6 : tie.Need-add-t6
+add-t6 c = search needs
+
+sub-t7 : tie.Need-sub-t7
+sub-t7 c = omega (arith, c .before .after-at .ensures)
 
 returns : tie.Need-returns
-unfolding begun
-returns c = rw (c .if1 .taken, c .before .after-at .ensures)
-
-returns-2 : tie.Need-returns-2
-unfolding begun
-returns-2 c = rw (c .if1 .left, c .before .after-at .ensures)
+returns c = rw (c .before .after-at .ensures, c .first-at .ensures)
 
 pub of-spec : {M : Type 1} → statement M
-of-spec = tie.close (tie.spec add-first after-at-requires sub-left returns returns-2)
+of-spec = tie.close (tie.spec after-at-requires first-at-requires add-t6 sub-t7 returns)
