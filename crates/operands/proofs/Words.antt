@@ -1,7 +1,7 @@
 -- The table's words: rows as they are, links without their marks.
 -- Assumes nothing.
 use mathlib.Core.List.{List, [], _++_, _∷_}
-use mathlib.Core.Path.{ap, refl, _∙_, _≡_}
+use mathlib.Core.Path.{ap, refl, sym, _∙_, _≡_}
 use Prim.Native.Nat.{suc, zero, ℕ, _*_, _+_, _/_, _<_}
 use native.Mathlib.Nat.{le-of-suc-le-suc, not-suc-le-zero, suc-add, zero-add}
 use native.Mathlib.Omega.{arith}
@@ -88,3 +88,14 @@ table-set w n v e = parts-set 12288 4096 w n v e
 pub table-twice : (w : List ℕ) → table (table w) ≡ table w
 unfolding table
 table-twice w = parts-twice 12288 4096 w
+
+-- the same table, the same words
+module _ (w w′ : List ℕ) (e : table w′ ≡ table w) where
+  pub same-row-word : (i : ℕ) → i < 12288 → getD w′ i 0 ≡ getD w i 0
+  same-row-word i h = row-word w′ i h ∙ ap (λ (t : List ℕ). getD t i 0) e ∙ sym (row-word w i h)
+
+  pub same-link : (n : ℕ) → n < 4096 → linkAt w′ n ≡ linkAt w n
+  same-link n h = sym (link-word w′ n h) ∙ ap (λ (t : List ℕ). linkAt t n) e ∙ link-word w n h
+
+  pub same-rows : take 12288 w′ ≡ take 12288 w
+  same-rows = sym (rows-of-table w′) ∙ ap (take 12288) e ∙ rows-of-table w
