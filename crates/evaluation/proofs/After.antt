@@ -1,27 +1,29 @@
 -- Marking leaves what the rows give: a node, nodes one after the other, the sheet's members; and the names that are marked.
 -- Assumes nothing.
 use mathlib.Core.Bool.{Bool, false, true}
-use mathlib.Core.List.{List, List·Memᴰ·cases-cons, List·Memᴰ·head, List·Memᴰ·not-nil, List·Memᴰ·tail, _++_}
+use mathlib.Core.List.{List, List·Memᴰ·cases-cons, List·Memᴰ·head, List·Memᴰ·not-nil, List·Memᴰ·tail, _++_, _∷_}
 use mathlib.Core.Logic.{⊎-elim}
 use mathlib.Core.Option.{Option}
 use mathlib.Core.Path.{ap, refl, sym, _∙_, _≡_}
-use Prim.Native.Nat.{suc, zero, ℕ, _*_, _+_, _/_, _<_, _≤_}
+use Prim.Native.Nat.{suc, zero, ℕ, _%_, _*_, _+_, _-_, _/_, _<_, _≤_}
 use native.Mathlib.Omega.{arith}
-use lib.Dec.{eqb}
+use lib.Dec.{eqb, ltb}
 use lib.ListN.{drop, getD, length, take, take-append-drop}
 use lib.Seq.{drop-append-seam, take-add, take-append-seam, take-take}
-use borrow.Author.Tests.{eqb-false, eqb-true}
+use borrow.Author.Tests.{eqb-false, eqb-true, ltb-true}
 use Rattle.reader.proofs.Decoded.{length-rows, length-rowsIn}
-use Rattle.reader.proofs.Walk.{value-is, values-are}
+use Rattle.reader.proofs.Walk.{after-node, members-more, value-is, values-are}
 use Rattle.reader.specs.Bytes.{Bytes}
-use Rattle.reader.specs.Held.{AreNodes, Begins, IsNode, NodeAt, NodesAt}
+use Rattle.reader.specs.Held.{AreMembers, AreNodes, Begins, HasMembers, HasNode, IsNode, NodeAt, NodesAt}
 use Rattle.reader.specs.Json.{Value, Values, elements}
+use Rattle.reader.specs.KeyOrder.{inOrder, namesAt, namesBy, nodesOf}
 use Rattle.reader.specs.Limits.{maxNumber, tidy, tidyIn}
+use Rattle.reader.specs.Links.{Linked, LinkedAt, linkAt, linkedBy}
 use Rattle.reader.specs.Marks.{isMarked, marked, markedFrom}
 use Rattle.reader.specs.Refusal.{Result, ok}
 use Rattle.reader.specs.Sorted.{sorted, sortedIn}
 use Rattle.reader.specs.Spans.{textAt}
-use Rattle.reader.specs.Table.{rows, rowsIn, startAt, valueAt, valuesAt}
+use Rattle.reader.specs.Table.{afterAt, kindAt, rows, rowsIn, startAt, valueAt, valuesAt}
 use Rattle.reader.specs.declared.rows.Found.{Found}
 use Rattle.reader.specs.declared.rows.Found.the-variants as founds
 use Rattle.sheet.specs.Accepted.{Accepted, ConditionsGive, EachGives, Gives, MayGive, Stored}
@@ -31,7 +33,8 @@ use Rattle.sheet.specs.Sheet.{Sheet}
 use Rattle.sheet.specs.declared.shape.Members.{Members}
 use Rattle.semantics.proofs.Names.{ascending-set}
 use Rattle.semantics.specs.Names.{Named, Names, ascending}
-use Rattle.operands.proofs.Words.{row-word}
+use Rattle.operands.proofs.Trees.{object-row}
+use Rattle.operands.proofs.Words.{row-word, same-link, same-row-word, same-rows, table-twice}
 use Rattle.operands.specs.Marks.{Left, Marked}
 use Rattle.operands.specs.Stored.{table}
 
@@ -45,7 +48,7 @@ part-same n i m w w′ h e = part-of n i m w′ h ∙ ap (λ (l : List ℕ). dro
 begins-rows : (w w′ : List ℕ) (i : ℕ) (vs : List ℕ) → table w′ ≡ table w → i + length vs ≤ 12288 → Begins w i vs → Begins w′ i vs
 begins-rows w w′ i vs e h (r, b) = (
   drop (length vs) (drop i w′),
-  sym (take-append-drop (length vs) (drop i w′)) ∙ ap (λ (l : List ℕ). l ++ drop (length vs) (drop i w′)) (part-same 12288 i (length vs) w w′ h e ∙ ap (take (length vs)) b ∙ take-append-seam vs r),
+  sym (take-append-drop (length vs) (drop i w′)) ∙ ap (λ (l : List ℕ). l ++ drop (length vs) (drop i w′)) (part-same 12288 i (length vs) w w′ h (same-rows w w′ e) ∙ ap (take (length vs)) b ∙ take-append-seam vs r),
 )
 
 -- ---- nodes
@@ -60,6 +63,52 @@ nodes-rows {s} {w} {w′} {left} {k} {e} q h = (record { tree = h .tree; held = 
   where
     held : NodesAt s w′ left k e (h .tree)
     held = record { words = begins-rows w w′ (3 * k) (rowsIn (h .tree) k) q (omega (arith, length-rowsIn (h .tree) k, h .held .upto, h .most)) (h .held .words); upto = h .held .upto; shallow = h .held .shallow; fits = h .held .fits }
+
+-- ---- links
+module _ (s : Bytes) (w w′ : List ℕ) (same : table w′ ≡ table w) where
+  names-rows : (m : ℕ) {left k e : ℕ} → AreMembers s w left k e → namesBy s w′ m k e ≡ namesBy s w m k e
+  unfolding namesBy
+  names-rows zero h = refl
+  names-rows (suc m) {left} {k} {e} h = go (λ i. names-rows m i) (ltb k e) refl
+    where
+      go : (AreMembers s w left (afterAt w (k + 1)) e → namesBy s w′ m (afterAt w (k + 1)) e ≡ namesBy s w m (afterAt w (k + 1)) e) → (b : Bool) → ltb k e ≡ b → namesBy s w′ (suc m) k e ≡ namesBy s w (suc m) k e
+      go below false q = rw (q, namesBy)
+      go below true q =
+          let x = members-more s w h (ltb-true k e q) in
+          let l = after-node s w (x .here) in
+          let a : afterAt w′ (k + 1) ≡ afterAt w (k + 1) = same-row-word w w′ same (3 * (k + 1) + 2) (omega (arith, l)) in
+          let b : startAt w′ k ≡ startAt w k = ap (λ (y : ℕ). y / 8) (same-row-word w w′ same (3 * k) (omega (arith, l))) in
+          rw (q, namesBy, a, b) (ap {B = List (Bytes × ℕ)} (λ ns. (textAt s (startAt w k), k) ∷ ns) (below (x .others)))
+
+  links-rows : (m k e : ℕ) → e ≤ 4096 → linkedBy w′ m k e ≡ linkedBy w m k e
+  unfolding linkedBy
+  links-rows zero k e h = refl
+  links-rows (suc m) k e h = go (links-rows m (linkAt w k) e h) (ltb k e) refl
+    where
+      go : linkedBy w′ m (linkAt w k) e ≡ linkedBy w m (linkAt w k) e → (b : Bool) → ltb k e ≡ b → linkedBy w′ (suc m) k e ≡ linkedBy w (suc m) k e
+      go below false q = rw (q, linkedBy)
+      go below true q =
+          let l = ltb-true k e q in
+          let a : linkAt w′ k ≡ linkAt w k = same-link w w′ same k (omega arith) in
+          rw (q, linkedBy, a) (ap {B = List ℕ} (λ ns. k ∷ ns) below)
+
+  linked-at : {n : ℕ} → HasNode s w n → HasMembers s w (n + 1) (afterAt w n) → LinkedAt s w n → LinkedAt s w′ n
+  unfolding namesAt
+  linked-at {n} h k l =
+      let u = after-node s w (h .isNode) in
+      let a : afterAt w′ n ≡ afterAt w n = same-row-word w w′ same (3 * n + 2) (omega (arith, u)) in
+      let b : linkAt w′ n ≡ linkAt w n = same-link w w′ same n (omega (arith, u)) in
+      let e = afterAt w n in
+      rw (a, b) (links-rows (e - (n + 1)) (linkAt w n) e (u .1) ∙ l ∙ ap (λ (ns : List (Bytes × ℕ)). nodesOf (inOrder ns)) (sym (names-rows (e - (n + 1)) (k .members))))
+
+pub linked-rows : {s : Bytes} {w w′ : List ℕ} → table w′ ≡ table w → Linked s w → Linked s w′
+linked-rows {s} {w} {w′} e l = record { links = λ n h k. go n h k }
+  where
+    go : (n : ℕ) → HasNode s w′ n → kindAt w′ n ≡ 6 → LinkedAt s w′ n
+    go n h k =
+        let h′ : HasNode s w n = record { left = h .left; isNode = node-rows (sym e) (h .isNode) .0 } in
+        let k′ : kindAt w n ≡ 6 = ap (λ (y : ℕ). y % 8) (sym (same-row-word w w′ e (3 * n) (omega (arith, after-node s w (h′ .isNode))))) ∙ k in
+        linked-at s w w′ e h′ (object-row (record { node = h′; kind = k′ }) .members) (l .links n h′ k′)
 
 -- ---- what they give
 pub gives-rows : {A : Type 0} {kind : Value → Result A} {s : Bytes} {w w′ : List ℕ} {n : ℕ} {a : A} → table w′ ≡ table w → Gives kind s w n a → Gives kind s w′ n a
@@ -77,7 +126,7 @@ pub conditions-rows : {s : Bytes} {w w′ : List ℕ} {k e : ℕ} {cs : Conditio
 conditions-rows q g = let x = nodes-rows q (g .nodes) in record { nodes = x .0; isTidy = ap (tidyIn maxNumber) (x .1) ∙ g .isTidy; is = ap (λ (v : Values). conditionsIn (sortedIn v)) (x .1) ∙ g .is }
 
 stored-rows : {s : Bytes} {w w′ : List ℕ} → table w′ ≡ table w → Stored s w → Stored s w′
-stored-rows e g = let x = node-rows e (g .node) in record { reads = g .reads ∙ ap {B = Result Value} (λ v. ok v) (sym (x .1)); node = x .0 }
+stored-rows e g = let x = node-rows e (g .node) in record { reads = g .reads ∙ ap {B = Result Value} (λ v. ok v) (sym (x .1)); node = x .0; linked = linked-rows e (g .linked) }
 
 pub accepted-rows : {s : Bytes} {w w′ : List ℕ} {m : Members} {sheet : Sheet Condition} → table w′ ≡ table w → Accepted s w m sheet → Accepted s w′ m sheet
 accepted-rows {s} {w} {w′} {m} {sheet} e a =
@@ -100,9 +149,9 @@ accepted-rows {s} {w} {w′} {m} {sheet} e a =
       outcomes = gives-rows e (a .outcomes);
     }
 
--- the rows alone give the same
-pub table-twice : (w : List ℕ) → table (table w) ≡ table w
-table-twice w = take-take 12288 12288 w (omega arith)
+-- the table alone gives the same
+pub linked-table : {s : Bytes} {w : List ℕ} → Linked s w → Linked s (table w)
+linked-table {w = w} l = linked-rows (table-twice w) l
 
 pub gives-table : {A : Type 0} {kind : Value → Result A} {s : Bytes} {w : List ℕ} {n : ℕ} {a : A} → Gives kind s w n a → Gives kind s (table w) n a
 gives-table {w = w} g = gives-rows (table-twice w) g
@@ -121,7 +170,7 @@ module _ (s : Bytes) (w : List ℕ) (x : Bytes) where
   from-marked (suc m) k h n = go (λ j. from-marked m (k + 1) (omega arith) j) (isMarked w k) refl n
     where
       go : (Named x (markedFrom s w m (k + 1)) → Marked s w x) → (b : Bool) → isMarked w k ≡ b → Named x (markedFrom s w (suc m) k) → Marked s w x
-      go below true q j = ⊎-elim (λ e. record { node = k; small = omega arith; mark = eqb-true (getD w (12288 + k) 0) 1 q; text = sym (same-text k (omega arith)) ∙ sym e }) below (List·Memᴰ·cases-cons (rw (q, markedFrom) at j))
+      go below true q j = ⊎-elim (λ e. record { node = k; small = omega arith; mark = eqb-true (getD w (12288 + k) 0 % 2) 1 q; text = sym (same-text k (omega arith)) ∙ sym e }) below (List·Memᴰ·cases-cons (rw (q, markedFrom) at j))
       go below false q j = below (rw (q, markedFrom) at j)
 
   to-marked : (m k : ℕ) (y : Marked s w x) → k ≤ y .node → y .node < k + m → Named x (markedFrom s w m k)
@@ -132,11 +181,11 @@ module _ (s : Bytes) (w : List ℕ) (x : Bytes) where
       go : (k + 1 ≤ y .node → Named x (markedFrom s w m (k + 1))) → (b : Bool) → isMarked w k ≡ b → (d : Bool) → eqb k (y .node) ≡ d → Named x (markedFrom s w (suc m) k)
       go below true q true r = let e = eqb-true k (y .node) r in rw (q, markedFrom) (List·Memᴰ·head (sym (y .text) ∙ sym (same-text (y .node) (y .small)) ∙ ap (λ (n : ℕ). textAt s (startAt w n)) (sym e)))
       go below true q false r = let e = eqb-false k (y .node) r in rw (q, markedFrom) (List·Memᴰ·tail (below (omega arith)))
-      go below false q true r = let e = eqb-true k (y .node) r in absurd (eqb-false (getD w (12288 + k) 0) 1 q (ap (λ (n : ℕ). getD w (12288 + n) 0) e ∙ y .mark))
+      go below false q true r = let e = eqb-true k (y .node) r in absurd (eqb-false (getD w (12288 + k) 0 % 2) 1 q (ap (λ (n : ℕ). getD w (12288 + n) 0 % 2) e ∙ y .mark))
       go below false q false r = let e = eqb-false k (y .node) r in rw (q, markedFrom) (below (omega arith))
 
 -- over a table without marks, what is marked after are the names met
-pub names-marked : {s : Bytes} {w w′ : List ℕ} {ns : Names} → ((i : ℕ) → 12288 ≤ i → i < 16384 → getD w i 0 ≡ 0) → Left s w w′ ns → ascending (marked s w′) ≡ ascending ns
+pub names-marked : {s : Bytes} {w w′ : List ℕ} {ns : Names} → ((i : ℕ) → 12288 ≤ i → i < 16384 → getD w i 0 % 2 ≡ 0) → Left s w w′ ns → ascending (marked s w′) ≡ ascending ns
 unfolding marked
 names-marked {s} {w} {w′} {ns} z l = ascending-set (marked s w′) ns λ x. (λ n. ⊎-elim (λ m. none x m) (λ m. m) (l .only x (from-marked s w′ x 4096 0 (omega arith) n)), λ n. let y = l .added x n in to-marked s w′ x 4096 0 y (omega arith) (omega (arith, y .small)))
   where

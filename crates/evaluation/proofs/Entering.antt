@@ -39,7 +39,7 @@ use Rattle.evaluation.specs.Answers.{EvaluatedAs}
 use Rattle.evaluation.specs.Entry.{rootsOf}
 use Rattle.evaluation.specs.Judge.{judge}
 use Rattle.evaluation.specs.declared.comparison.Outcome.{Outcome}
-use Rattle.evaluation.proofs.After.{gives-table}
+use Rattle.evaluation.proofs.After.{gives-table, linked-table}
 use Rattle.evaluation.proofs.Limits.{condition-low, judge-read, sorted-depth}
 
 -- ---- a node's tree has no more brackets open than the node's rows
@@ -127,6 +127,7 @@ module _ {s : Bytes} {w : List ℕ} {m : Places} {sheet : Sheet Condition} (a : 
           rows = omega arith;
           short = read-exactly s (valueAt s w 0) .0 (a .stored .reads) .bytes;
           rooted = rw e rooted;
+          linked = linked-table (a .stored .linked);
           bound = record { within = omega arith; names = subst (λ (d : ℕ). Named s (top d (f .slots))) (sym z) tt; operands = subst (λ (d : ℕ). Bound s (table w) (top d (f .slots))) (sym z) tt };
         };
         long = l;
