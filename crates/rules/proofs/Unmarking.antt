@@ -4,18 +4,18 @@ use mathlib.Core.Bool.{Bool, false, true}
 use mathlib.Core.List.{List}
 use mathlib.Core.Logic.{_≢_, _⊎_, inl, inr}
 use mathlib.Core.Path.{ap, refl, subst, sym, _∙_, _≡_}
-use Prim.Native.Nat.{ℕ, _*_, _+_, _/_, _<_, _≤_}
+use Prim.Native.Nat.{ℕ, _%_, _*_, _+_, _-_, _/_, _<_, _≤_}
 use native.Mathlib.Omega.{arith}
 use lib.Dec.{eqb}
 use lib.ListN.{getD, length, length-set, set}
-use lib.Seq.{drop-set-lt, getD-set-other, getD-set-same, take-set-le}
+use lib.Seq.{drop-set-lt, getD-set-other, getD-set-same}
 use borrow.Author.Tests.{eqb-false, eqb-true}
 use Rattle.evaluation.specs.Answers.{EvaluatedAs, Marks, outcomeOf}
 use Rattle.evaluation.specs.declared.comparison.Outcome.{Outcome}
 use Rattle.evaluation.specs.declared.comparison.Outcome.the-variants as outcomes
 use Rattle.line.specs.Texts.{NamesHeld}
 use Rattle.operands.proofs.Trees.{text-row}
-use Rattle.operands.proofs.Words.{row-word}
+use Rattle.operands.proofs.Words.{row-word, same-row-word, table-set}
 use Rattle.operands.specs.Marks.{Left}
 use Rattle.operands.specs.Stored.{HasKind, table}
 use Rattle.reader.specs.Bytes.{Bytes}
@@ -38,14 +38,8 @@ pub marks-then : {w w′ w″ : List ℕ} → OnlyMarks w w′ → OnlyMarks w�
 marks-then a b = record { rows = b .rows ∙ a .rows; long = b .long ∙ a .long; further = b .further ∙ a .further }
 
 module _ {w w′ : List ℕ} (o : OnlyMarks w w′) where
-  same-word : (i : ℕ) → i < 12288 → getD w′ i 0 ≡ getD w i 0
-  same-word i h = row-word w′ i h ∙ ap (λ (t : List ℕ). getD t i 0) (o .rows) ∙ sym (row-word w i h)
-
   pub same-after : (n : ℕ) → n < 4096 → afterAt w′ n ≡ afterAt w n
-  same-after n h = same-word (3 * n + 2) (omega arith)
-
-  same-start : (n : ℕ) → n < 4096 → startAt w′ n ≡ startAt w n
-  same-start n h = ap (λ (x : ℕ). x / 8) (same-word (3 * n) (omega arith))
+  same-after n h = same-row-word w w′ (o .rows) (3 * n + 2) (omega arith)
 
 module _ {s : Bytes} {w w′ : List ℕ} (o : OnlyMarks w w′) where
   pub still-accepted : {m : Members} → Known (Accepted s w m) → Known (Accepted s w′ m)
@@ -58,24 +52,34 @@ module _ {s : Bytes} {w w′ : List ℕ} (o : OnlyMarks w w′) where
 pub unmarking : (w : List ℕ) → Unmarked w w 12288
 unmarking w = record { only = marks-none w; zero = λ i h j. absurd (omega arith) }
 
-pub unmarked-one : {w w′ : List ℕ} {i : ℕ} → Unmarked w w′ i → 12288 ≤ i → i < 16384 → 16384 ≤ length w → Unmarked w (set w′ i 0) (i + 1)
+even : (x : ℕ) → (2 * (x / 2) / 2 ≡ x / 2) × (2 * (x / 2) % 2 ≡ 0)
+even x = (omega arith, omega arith)
+
+-- a word behind the rows without its mark leaves the table
+cleared-one : (w : List ℕ) (i : ℕ) → 12288 ≤ i → table (set w i (2 * (getD w i 0 / 2))) ≡ table w
+cleared-one w i h = let e : 12288 + (i - 12288) ≡ i = omega arith in rw e at (table-set w (i - 12288) (2 * (getD w (12288 + (i - 12288)) 0 / 2)) (even (getD w (12288 + (i - 12288)) 0) .0))
+
+pub unmarked-one : {w w′ : List ℕ} {i : ℕ} → Unmarked w w′ i → 12288 ≤ i → i < 16384 → 16384 ≤ length w → Unmarked w (set w′ i (2 * (getD w′ i 0 / 2))) (i + 1)
 unmarked-one {w} {w′} {i} u low high large = record {
-  only = marks-then (u .only) (record { rows = take-set-le 12288 w′ i 0 low; long = length-set w′ i 0; further = drop-set-lt 16384 w′ i 0 high });
+  only = marks-then (u .only) (record { rows = cleared-one w′ i low; long = length-set w′ i v; further = drop-set-lt 16384 w′ i v high });
   zero = λ j h k. go j h k (eqb j i) refl;
 }
   where
-    go : (j : ℕ) → 12288 ≤ j → j < i + 1 → (b : Bool) → eqb j i ≡ b → getD (set w′ i 0) j 0 ≡ 0
-    go j h k true q = ap (λ (x : ℕ). getD (set w′ i 0) x 0) (eqb-true j i q) ∙ getD-set-same w′ i 0 0 (omega (arith, u .only .long))
+    v : ℕ
+    v = 2 * (getD w′ i 0 / 2)
+
+    go : (j : ℕ) → 12288 ≤ j → j < i + 1 → (b : Bool) → eqb j i ≡ b → getD (set w′ i v) j 0 % 2 ≡ 0
+    go j h k true q = ap (λ (x : ℕ). getD (set w′ i v) x 0 % 2) (eqb-true j i q) ∙ ap (λ (x : ℕ). x % 2) (getD-set-same w′ i v 0 (omega (arith, u .only .long))) ∙ even (getD w′ i 0) .1
     go j h k false q =
         let ne : j ≢ i = eqb-false j i q in
-        getD-set-other w′ i j 0 0 ne ∙ u .zero j h (omega arith)
+        ap (λ (x : ℕ). x % 2) (getD-set-other w′ i j v 0 ne) ∙ u .zero j h (omega arith)
 
 -- ---- a condition evaluated over cleared marks
 module _ {s : Bytes} {w w₁ w′ : List ℕ} (large : 16384 ≤ length w) (u : Unmarked w w₁ 16384) where
   names-held : {ns : Names} → Left s w₁ w′ ns → NamesHeld s w′
-  names-held l = record { size = omega (arith, u .only .long, l .long); texts = λ k h m. go k h (l .texts k h (eqb-true (getD w′ (12288 + k) 0) 1 m)) }
+  names-held l = record { size = omega (arith, u .only .long, l .long); texts = λ k h m. go k h (l .texts k h (eqb-true (getD w′ (12288 + k) 0 % 2) 1 m)) }
     where
-      go : (k : ℕ) → k < 4096 → (getD w₁ (12288 + k) 0 ≡ 1) ⊎ HasKind s (table w₁) k 4 → OnText s (startAt w′ k) 0
+      go : (k : ℕ) → k < 4096 → (getD w₁ (12288 + k) 0 % 2 ≡ 1) ⊎ HasKind s (table w₁) k 4 → OnText s (startAt w′ k) 0
       go k h (inl m) = absurd (omega (arith, u .zero (12288 + k) (omega arith) (omega arith)))
       go k h (inr i) = subst (λ (x : ℕ). OnText s x 0) (sym (ap (λ (x : ℕ). x / 8) (row-word w′ (3 * k) (omega arith) ∙ ap (λ (t : List ℕ). getD t (3 * k) 0) (l .rows)))) (text-row i .onText)
 

@@ -1,4 +1,4 @@
--- `rules::marks::clear_marks` meets its contract: the loop says that the marks passed are zero and that all else stays.
+-- `rules::marks::clear_marks` meets its contract: the loop says that no word passed is marked and that all else stays.
 -- Assumes nothing.
 use mathlib.Core.Path.{subst, _≡_}
 use Prim.Native.Nat.{_-_, _≤_}
@@ -20,8 +20,17 @@ loop-holds c = (omega arith, omega arith, unmarking (c .args .work .now))
 mul-work : tie.Need-mul-work Inv-loop μ-loop
 mul-work c = omega arith
 
+slice-read-work : tie.Need-slice-read-work Inv-loop μ-loop
+slice-read-work c = omega (arith, c .before .before .loop .inv .2 .only .long)
+
+mul-work-2 : tie.Need-mul-work-2 Inv-loop μ-loop
+mul-work-2 c = omega (arith, c .slice-known .given (c .before .before .loop .i))
+
+mul-work-3 : tie.Need-mul-work-3 Inv-loop μ-loop
+mul-work-3 c = omega arith
+
 slice-write-work : tie.Need-slice-write-work Inv-loop μ-loop
-slice-write-work c = omega (arith, c .before .loop .inv .2 .only .long)
+slice-write-work c = omega (arith, c .before .before .loop .inv .2 .only .long)
 
 add-i : tie.Need-add-i Inv-loop μ-loop
 add-i c = omega arith
@@ -30,7 +39,7 @@ loop-less : tie.Need-loop-less Inv-loop μ-loop
 loop-less c = omega arith
 
 loop-again : tie.Need-loop-again Inv-loop μ-loop
-loop-again c = (omega arith, omega arith, unmarked-one (c .before .loop .inv .2) (omega arith) (omega arith) (omega arith))
+loop-again c = (omega arith, omega arith, unmarked-one (c .before .before .loop .inv .2) (omega arith) (omega arith) (omega arith))
 
 same-length : tie.Need-same-length Inv-loop μ-loop
 same-length c = c .before .loop .inv .2 .only .long
@@ -48,6 +57,9 @@ clear-marks-spec =
     μ-loop
     loop-holds
     mul-work
+    slice-read-work
+    mul-work-2
+    mul-work-3
     slice-write-work
     add-i
     loop-less
