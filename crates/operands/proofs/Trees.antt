@@ -27,7 +27,6 @@ use Rattle.operands.specs.Matched.{Holds}
 use Rattle.operands.specs.Stored.{Fits, HasKind, HasNodes, Means, fieldsOf, itemsOf, meant, tree}
 use Rattle.operands.specs.Lazy.{given}
 use Rattle.operands.specs.Reached.{valueKind}
-use Rattle.operands.proofs.Ordered.{node-below}
 
 -- one layer of the value at a node
 pub data Layer (s : Bytes) (t : List ℕ) (n : ℕ) : Type 0 where
@@ -248,7 +247,7 @@ module _ (s : Bytes) (t : List ℕ) where
   pub begun-kids : Linked s t → (named : Bool) {n : ℕ} → Holds s t named n → childrenOf t (begun t n named) ≡ kids s t n named
   unfolding kids
   begun-kids l false h = refl
-  begun-kids l true {n} h = linked-are (afterAt t n - (n + 1)) (linkAt t n) (afterAt t n) ∙ l .links n (node-below s t (h .node)) (h .kind)
+  begun-kids l true {n} h = linked-are (afterAt t n - (n + 1)) (linkAt t n) (afterAt t n) ∙ l .links n (h .node) (h .kind)
 
 -- the value at a node as an operand
 pub value-means : (s : Bytes) (t : List ℕ) (n k : ℕ) → k ≡ kindAt t n → HasNode s t n → Means s t (record { node = n; depth = 0; kind = valueKind k }) (given (tree s t n))

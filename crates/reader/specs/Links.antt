@@ -3,12 +3,12 @@
 use mathlib.Core.Bool.{false, true}
 use mathlib.Core.List.{List, [], _∷_}
 use mathlib.Core.Path.{_≡_}
-use Prim.Native.Nat.{suc, zero, ℕ, _+_, _-_, _/_, _<_}
+use Prim.Native.Nat.{suc, zero, ℕ, _+_, _-_, _/_}
 use lib.Dec.{ltb}
 use lib.ListN.{getD}
 use Rattle.reader.specs.Bytes.{Bytes}
+use Rattle.reader.specs.Held.{HasNode}
 use Rattle.reader.specs.KeyOrder.{inOrder, namesAt, nodesOf}
-use Rattle.reader.specs.Limits.{maxNodes}
 use Rattle.reader.specs.Marks.{firstMark}
 use Rattle.reader.specs.Table.{afterAt, kindAt}
 
@@ -24,6 +24,6 @@ linkedBy w (suc m) k e = elim (ltb k e) [ true ↦ k ∷ linkedBy w m (linkAt w 
 abbrev pub LinkedAt : Bytes → List ℕ → ℕ → Type 0
 LinkedAt s w n = linkedBy w (afterAt w n - (n + 1)) (linkAt w n) (afterAt w n) ≡ nodesOf (inOrder (namesAt s w (n + 1) (afterAt w n)))
 
--- and so for every object of the table
+-- and so for every node that is an object; rows that are no node's may hold anything
 pub record Linked (s : Bytes) (w : List ℕ) : Type 0 where
-  pub links : (n : ℕ) → n < maxNodes → kindAt w n ≡ 6 → LinkedAt s w n
+  pub links : (n : ℕ) → HasNode s w n → kindAt w n ≡ 6 → LinkedAt s w n
