@@ -17,7 +17,7 @@ use Rattle.reader.specs.Spans.{Node, Nodes, arr, erase, eraseIn, gotOf, isFalse
 use Rattle.reader.specs.Strings.{Char, Unit16, backslash, char, chars, control, escape, hex, highHalf, highUnit, lowHalf, lowUnit, ofUnit, other, plainUnit, quote, simpleEscape, unicode, unit16}
 use Rattle.reader.specs.Table.{startAt, valueAt}
 use Rattle.reader.specs.Utf8.{encode}
-use Rattle.line.proofs.Least.{all-marked}
+use Rattle.line.proofs.Once.{all-marked}
 use Rattle.line.specs.Texts.{TextsHeld, orNone, textsIn}
 use Rattle.reader.proofs.Decoded.{size-pos}
 use Rattle.reader.proofs.Walk.{value-is}

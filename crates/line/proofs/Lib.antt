@@ -2,9 +2,9 @@ pub mod Laying
 pub mod Digits
 pub mod Quotes
 pub mod Lists
-pub mod Least
-pub mod InTurn
-pub mod Naming
+pub mod Texts
+pub mod Once
+pub mod Gathered
 pub mod Sourcing
 pub mod Forms
 pub mod Answers

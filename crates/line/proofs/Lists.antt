@@ -2,13 +2,9 @@
 -- Assumes nothing.
 use mathlib.Core.List.{List, append-assoc, append-nil, [], _++_, _∷_}
 use mathlib.Core.Path.{ap, sym, _∙_, _≡_}
-use Rattle.line.specs.Line.{eachQuoted, listed, quoted, quotedBytes, spaced}
+use Rattle.line.specs.Line.{eachQuoted, listed, quoted, spaced}
+use Rattle.line.specs.Once.{elements}
 use Rattle.reader.specs.Bytes.{Bytes}
-
-unfoldable pub elements : List Bytes → Bytes
-unfolding quotedBytes
-elements [] = []
-elements (t ∷ ts) = (32 ∷ quoted t) ++ elements ts
 
 spaced-is : (w : Bytes) (ts : List Bytes) → spaced (w ∷ eachQuoted ts) ≡ w ++ elements ts
 unfolding spaced eachQuoted elements

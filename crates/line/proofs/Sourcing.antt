@@ -6,7 +6,8 @@ use Prim.Native.Nat.{ℕ, _*_, _+_, _<_, _≤_}
 use native.Mathlib.Omega.{arith}
 use lib.ListN.{length}
 use Rattle.line.proofs.Laying.{Going, ends-with, goes, starts}
-use Rattle.line.proofs.Lists.{elements, elements-more}
+use Rattle.line.proofs.Lists.{elements-more}
+use Rattle.line.specs.Once.{elements}
 use Rattle.line.specs.Laid.{Laid, Room}
 use Rattle.line.specs.Line.{quoted}
 use Rattle.line.specs.Texts.{TextsHeld, textsIn}

@@ -2,6 +2,6 @@ pub mod Verdict
 pub mod Line
 pub mod Reply
 pub mod Laid
-pub mod Least
+pub mod Once
 pub mod Texts
 pub mod Meaning

@@ -1,84 +1,97 @@
-// The names of a condition, from the marks of the table: each once, by ascending bytes. They are found one by one, as the least text after the last.
+// The names of a condition, from the marks of the table: each once, by ascending bytes.
 use crate::lay::byte;
 use crate::lay::bytes;
 use crate::quote::Text;
 use crate::quote::element;
-use reader::text::Order;
-ghost use Rattle.semantics.specs.Names.{ascending};
+use order::sort::sort;
+use reader::rows::start_at;
+ghost use mathlib.Core.Option.{none};
+ghost use mathlib.Core.Path.{_≡_};
+ghost use Prim.Native.Nat.{_≤_};
+ghost use lib.ListN.{length};
+ghost use Rattle.order.specs.ByText.{TextNodes};
 ghost use Rattle.reader.specs.Cursor.{OnText};
 ghost use Rattle.reader.specs.Marks.{marked};
 ghost use Rattle.reader.specs.Spans.{textAt};
+ghost use Rattle.semantics.specs.Names.{ascending};
 ghost use Rattle.line.specs.Laid.{Laid, Room};
-ghost use Rattle.line.specs.Least.{leastAfter, lesser, nearer};
 ghost use Rattle.line.specs.Line.{names};
-ghost use Rattle.line.specs.Texts.{IsText, NamesHeld, TextTold, textOf};
+ghost use Rattle.line.specs.Once.{Fronted, elementAfter, elements, isAgain, onceAfter, textsOf};
+ghost use Rattle.line.specs.Texts.{IsText, NamesHeld, textOf};
 
-// The lesser of a text and the best one so far.
-fn lesser(s: &[u8], text: usize, best: Text) -> Text
-    requires { ⌜ OnText (now s) text 0 × IsText (now s) best ⌝ }
-    ensures { λ r. ⌜ TextTold (now (s .entry)) (lesser (textAt (now (s .entry)) text) (textOf (now (s .entry)) best)) r ⌝ }
+// The marked nodes in the order of the table, and how many there are.
+fn marked_nodes(work: &[u32], nodes: &mut [u16]) -> usize
+    requires { ⌜ (16384 ≤ length (now work)) × (4096 ≤ length (now nodes)) ⌝ }
+    ensures { λ r. ⌜ Fronted (now (work .entry)) (now (nodes .exit)) r ⌝ }
 {
-    match best {
-        Text::Missing => Text::At(text),
-        Text::At(b) => match reader::text::compare(s, text, b) {
-            Order::Less => Text::At(text),
-            Order::Same => best,
-            Order::More => best,
-        },
+    let mut count: usize = 0;
+    let mut k: usize = 0;
+    while k < 4096 {
+        if work[12288 + k] % 2 == 1 {
+            nodes[count] = k as u16;
+            count += 1;
+        }
+        k += 1;
     }
+    count
 }
 
-// The best so far, once a text has been seen: the least that comes after the last one.
-fn nearer(s: &[u8], last: Text, text: usize, best: Text) -> Text
-    requires { ⌜ IsText (now s) last × OnText (now s) text 0 × IsText (now s) best ⌝ }
-    ensures { λ r. ⌜ TextTold (now (s .entry)) (nearer (textOf (now (s .entry)) last) (textAt (now (s .entry)) text) (textOf (now (s .entry)) best)) r ⌝ }
+// Whether a text is the last one again.
+fn is_again(s: &[u8], last: Text, text: usize) -> bool
+    requires { ⌜ IsText (now s) last × OnText (now s) text 0 ⌝ }
+    ensures { λ r. ⌜ r ≡ isAgain (textOf (now (s .entry)) last) (textAt (now (s .entry)) text) ⌝ }
 {
     match last {
-        Text::Missing => lesser(s, text, best),
-        Text::At(a) => match reader::text::compare(s, a, text) {
-            Order::Less => lesser(s, text, best),
-            Order::Same => best,
-            Order::More => best,
-        },
+        Text::Missing => false,
+        Text::At(p) => reader::text::same(s, p, text),
     }
 }
 
-// The least marked text that comes after the last one.
-fn least_after(s: &[u8], work: &[u32], last: Text) -> Text
-    requires { ⌜ NamesHeld (now s) (now work) × IsText (now s) last ⌝ }
-    ensures { λ r. ⌜ TextTold (now (s .entry)) (leastAfter (textOf (now (s .entry)) last) (marked (now (s .entry)) (now (work .entry)))) r ⌝ }
+// An element of the list, unless it is the last text again.
+fn element_once(out: &mut [u8], limit: usize, at: usize, s: &[u8], last: Text, text: usize) -> usize
+    requires { ⌜ Room limit (now out) at × IsText (now s) last × OnText (now s) text 0 ⌝ }
+    ensures { λ r. ⌜ Laid limit (now (out .entry)) at (elementAfter (textOf (now (s .entry)) last) (textAt (now (s .entry)) text)) (now (out .exit)) r ⌝ }
 {
-    let mut best = Text::Missing;
-    let mut k = 4096;
-    while 0 < k {
-        k -= 1;
-        if work[12288 + k] % 2 == 1 {
-            let text = reader::rows::start_at(work, k);
-            best = nearer(s, last, text, best);
-        }
+    if is_again(s, last, text) {
+        return at;
     }
-    best
+    element(out, limit, at, s, text)
 }
 
-// The list of names. There are no more than nodes.
+// The texts of sorted nodes, each once.
+fn each_once(
+    out: &mut [u8],
+    limit: usize,
+    at: usize,
+    s: &[u8],
+    work: &[u32],
+    nodes: &[u16],
+) -> usize
+    requires { ⌜ Room limit (now out) at × (12288 ≤ length (now work)) × TextNodes (now s) (now work) (now nodes) ⌝ }
+    ensures { λ r. ⌜ Laid limit (now (out .entry)) at (elements (onceAfter none (textsOf (now (s .entry)) (now (work .entry)) (now (nodes .entry))))) (now (out .exit)) r ⌝ }
+{
+    let mut here = at;
+    let mut last = Text::Missing;
+    let mut i = 0;
+    while i < nodes.len() {
+        let text = start_at(work, nodes[i] as usize);
+        here = element_once(out, limit, here, s, last, text);
+        last = Text::At(text);
+        i += 1;
+    }
+    here
+}
+
+// The list of names.
 pub fn names(out: &mut [u8], limit: usize, at: usize, s: &[u8], work: &[u32]) -> usize
     requires { ⌜ Room limit (now out) at × NamesHeld (now s) (now work) ⌝ }
     ensures { λ r. ⌜ Laid limit (now (out .entry)) at (names (ascending (marked (now (s .entry)) (now (work .entry))))) (now (out .exit)) r ⌝ }
 {
-    let mut here = bytes(out, limit, at, b"(names");
-    let mut last = Text::Missing;
-    let mut left: usize = 4096;
-    while 0 < left {
-        match least_after(s, work, last) {
-            Text::Missing => {
-                return byte(out, limit, here, b')');
-            }
-            Text::At(text) => {
-                here = element(out, limit, here, s, text);
-                last = Text::At(text);
-            }
-        }
-        left -= 1;
-    }
-    byte(out, limit, here, b')')
+    let mut nodes = [0u16; 4096];
+    let mut spare = [0u16; 4096];
+    let count = marked_nodes(work, &mut nodes);
+    sort(s, work, &mut nodes[..count], &mut spare);
+    let here = bytes(out, limit, at, b"(names");
+    let there = each_once(out, limit, here, s, work, &nodes[..count]);
+    byte(out, limit, there, b')')
 }

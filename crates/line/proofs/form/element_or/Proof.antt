@@ -1,7 +1,7 @@
 -- `line::form::element_or` meets its contract: by whether the text is missing.
 -- Assumes nothing.
 use Rattle.line.proofs.Laying.{then, told}
-use Rattle.line.proofs.Least.{is-none, is-some, is-text}
+use Rattle.line.proofs.Texts.{is-none, is-some, is-text}
 use borrow.Author.Needs.{needs}
 use Rattle.line.proofs.form.element_or.Statement.{statement}
 use Rattle.line.proofs.form.element_or.Tie as tie

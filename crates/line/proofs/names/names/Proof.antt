@@ -1,90 +1,84 @@
--- `line::names::names` meets its contract: the loop says that the names after the last one are left to lay.
+-- `line::names::names` meets its contract: the marked nodes sorted, each text laid once.
 -- Assumes nothing.
+use mathlib.Core.Path.{ap}
 use native.Mathlib.Omega.{arith}
 use borrow.Author.Needs.{needs}
-use Rattle.semantics.specs.Names.{ascending}
+use Rattle.line.proofs.Gathered.{front-long, front-texts, sorted-fits, sorted-long, sorted-once, sorted-texts}
 use Rattle.line.proofs.Laying.{then, told}
-use Rattle.line.proofs.Least.{is-text}
 use Rattle.line.proofs.Lists.{listed-is}
-use Rattle.line.proofs.Naming.{Naming, marked-in-turn, naming, next-name, no-more, no-name}
+use Rattle.line.specs.Once.{elements}
 use Rattle.reader.specs.Bytes.{ascii}
 use Rattle.reader.specs.Marks.{marked}
+use Rattle.semantics.specs.Names.{ascending}
 use Rattle.line.proofs.names.names.Statement.{statement}
 use Rattle.line.proofs.names.names.Tie as tie
 
-abbrev Inv-loop : tie.InvT-loop
-Inv-loop out₀ limit at s work here₀ last₀ left₀ out here last left = Naming limit s (marked s work) out₀ here₀ out here last left
+slice-aggregate-marked-nodes : tie.Need-slice-aggregate-marked-nodes
+slice-aggregate-marked-nodes c = search needs
 
-abbrev μ-loop : tie.MeasureT-loop
-μ-loop out₀ limit at s work here₀ last₀ left₀ out here last left = left
+marked-nodes-requires : tie.Need-marked-nodes-requires
+marked-nodes-requires c κs = (c .before .before .before .before .pre .1 .size, omega arith)
 
-slice-aggregate-bytes : tie.Need-slice-aggregate-bytes Inv-loop μ-loop
+array-borrow-prefix-nodes : tie.Need-array-borrow-prefix-nodes
+array-borrow-prefix-nodes c = c .before .marked-nodes .ensures .fits
+
+slice-aggregate-sort : tie.Need-slice-aggregate-sort
+slice-aggregate-sort c = front-long (c .before .before .marked-nodes .ensures)
+
+slice-aggregate-sort-2 : tie.Need-slice-aggregate-sort-2
+slice-aggregate-sort-2 c = search needs
+
+sort-requires : tie.Need-sort-requires
+sort-requires c κs = (omega (arith, c .before .before .before .before .before .before .before .before .pre .1 .size), front-texts (c .before .before .before .marked-nodes .ensures) (c .before .before .before .before .before .before .before .before .pre .1), omega (arith, c .before .before .before .marked-nodes .ensures .few, front-long (c .before .before .before .marked-nodes .ensures)))
+
+slice-aggregate-bytes : tie.Need-slice-aggregate-bytes
 slice-aggregate-bytes c = search needs
 
-bytes-requires : tie.Need-bytes-requires Inv-loop μ-loop
-bytes-requires c κs = c .before .before .before .before .before .pre .0
+bytes-requires : tie.Need-bytes-requires
+bytes-requires c κs = search needs
 
-loop-holds : tie.Need-loop-holds Inv-loop μ-loop
-loop-holds c = naming (c .before .before .before .before .before .before .before .before .args .s .now) (marked (c .before .before .before .before .before .before .before .before .args .s .now) (c .before .before .before .before .before .before .before .before .args .work .now)) 4096 (marked-in-turn (c .before .before .before .before .before .before .before .before .args .s .now) (c .before .before .before .before .before .before .before .before .args .work .now)) (c .before .before .bytes .ensures .room)
+array-share-prefix-nodes : tie.Need-array-share-prefix-nodes
+array-share-prefix-nodes c = sorted-fits (c .before .before .before .before .before .before .before .before .before .before .before .before .marked-nodes .ensures) (c .before .before .before .before .before .before .before .before .before .before .before .before .before .before .before .before .before .pre .1) (c .before .before .before .before .before .before .before .before .sort .ensures) (c .before .before .before .before .before .before .before .before .sort .kept .1 .1 .0) _
 
-least-after-requires : tie.Need-least-after-requires Inv-loop μ-loop
-least-after-requires c κs = (c .before .before .before .before .before .before .before .before .before .before .pre .1, c .before .loop .inv .isText)
+slice-aggregate-each-once : tie.Need-slice-aggregate-each-once
+slice-aggregate-each-once c = sorted-long (c .before .before .before .before .before .before .before .before .before .before .before .before .before .marked-nodes .ensures) (c .before .before .before .before .before .before .before .before .before .before .before .before .before .before .before .before .before .before .pre .1) (c .before .before .before .before .before .before .before .before .before .sort .ensures) (c .before .before .before .before .before .before .before .before .before .sort .kept .1 .1 .0) _
 
-enum-told : tie.Need-enum-told Inv-loop μ-loop
-enum-told c = search needs
+each-once-requires : tie.Need-each-once-requires
+each-once-requires c κs = (c .before .before .before .before .bytes .ensures .room, omega (arith, c .before .before .before .before .before .before .before .before .before .before .before .before .before .before .before .before .before .before .pre .1 .size), sorted-texts (c .before .before .before .before .before .before .before .before .before .before .before .before .before .marked-nodes .ensures) (c .before .before .before .before .before .before .before .before .before .before .before .before .before .before .before .before .before .before .pre .1) (c .before .before .before .before .before .before .before .before .before .sort .ensures) (c .before .before .before .before .before .before .before .before .before .sort .kept .1 .1 .0) _)
 
-byte-requires : tie.Need-byte-requires Inv-loop μ-loop
-byte-requires c κs = c .before .before .before .before .before .loop .inv .going .room
+byte-requires : tie.Need-byte-requires
+byte-requires c κs = search needs
 
-same-length : tie.Need-same-length Inv-loop μ-loop
+same-length : tie.Need-same-length
 same-length c = search needs
 
-returns : tie.Need-returns Inv-loop μ-loop
-returns c = told (listed-is (ascii "names") (ascending (marked (c .before .before .before .before .before .before .before .before .before .before .before .before .before .before .before .before .before .args .s .now) (c .before .before .before .before .before .before .before .before .before .before .before .before .before .before .before .before .before .args .work .now)))) (then (c .before .before .before .before .before .before .before .before .before .before .before .bytes .ensures) (no-name (c .before .before .before .before .before .before .before .before .loop .inv) (c .before .before .before .before .before .before .least-after .ensures) (c .before .before .before .before .enum-told .given .1) (c .before .before .byte .ensures)))
-
-enum-known-text : tie.Need-enum-known-text Inv-loop μ-loop
-enum-known-text c = search needs
-
-element-requires : tie.Need-element-requires Inv-loop μ-loop
-element-requires c κs = (c .before .before .before .before .before .before .loop .inv .going .room, is-text (c .before .before .before .before .before .before .before .before .before .before .before .before .before .before .before .args .s .now) _ (c .before .before .before .before .least-after .ensures .isText) (c .before .before .text .given .1))
-
-sub-left : tie.Need-sub-left Inv-loop μ-loop
-sub-left c = omega arith
-
-loop-less : tie.Need-loop-less Inv-loop μ-loop
-loop-less c = omega arith
-
-loop-again : tie.Need-loop-again Inv-loop μ-loop
-loop-again c = next-name (c .before .before .before .before .before .before .before .before .before .loop .inv) (c .before .before .before .before .before .text .given .0 .0) (omega arith) (c .before .before .before .before .before .before .before .least-after .ensures) (c .before .before .before .before .before .text .given .1) (c .before .before .element .ensures)
-
-byte-requires-2 : tie.Need-byte-requires-2 Inv-loop μ-loop
-byte-requires-2 c κs = c .before .before .loop .inv .going .room
-
-same-length-2 : tie.Need-same-length-2 Inv-loop μ-loop
-same-length-2 c = search needs
-
-returns-2 : tie.Need-returns-2 Inv-loop μ-loop
-returns-2 c = told (listed-is (ascii "names") (ascending (marked (c .before .before .before .before .before .before .before .before .before .before .before .before .before .before .args .s .now) (c .before .before .before .before .before .before .before .before .before .before .before .before .before .before .args .work .now)))) (then (c .before .before .before .before .before .before .before .before .bytes .ensures) (no-more (c .before .before .before .before .before .loop .inv) (omega arith) (c .before .before .byte2 .ensures)))
+returns : tie.Need-returns
+returns c =
+    let s = c .before .before .before .before .before .before .before .before .before .before .before .before .before .before .before .before .before .before .before .before .before .before .before .before .before .args .s .now in
+    let w = c .before .before .before .before .before .before .before .before .before .before .before .before .before .before .before .before .before .before .before .before .before .before .before .before .before .args .work .now in
+    told
+    (listed-is (ascii "names") (ascending (marked s w)))
+    (then
+    (c .before .before .before .before .before .before .before .before .before .before .before .bytes .ensures)
+    (then
+    (told (ap elements (sorted-once (c .before .before .before .before .before .before .before .before .before .before .before .before .before .before .before .before .before .before .before .before .marked-nodes .ensures) (c .before .before .before .before .before .before .before .before .before .before .before .before .before .before .before .before .before .before .before .before .before .before .before .before .before .pre .1) (c .before .before .before .before .before .before .before .before .before .before .before .before .before .before .before .before .sort .ensures) (c .before .before .before .before .before .before .before .before .before .before .before .before .before .before .before .before .sort .kept .1 .1 .0) _)) (c .before .before .before .before .before .before .each-once .ensures))
+    (c .before .before .byte .ensures)))
 
 pub names-spec : {M : Type 1} → statement M
 names-spec =
     tie.close
     (tie.spec
-    Inv-loop
-    μ-loop
+    slice-aggregate-marked-nodes
+    marked-nodes-requires
+    array-borrow-prefix-nodes
+    slice-aggregate-sort
+    slice-aggregate-sort-2
+    sort-requires
     slice-aggregate-bytes
     bytes-requires
-    loop-holds
-    least-after-requires
-    enum-told
+    array-share-prefix-nodes
+    slice-aggregate-each-once
+    each-once-requires
     byte-requires
     same-length
-    returns
-    enum-known-text
-    element-requires
-    sub-left
-    loop-less
-    loop-again
-    byte-requires-2
-    same-length-2
-    returns-2)
+    returns)
