@@ -7,6 +7,7 @@ use mathlib.Core.Path.{ap, refl, sym, _∙_, _≡_}
 use Prim.Native.Nat.{Ordering, Ordering·eq, Ordering·gt, Ordering·lt, suc, zero, ℕ, _+_, _-_, _<_}
 use lib.Dec.{ltb}
 use lib.ListN.{drop, getD, length, take}
+use lib.Seq.{drop-cons}
 use native.Mathlib.Omega.{arith}
 use borrow.Author.Tests.{not-true}
 use Rattle.order.specs.ByText.{TextNode, TextNodes, byKey, insert, keyAt}
@@ -102,6 +103,11 @@ module _ (s : Bytes) (w : List ℕ) where
   text-getD [] i t h = absurd (omega arith)
   text-getD (n ∷ ns) zero t h = t .0
   text-getD (n ∷ ns) (suc i) t h = text-getD ns i (t .1) (omega arith)
+
+  -- the first of those behind a place
+  pub text-next : (ns : List ℕ) (i : ℕ) → TextNodes s w (drop i ns) → i < length ns → TextNode s w (getD ns i 0)
+  unfolding TextNodes
+  text-next ns i t h = (rw (drop-cons ns i 0 h) at t) .0
 
   pub text-take : (ns : List ℕ) (i : ℕ) → TextNodes s w ns → TextNodes s w (take i ns)
   unfolding TextNodes

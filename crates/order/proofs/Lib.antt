@@ -6,6 +6,8 @@ pub mod Gathering
 pub mod Owned
 pub mod Prefix
 pub mod ByText
+pub mod InPlace
+pub mod Joining
 pub mod Merging
 pub mod Distinct
 pub mod Linking

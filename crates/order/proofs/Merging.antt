@@ -1,9 +1,14 @@
 -- Nodes by their keys, over any keys: what is in order, and how two lists in order become one.
 -- Assumes nothing.
+use mathlib.Core.Bool.{Bool, false, false≢true, true}
 use mathlib.Core.List.{List, [], _++_, _∷_}
-use mathlib.Core.Path.{ap, refl, _∙_, _≡_}
-use Prim.Native.Nat.{Ordering, ℕ, _+_}
-use Rattle.order.specs.ByText.{byKey, insert}
+use mathlib.Core.Path.{ap, refl, sym, _∙_, _≡_}
+use Prim.Native.Nat.{Ordering, Ordering·eq, suc, zero, ℕ, _<_}
+use native.Mathlib.Omega.{arith}
+use lib.Dec.{ltb}
+use lib.ListN.{drop, drop-of-length-le, getD, length}
+use borrow.Author.Tests.{ltb-false, ltb-true}
+use Rattle.order.specs.ByText.{byKey, insert, isAbove, isAfter, isMore}
 use Rattle.reader.proofs.Sorted.{Less, OrderView, isEq′, isGt, isLt, less-order, less-trans, more-order, order-view, same-order}
 use Rattle.reader.specs.Bytes.{Bytes, orderBytes}
 
@@ -46,7 +51,7 @@ module _ (key : ℕ → Bytes) where
   insert-here : {n m : ℕ} (ms : List ℕ) → AtMost (key n) (key m) → insert key n (m ∷ ms) ≡ n ∷ m ∷ ms
   unfolding insert
   insert-here ms (below h) = rw (less-order h, insert)
-  insert-here {n} {m} ms (alike e) = let q : orderBytes (key n) (key m) ≡ Prim.Native.Nat.Ordering·eq = rw e (same-order (key m)) in rw (q, insert)
+  insert-here {n} {m} ms (alike e) = let q : orderBytes (key n) (key m) ≡ Ordering·eq = rw e (same-order (key m)) in rw (q, insert)
 
   insert-past : {n m : ℕ} (ms : List ℕ) → Less (key m) (key n) → insert key n (m ∷ ms) ≡ m ∷ insert key n ms
   unfolding insert
@@ -55,6 +60,10 @@ module _ (key : ℕ → Bytes) where
   from-trans : {a b : Bytes} {ms : List ℕ} → AtMost a b → From key b ms → From key a ms
   from-trans h fromNone = fromNone
   from-trans h (fromMore l f) = fromMore (most-trans h l) (from-trans h f)
+
+  from-append : {k : Bytes} {xs ys : List ℕ} → From key k xs → From key k ys → From key k (xs ++ ys)
+  from-append fromNone g = g
+  from-append (fromMore l f) g = fromMore l (from-append f g)
 
   from-insert : {k : Bytes} {n : ℕ} {ms : List ℕ} → AtMost k (key n) → From key k ms → From key k (insert key n ms)
   unfolding insert
@@ -90,10 +99,19 @@ module _ (key : ℕ → Bytes) where
   insert-first n fromNone = refl
   insert-first n (fromMore {ms = ms} l f) = insert-here ms l
 
+  pub sorted-rises : (l : List ℕ) → byKey key l ≡ l → Rising key l
+  sorted-rises l e = rw e at (byKey-rising l)
+
   pub rising-byKey : {ms : List ℕ} → Rising key ms → byKey key ms ≡ ms
   unfolding byKey
   rising-byKey risingNone = refl
   rising-byKey (risingMore {n} {ns} f r) = ap (insert key n) (rising-byKey r) ∙ insert-first n f
+
+  pub short-sorted : (l : List ℕ) → length l < 2 → l ≡ byKey key l
+  unfolding byKey insert
+  short-sorted [] h = refl
+  short-sorted (x ∷ []) h = refl
+  short-sorted (x ∷ y ∷ l) h = absurd (omega arith)
 
   -- ---- a list sorted in parts
   swap : {n m : ℕ} (l : List ℕ) → Less (key m) (key n) → insert key m (insert key n l) ≡ insert key n (insert key m l)
@@ -129,16 +147,57 @@ module _ (key : ℕ → Bytes) where
   byKey-parts xs ys = byKey-left xs (byKey key ys) ∙ byKey-right xs ys
 
   -- ---- the least of two lists in order
-  pub least-left : {x : ℕ} {l : List ℕ} → From key (key x) l → byKey key (x ∷ l) ≡ x ∷ byKey key l
+  least-left : {x : ℕ} {l : List ℕ} → From key (key x) l → byKey key (x ∷ l) ≡ x ∷ byKey key l
   unfolding byKey
   least-left {x} f = insert-first x (from-byKey f)
 
-  pub least-right : {a : Bytes} {y : ℕ} {l ys : List ℕ} → Less (key y) a → From key a l → From key (key y) ys → byKey key (l ++ y ∷ ys) ≡ y ∷ byKey key (l ++ ys)
+  least-right : {a : Bytes} {y : ℕ} {l ys : List ℕ} → Less (key y) a → From key a l → From key (key y) ys → byKey key (l ++ y ∷ ys) ≡ y ∷ byKey key (l ++ ys)
   unfolding byKey
   least-right {ys = ys} h fromNone f = least-left f
   least-right {ys = ys} h (fromMore {m} {ms} l r) f = ap (insert key m) (least-right h r f) ∙ insert-past (byKey key (ms ++ ys)) (less-most h l)
 
+  -- ---- what a comparison tells
+  is-after : (n m : ℕ) → isAfter key n m ≡ true → Less (key m) (key n)
+  is-after n m = go (orderBytes (key n) (key m)) (order-view (key n) (key m))
+    where
+      go : (o : Ordering) → OrderView (key n) (key m) o → isMore o ≡ true → Less (key m) (key n)
+      go o (isLt h) e = absurd (false≢true e)
+      go o (isEq′ h) e = absurd (false≢true e)
+      go o (isGt h) e = h
+
+  pub not-after : (n m : ℕ) → isAfter key n m ≡ false → AtMost (key n) (key m)
+  not-after n m = go (orderBytes (key n) (key m)) (order-view (key n) (key m))
+    where
+      go : (o : Ordering) → OrderView (key n) (key m) o → isMore o ≡ false → AtMost (key n) (key m)
+      go o (isLt h) e = below h
+      go o (isEq′ h) e = alike h
+      go o (isGt h) e = absurd (false≢true (sym e))
+
+  -- the next of two lists in order
+  pub first-right : {x y : ℕ} {xs ys : List ℕ} → Rising key (x ∷ xs) → Rising key (y ∷ ys) → isAfter key x y ≡ true → byKey key ((x ∷ xs) ++ y ∷ ys) ≡ y ∷ byKey key ((x ∷ xs) ++ ys)
+  first-right {x} {y} (risingMore f r) (risingMore g q) e = least-right (is-after x y e) (fromMore (alike refl) f) g
+
+  pub first-left : {x : ℕ} {xs ys : List ℕ} → Rising key (x ∷ xs) → Rising key ys → isAbove key x ys ≡ false → byKey key ((x ∷ xs) ++ ys) ≡ x ∷ byKey key (xs ++ ys)
+  unfolding isAbove
+  first-left (risingMore f r) risingNone e = least-left (from-append f fromNone)
+  first-left {x} (risingMore f r) (risingMore {n = y} g q) e = let h = not-after x y e in least-left (from-append f (fromMore h (from-trans h g)))
+
+  pub above-some : (x : ℕ) (l : List ℕ) (j : ℕ) → isAbove key x (drop j l) ≡ true → j < length l
+  unfolding isAbove
+  above-some x l j e = go (ltb j (length l)) refl
+    where
+      go : (b : Bool) → ltb j (length l) ≡ b → j < length l
+      go true q = ltb-true j (length l) q
+      go false q = absurd (false≢true (rw (drop-of-length-le l {i = j} (ltb-false j (length l) q), isAbove) at e))
+
   -- ---- two lists in order, one behind the other
-  from-append : {k : Bytes} {xs ys : List ℕ} → From key k xs → From key k ys → From key k (xs ++ ys)
-  from-append fromNone g = g
-  from-append (fromMore l f) g = fromMore l (from-append f g)
+  lead : {x y : ℕ} {ys : List ℕ} → AtMost (key x) (key y) → Rising key (y ∷ ys) → Rising key (x ∷ y ∷ ys)
+  lead h (risingMore g r) = risingMore (fromMore h (from-trans h g)) (risingMore g r)
+
+  -- where the last of the first is not after the first of the other
+  pub rising-join : (xs : List ℕ) (n y : ℕ) (ys : List ℕ) → length xs ≡ suc n → AtMost (key (getD xs n 0)) (key y) → Rising key xs → Rising key (y ∷ ys) → Rising key (xs ++ y ∷ ys)
+  rising-join [] n y ys l h r q = absurd (omega arith)
+  rising-join (x ∷ []) zero y ys l h r q = lead h q
+  rising-join (x ∷ []) (suc n) y ys l h r q = absurd (omega arith)
+  rising-join (x ∷ x′ ∷ xs) zero y ys l h r q = absurd (omega arith)
+  rising-join (x ∷ x′ ∷ xs) (suc n) y ys l h (risingMore (fromMore a f) r) q = lead a (rising-join (x′ ∷ xs) n y ys (omega arith) h r q)

@@ -1,0 +1,180 @@
+-- `order::sort::sort` meets its contract: each half is shorter than the whole; the two are sorted and joined.
+-- Assumes nothing.
+use mathlib.Core.Path.{sym}
+use Prim.Native.Nat.{ℕ, _-_, _/_, _<_, _≤_}
+use native.Mathlib.Omega.{arith}
+use lib.ListN.{length}
+use lib.Seq.{length-take-le}
+use borrow.Author.Needs.{needs}
+use borrow.Fn.Kinds.{In}
+use borrow.Fn.PlainCycle.{Measures, is, falls, and}
+use Rattle.order.proofs.ByText.{text-take}
+use Rattle.order.proofs.Joining.{all-sorted, joinable, second-long, second-texts}
+use Rattle.order.proofs.Merging.{short-sorted}
+use Rattle.order.specs.ByText.{keyAt}
+use Rattle.order.proofs.sort.sort.Reads as sort
+use Rattle.order.proofs.sort.sort.Kinds as sort-kinds
+use Rattle.order.proofs.sort.+sort.Lts-sort as sort-lts
+use Rattle.order.proofs.sort.join.Reads as join-reads
+use Rattle.order.proofs.sort.+sort.{statement}
+use Rattle.order.proofs.sort.+sort.Tie.{close}
+
+abbrev μ-sort : Measures 4 sort-kinds.ps ℕ
+μ-sort κs a = length (a .1 .1 .0 .now)
+
+abbrev sort-at : ℕ → In 4 sort-kinds.ps
+sort-at t = and 4 sort-kinds.ps (is 4 sort-kinds.ps μ-sort t) sort.Pre
+
+abbrev sort-below : ℕ → In 4 sort-kinds.ps
+sort-below t = and 4 sort-kinds.ps (falls 4 sort-kinds.ps _<_ μ-sort t) sort.Pre
+
+sort-returns : (t : ℕ) → sort-lts.Need-returns (
+  sort-below t,
+  sort.Post,
+  join-reads.Asked,
+  join-reads.Learnt,
+) (sort-at t) sort.Post
+sort-returns t c = let a = c .before .before .before .before .before .args in short-sorted (keyAt (a .s .now) (a .work .now)) (a .nodes .now) (c .if1 .taken)
+
+sort-slice-relend-prefix-sort : (t : ℕ) → sort-lts.Need-slice-relend-prefix-sort (
+  sort-below t,
+  sort.Post,
+  join-reads.Asked,
+  join-reads.Learnt,
+) (sort-at t) sort.Post
+sort-slice-relend-prefix-sort t c = search needs
+
+sort-slice-aggregate-sort : (t : ℕ) → sort-lts.Need-slice-aggregate-sort (
+  sort-below t,
+  sort.Post,
+  join-reads.Asked,
+  join-reads.Learnt,
+) (sort-at t) sort.Post
+sort-slice-aggregate-sort t c = let n = c .before .before .before .before .before .before .args .nodes .now in sym (length-take-le (length n / 2) n (omega arith))
+
+sort-sort-requires : (t : ℕ) → sort-lts.Need-sort-requires (
+  sort-below t,
+  sort.Post,
+  join-reads.Asked,
+  join-reads.Learnt,
+) (sort-at t) sort.Post
+sort-sort-requires t c κs =
+    let a = c .before .before .before .before .before .before .before .args in
+    let n = a .nodes .now in
+    let mid = length n / 2 in
+    let p = c .before .before .before .before .before .before .before .pre .1 in
+    let l = length-take-le mid n (omega arith) in
+    let falls : mid < t = omega arith in
+    let fits : mid ≤ length (a .spare .now) = omega arith in
+    (rw l falls, (p .0, text-take (a .s .now) (a .work .now) n mid (p .1), rw l fits))
+
+sort-mul-sort : (t : ℕ) → sort-lts.Need-mul-sort (
+  sort-below t,
+  sort.Post,
+  join-reads.Asked,
+  join-reads.Learnt,
+) (sort-at t) sort.Post
+sort-mul-sort t c = search needs
+
+sort-sub-sort : (t : ℕ) → sort-lts.Need-sub-sort (
+  sort-below t,
+  sort.Post,
+  join-reads.Asked,
+  join-reads.Learnt,
+) (sort-at t) sort.Post
+sort-sub-sort t c = search needs
+
+sort-part-sort-start : (t : ℕ) → sort-lts.Need-part-sort-start (
+  sort-below t,
+  sort.Post,
+  join-reads.Asked,
+  join-reads.Learnt,
+) (sort-at t) sort.Post
+sort-part-sort-start t c = search needs
+
+sort-part-sort-end : (t : ℕ) → sort-lts.Need-part-sort-end (
+  sort-below t,
+  sort.Post,
+  join-reads.Asked,
+  join-reads.Learnt,
+) (sort-at t) sort.Post
+sort-part-sort-end t c = search needs
+
+sort-sort-requires-2 : (t : ℕ) → sort-lts.Need-sort-requires-2 (
+  sort-below t,
+  sort.Post,
+  join-reads.Asked,
+  join-reads.Learnt,
+) (sort-at t) sort.Post
+sort-sort-requires-2 t c κs =
+    let a = c .before .before .before .before .before .before .before .before .before .before .before .before .before .before .args in
+    let n = a .nodes .now in
+    let mid = length n / 2 in
+    let p = c .before .before .before .before .before .before .before .before .before .before .before .before .before .before .pre .1 in
+    let l = second-long (a .s .now) (a .work .now) n (c .before .before .before .before .before .before .sort .last .1 .1 .0) mid (omega arith) (c .before .before .before .before .before .before .sort .ensures) in
+    let falls : length n - mid < t = omega arith in
+    (rw l falls, (p .0, second-texts (a .s .now) (a .work .now) n (c .before .before .before .before .before .before .sort .last .1 .1 .0) mid (omega arith) (c .before .before .before .before .before .before .sort .ensures) (p .1), rw l (search needs)))
+
+sort-join-requires : (t : ℕ) → sort-lts.Need-join-requires (
+  sort-below t,
+  sort.Post,
+  join-reads.Asked,
+  join-reads.Learnt,
+) (sort-at t) sort.Post
+sort-join-requires t c κs =
+    let a = c .before .before .before .before .before .before .before .before .before .before .before .before .before .before .before .before .before .before .before .before .before .args in
+    let n = a .nodes .now in
+    let mid = length n / 2 in
+    let p = c .before .before .before .before .before .before .before .before .before .before .before .before .before .before .before .before .before .before .before .before .before .pre .1 in
+    (joinable (a .s .now) (a .work .now) n (c .before .before .before .before .before .before .before .before .before .before .before .before .before .sort .last .1 .1 .0) mid (omega arith) (c .before .before .before .before .before .before .before .before .before .before .before .before .before .sort .ensures) (c .before .before .before .before .before .before .sort2 .last .1 .1 .0) (c .before .before .before .before .before .before .sort2 .ensures) (p .0) (p .1) (omega arith) (omega arith), search needs)
+
+sort-same-length : (t : ℕ) → sort-lts.Need-same-length (
+  sort-below t,
+  sort.Post,
+  join-reads.Asked,
+  join-reads.Learnt,
+) (sort-at t) sort.Post
+sort-same-length t c = search needs
+
+sort-same-length-2 : (t : ℕ) → sort-lts.Need-same-length-2 (
+  sort-below t,
+  sort.Post,
+  join-reads.Asked,
+  join-reads.Learnt,
+) (sort-at t) sort.Post
+sort-same-length-2 t c = search needs
+
+sort-returns-2 : (t : ℕ) → sort-lts.Need-returns-2 (
+  sort-below t,
+  sort.Post,
+  join-reads.Asked,
+  join-reads.Learnt,
+) (sort-at t) sort.Post
+sort-returns-2 t c =
+    let a = c .before .before .before .before .before .before .before .before .before .before .before .before .before .before .before .before .before .before .before .before .before .before .before .before .before .before .args in
+    let n = a .nodes .now in
+    let mid = length n / 2 in
+    all-sorted (a .s .now) (a .work .now) n (c .before .before .before .before .before .before .before .before .before .before .before .before .before .before .before .before .before .before .sort .last .1 .1 .0) mid (omega arith) (c .before .before .before .before .before .before .before .before .before .before .before .before .before .before .before .before .before .before .sort .ensures) (c .before .before .before .before .before .before .before .before .before .before .before .sort2 .last .1 .1 .0) (c .before .before .before .before .before .before .before .before .before .before .before .sort2 .ensures) _ (c .before .before .before .before .join .ensures)
+
+pub +sort-spec : {M : Type 1} → statement M
++sort-spec = close μ-sort λ t. sort-lts.spec (
+  sort-below t,
+  sort.Post,
+  join-reads.Asked,
+  join-reads.Learnt,
+)
+    (sort-at t)
+    sort.Post
+    (sort-returns t)
+    (sort-slice-relend-prefix-sort t)
+    (sort-slice-aggregate-sort t)
+    (sort-sort-requires t)
+    (sort-mul-sort t)
+    (sort-sub-sort t)
+    (sort-part-sort-start t)
+    (sort-part-sort-end t)
+    (sort-sort-requires-2 t)
+    (sort-join-requires t)
+    (sort-same-length t)
+    (sort-same-length-2 t)
+    (sort-returns-2 t)
