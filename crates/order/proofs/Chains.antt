@@ -4,13 +4,13 @@ use mathlib.Core.Bool.{Bool, false, true}
 use mathlib.Core.List.{List, List·Memᴰ, List·Memᴰ·head, List·Memᴰ·tail, [], _∷_}
 use mathlib.Core.Logic.{_≢_}
 use mathlib.Core.Path.{ap, refl, sym, _∙_, _≡_}
-use Prim.Native.Nat.{suc, zero, ℕ, _%_, _*_, _+_, _/_, _<_, _≤_}
+use Prim.Native.Nat.{suc, zero, ℕ, _*_, _+_, _/_, _<_, _≤_}
 use native.Mathlib.Numerals.{add-one}
 use native.Mathlib.Omega.{arith}
-use lib.Dec.{eqb, ltb}
+use lib.Dec.{ltb}
 use lib.ListN.{drop, drop-of-length-le, getD, length, length-set, take}
-use lib.Seq.{drop-cons, drop-set-lt, getD-set-other, getD-set-same, set-out, take-set-le}
-use borrow.Author.Tests.{eqb-false, eqb-true, le-ltb, lt-ltb, ltb-false, ltb-true}
+use lib.Seq.{drop-cons, drop-set-lt, getD-set-other, getD-set-same, take-set-le}
+use borrow.Author.Tests.{le-ltb, lt-ltb}
 use Rattle.reader.specs.Limits.{maxNodes}
 use Rattle.reader.specs.Links.{linkAt, linkedBy}
 use Rattle.reader.specs.Marks.{firstMark}
@@ -54,22 +54,6 @@ link-here w at next l h = omega (arith, getD-set-same w (firstMark + at) (2 * ne
 
 link-elsewhere : (w : List ℕ) (at next j : ℕ) → (j ≡ at → ⊥) → getD (linked w at next) (firstMark + j) 0 ≡ getD w (firstMark + j) 0
 link-elsewhere w at next j f = let ne : firstMark + j ≢ firstMark + at = λ e. f (omega arith) in getD-set-other w (firstMark + at) (firstMark + j) (2 * next) 0 ne
-
--- a link is an even word
-linked-mark : (w : List ℕ) (at next j : ℕ) → getD (linked w at next) (firstMark + j) 0 % 2 ≡ 1 → getD w (firstMark + j) 0 % 2 ≡ 1
-linked-mark w at next j h = go (eqb j at) refl (ltb (firstMark + at) (length w)) refl
-  where
-    go : (b : Bool) → eqb j at ≡ b → (d : Bool) → ltb (firstMark + at) (length w) ≡ d → getD w (firstMark + j) 0 % 2 ≡ 1
-    go true p true q =
-        let e : getD (linked w at next) (firstMark + j) 0 ≡ 2 * next = ap (λ (i : ℕ). getD (linked w at next) (firstMark + i) 0) (eqb-true j at p) ∙ getD-set-same w (firstMark + at) (2 * next) 0 (ltb-true (firstMark + at) (length w) q) in
-        absurd (omega arith)
-    go true p false q = ap (λ (l : List ℕ). getD l (firstMark + j) 0 % 2) (sym (set-out w (firstMark + at) (2 * next) (ltb-false (firstMark + at) (length w) q))) ∙ h
-    go false p d q = ap (λ (x : ℕ). x % 2) (sym (link-elsewhere w at next j (eqb-false j at p))) ∙ h
-
-pub chained-mark : (w : List ℕ) (at : ℕ) (ns : List ℕ) (e j : ℕ) → getD (chained w at ns e) (firstMark + j) 0 % 2 ≡ 1 → getD w (firstMark + j) 0 % 2 ≡ 1
-unfolding chained
-chained-mark w at [] e j h = linked-mark w at e j h
-chained-mark w at (n ∷ ns) e j h = linked-mark w at n j (chained-mark (linked w at n) n ns e j h)
 
 -- ---- where they lead
 pub chained-other : (w : List ℕ) (at : ℕ) (ns : List ℕ) (e j : ℕ) → (j ≡ at → ⊥) → (List·Memᴰ j ns → ⊥) → linkAt (chained w at ns e) j ≡ linkAt w j

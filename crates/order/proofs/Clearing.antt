@@ -7,7 +7,7 @@ use Prim.Native.Nat.{ℕ, _*_, _+_, _<_, _≤_}
 use native.Mathlib.Omega.{arith}
 use lib.Dec.{eqb}
 use lib.ListN.{drop, getD, length, length-set, set, take}
-use lib.Seq.{drop-drop, drop-set-lt, getD-drop, getD-set-other, getD-set-same, take-set-le}
+use lib.Seq.{drop-drop, drop-set-lt, getD-set-other, getD-set-same, take-set-le}
 use borrow.Author.Tests.{eqb-false, eqb-true}
 use Rattle.reader.specs.Marks.{firstMark}
 use Rattle.order.specs.Chained.{ClearedBehind}
@@ -41,8 +41,5 @@ pub cleared-all : {w₀ : List ℕ} {count : ℕ} {w : List ℕ} {k : ℕ} → C
 cleared-all c h = record { rows = c .rows; none = λ i p q. c .none i p (omega arith); further = c .further }
 
 -- what follows the rows stays
-pub cleared-links : {w : List ℕ} {count : ℕ} {w′ : List ℕ} → ClearedBehind w count w′ → (i : ℕ) → getD w′ (firstMark + i) 0 ≡ getD w (firstMark + i) 0
-cleared-links {w} {count} {w′} c i = sym (getD-drop firstMark w′ i 0) ∙ ap (λ (l : List ℕ). getD l i 0) (c .further) ∙ getD-drop firstMark w i 0
-
 pub cleared-further : {w : List ℕ} {count : ℕ} {w′ : List ℕ} → ClearedBehind w count w′ → drop 16384 w′ ≡ drop 16384 w
 cleared-further {w} {count} {w′} c = sym (drop-drop 4096 firstMark w′) ∙ ap (drop 4096) (c .further) ∙ drop-drop 4096 firstMark w

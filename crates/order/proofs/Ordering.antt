@@ -8,6 +8,7 @@ use native.Mathlib.Omega.{arith}
 use lib.Dec.{eqb, ltb}
 use lib.ListN.{length, take}
 use borrow.Author.Tests.{eqb-false, eqb-true, ltb-false, ltb-true}
+use Rattle.reader.proofs.Decoded.{size-pos}
 use Rattle.reader.proofs.Walk.{after-node}
 use Rattle.reader.specs.Bytes.{Bytes}
 use Rattle.reader.specs.Held.{HasMembers, IsNode}
@@ -15,8 +16,7 @@ use Rattle.reader.specs.Limits.{maxDepth, maxNodes, maxNumber, tidy}
 use Rattle.reader.specs.Links.{LinkedAt}
 use Rattle.reader.specs.Marks.{firstMark}
 use Rattle.reader.specs.Table.{afterAt, kindAt, valueAt}
-use Rattle.order.proofs.Chains.{chained-mark}
-use Rattle.order.proofs.Clearing.{cleared-further, cleared-links}
+use Rattle.order.proofs.Clearing.{cleared-further}
 use Rattle.order.proofs.Linking.{count-small, fewer, further-words, linked-here, linked-there, object, rows}
 use Rattle.order.proofs.Prefix.{node-rows, word-prefix}
 use Rattle.order.specs.Chained.{ClearedBehind, orderedAt}
@@ -42,7 +42,7 @@ pub row-within : {s : Bytes} {w : List ℕ} {count k : ℕ} → Unordered s w �
 row-within {s} {w} u c h = omega (arith, count-small s w u, u .long)
 
 pub linked-none : (s : Bytes) (w : List ℕ) → LinkedUpto s w w 0
-linked-none s w = record { rows = refl; further = refl; marks = λ n h. h; links = λ n h q. absurd (omega arith) }
+linked-none s w = record { rows = refl; further = refl; links = λ n h q. absurd (omega arith) }
 
 module _ {s : Bytes} {w v : List ℕ} {k : ℕ} (u : Unordered s w) (long : length v ≡ length w) (l : LinkedUpto s w v k) (below : k < afterAt w 0) where
   still : Unordered s v
@@ -53,7 +53,7 @@ module _ {s : Bytes} {w v : List ℕ} {k : ℕ} (u : Unordered s w) (long : leng
 
   -- a row that is no object's
   pub passed : (kindAt v k ≡ 6 → ⊥) → LinkedUpto s w v (k + 1)
-  passed f = record { rows = l .rows; further = l .further; marks = l .marks; links = λ n h q. go n h q (eqb n k) refl }
+  passed f = record { rows = l .rows; further = l .further; links = λ n h q. go n h q (eqb n k) refl }
     where
       go : (n : ℕ) → n < k + 1 → kindAt w n ≡ 6 → (b : Bool) → eqb n k ≡ b → LinkedAt s v n
       go n h q true e = absurd (f (same-kind s w v u (l .rows) k below ∙ ap (kindAt w) (sym (eqb-true n k e)) ∙ q))
@@ -64,7 +64,7 @@ module _ {s : Bytes} {w v : List ℕ} {k : ℕ} (u : Unordered s w) (long : leng
   its-members q = object s v still k here q .members
 
   pub linked-one : kindAt v k ≡ 6 → LinkedUpto s w (orderedAt s v k) (k + 1)
-  linked-one isObject = record { rows = rows s v still k here isObject ∙ l .rows; further = further-words s v still k here isObject ∙ l .further; marks = λ n h. l .marks n (chained-mark v k _ _ n h); links = λ n h q. go n h q (eqb n k) refl }
+  linked-one isObject = record { rows = rows s v still k here isObject ∙ l .rows; further = further-words s v still k here isObject ∙ l .further; links = λ n h q. go n h q (eqb n k) refl }
     where
       go : (n : ℕ) → n < k + 1 → kindAt w n ≡ 6 → (b : Bool) → eqb n k ≡ b → LinkedAt s (orderedAt s v k) n
       go n h q true e = subst (LinkedAt s (orderedAt s v k)) (sym (eqb-true n k e)) (linked-here s v still k here isObject)
@@ -88,10 +88,9 @@ module _ {s : Bytes} {w v : List ℕ} {count : ℕ} (u : Unordered s w) (counted
   ordered {w′} l m = record {
     root = node .0;
     same = node .1 ∙ cleared-node .1;
-    linked = record { links = λ i h q. link i h q (ltb i count) refl };
+    linked = record { links = λ i h q. link i (omega (arith, h .isNode .most, size-pos (h .isNode .tree))) q (ltb i count) refl };
     long = m ∙ long;
     further = l .further ∙ cleared-further b;
-    marks = λ i h q. ap (λ (x : ℕ). x % 2) (sym (cleared-links b i)) ∙ l .marks i q;
   }
     where
       node : IsNode s w′ maxDepth 0 × (valueAt s w′ 0 ≡ valueAt s v 0)

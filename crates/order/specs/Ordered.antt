@@ -3,11 +3,11 @@
 use mathlib.Core.Bool.{true}
 use mathlib.Core.List.{List}
 use mathlib.Core.Path.{_≡_}
-use Prim.Native.Nat.{ℕ, _%_, _+_, _<_, _≤_}
-use lib.ListN.{drop, getD, length, take}
+use Prim.Native.Nat.{ℕ, _<_, _≤_}
+use lib.ListN.{drop, length, take}
 use Rattle.reader.specs.Bytes.{Bytes}
 use Rattle.reader.specs.Held.{IsNode}
-use Rattle.reader.specs.Limits.{maxDepth, maxNodes, maxNumber, tidy}
+use Rattle.reader.specs.Limits.{maxDepth, maxNumber, tidy}
 use Rattle.reader.specs.Links.{Linked, LinkedAt}
 use Rattle.reader.specs.Marks.{firstMark}
 use Rattle.reader.specs.Table.{afterAt, kindAt, valueAt}
@@ -18,14 +18,13 @@ pub record Unordered (s : Bytes) (w : List ℕ) : Type 0 where
   pub root : IsNode s w maxDepth 0
   pub isTidy : tidy maxNumber (valueAt s w 0) ≡ true
 
--- the same tree, the names of every object linked; no node is newly marked
+-- the same tree, the names of every object linked
 pub record Ordered (s : Bytes) (w w′ : List ℕ) : Type 0 where
   pub root : IsNode s w′ maxDepth 0
   pub same : valueAt s w′ 0 ≡ valueAt s w 0
   pub linked : Linked s w′
   pub long : length w′ ≡ length w
   pub further : drop 16384 w′ ≡ drop 16384 w
-  pub marks : (n : ℕ) → n < maxNodes → getD w′ (firstMark + n) 0 % 2 ≡ 1 → getD w (firstMark + n) 0 % 2 ≡ 1
 
 -- on the way there: the objects before a row are linked, whatever the rows behind the last node are
 pub record CanOrderRows (s : Bytes) (w : List ℕ) (count names spare : ℕ) : Type 0 where
@@ -37,5 +36,4 @@ pub record CanOrderRows (s : Bytes) (w : List ℕ) (count names spare : ℕ) : T
 pub record LinkedUpto (s : Bytes) (w w′ : List ℕ) (k : ℕ) : Type 0 where
   pub rows : take firstMark w′ ≡ take firstMark w
   pub further : drop 16384 w′ ≡ drop 16384 w
-  pub marks : (n : ℕ) → getD w′ (firstMark + n) 0 % 2 ≡ 1 → getD w (firstMark + n) 0 % 2 ≡ 1
   pub links : (n : ℕ) → n < k → kindAt w n ≡ 6 → LinkedAt s w′ n

@@ -1,18 +1,6 @@
 // A node's link: twice the next node, in the word behind the rows whose lowest bit is the node's mark.
 ghost use mathlib.Core.Path.{_≡_};
-ghost use Prim.Native.Nat.{_<_, _≤_};
-ghost use lib.ListN.{length};
-ghost use Rattle.reader.specs.Links.{linkAt};
 ghost use Rattle.order.specs.Chained.{AllSmall, CanLink, chained, linked};
-
-// Where a node's link leads.
-pub fn link_at(work: &[u32], node: usize) -> usize
-    requires { ⌜ (16384 ≤ length (now work)) × (node < 4096) ⌝ }
-    ensures { λ r. ⌜ r ≡ linkAt (now (work .entry)) node ⌝ }
-{
-    let w = work[12288 + node];
-    (w / 2) as usize
-}
 
 fn link(work: &mut [u32], node: usize, next: usize)
     requires { ⌜ CanLink (now work) node next ⌝ }
