@@ -16,6 +16,7 @@ use Rattle.reader.specs.Cursor.{OnText}
 use Rattle.reader.specs.Held.{AreMembers, HasNode, IsNode}
 use Rattle.reader.specs.Json.{Members, Value, entries, object}
 use Rattle.reader.specs.Limits.{depth}
+use Rattle.reader.specs.Links.{Linked}
 use Rattle.reader.specs.Refusal.{Refusal, Result, ok, refused, _>>=_}
 use Rattle.reader.specs.Spans.{textAt}
 use Rattle.reader.specs.Table.{afterAt, kindAt, membersAt, startAt, valueAt}
@@ -36,12 +37,12 @@ use Rattle.sheet.specs.Accepted.{Gives, Known, nodeOf}
 use Rattle.sheet.specs.Answers.{Located}
 use Rattle.sheet.specs.Condition.{Condition, Mode, condition, quantified}
 use Rattle.sheet.specs.Sheet.{Sheet}
-use Rattle.operands.proofs.Alike.{child-end, child-given, value-there, walk-begins, walk-named}
+use Rattle.operands.proofs.Alike.{value-there, walk-begins, walk-kids, walk-named}
 use Rattle.operands.proofs.Layered.{array-is, array-kind, class-is, class-small, object-is, object-kind, shape-kind, shapeClass}
 use Rattle.operands.proofs.Marking.{left-none, left-then}
-use Rattle.operands.proofs.Ordered.{node-below}
-use Rattle.operands.proofs.Words.{row-word}
-use Rattle.operands.specs.Children.{ChildAt, ChildTold, Given, WalkAt, begun, childrenOf}
+use Rattle.operands.proofs.Ordered.{child-end, child-given, node-below}
+use Rattle.operands.proofs.Words.{row-word, table-twice}
+use Rattle.operands.specs.Children.{ChildAt, ChildrenAt, Given, begun, childrenOf, nextOf}
 use Rattle.operands.specs.Comparing.{shape}
 use Rattle.operands.specs.Layered.{classOf, eachName, eachNode, kids, partAt, shapeOf, valueNode}
 use Rattle.operands.specs.Lazy as lazy
@@ -66,14 +67,14 @@ use Rattle.evaluation.specs.Judge.{inTurn, judge, overOf}
 use Rattle.evaluation.specs.declared.comparison.Outcome.{Outcome}
 use Rattle.evaluation.specs.declared.comparison.Outcome.the-variants as outcomes
 use Rattle.evaluation.specs.declared.condition.Quantifier.{Quantifier}
-use Rattle.evaluation.proofs.After.{node-rows, table-twice}
+use Rattle.evaluation.proofs.After.{node-rows}
 use Rattle.evaluation.proofs.Joined.{Joining, joining-last, joining-none, joining-twice}
 use Rattle.evaluation.proofs.Judging.{is-missing, is-present, no-id-first, unknown-first}
 use Rattle.evaluation.proofs.Shallow.{member-shallow}
 
 -- ---- its members
 -- a node is the same among the rows and among all words
-module _ (s : Bytes) (w : List ℕ) (long : 12288 ≤ length w) where
+module _ (s : Bytes) (w : List ℕ) where
   to-words : {left n : ℕ} → IsNode s (table w) left n → IsNode s w left n × (valueAt s w n ≡ valueAt s (table w) n)
   to-words h = node-rows (sym (table-twice w)) h
 
@@ -107,12 +108,12 @@ node-is : {r : Found} {j : ℕ} (q : ℕ) → q ≡ nodeOf r → r ≡ founds.At
 unfolding nodeOf
 node-is q e i = e ∙ ap nodeOf i
 
-module _ {s : Bytes} (w : List ℕ) {m : Mode} {n : ℕ} {c : Condition} (long : 12288 ≤ length w) (g : QuantifierAt s (table w) m n c) {e : ℕ} (isEnd : e ≡ afterAt (table w) n) where
+module _ {s : Bytes} (w : List ℕ) {m : Mode} {n : ℕ} {c : Condition} (g : QuantifierAt s (table w) m n c) {e : ℕ} (isEnd : e ≡ afterAt (table w) n) where
   here : ObjectHere s (table w) n
   here = quantified-here (g .node) (g .isTidy) m c (g .is) .0
 
   rows : AreMembers s w 64 (n + 1) (afterAt (table w) n) × (membersAt s w (n + 1) (afterAt (table w) n) ≡ membersAt s (table w) (n + 1) (afterAt (table w) n))
-  rows = members-rows s w long (node-below s (table w) (record { left = 64; isNode = g .node })) here (g .node)
+  rows = members-rows s w (node-below s (table w) (record { left = 64; isNode = g .node })) here (g .node)
 
   -- what the search for a member asks
   pub quantifier-members : AreMembers s w 64 (n + 1) e
@@ -121,7 +122,7 @@ module _ {s : Bytes} (w : List ℕ) {m : Mode} {n : ℕ} {c : Condition} (long :
   -- and what it finds
   member-found : (k : Bytes) {r : Found} → Located s w (n + 1) e (find k (entries (membersAt s w (n + 1) e))) r → FoundTold s (table w) (find k (entries (membersAt s (table w) (n + 1) (afterAt (table w) n)))) r
   member-found k {r} l =
-      let f = told-rows s w long (l .told) in
+      let f = told-rows s w (l .told) in
       record { answers = sym (ap (λ (ms : Members). find k (entries ms)) (ap (membersAt s w (n + 1)) isEnd ∙ rows .1)) ∙ f .answers; bounds = f .bounds }
 
   pub quantifier-parts : (q : Quantifier) {rIn rAs rThat : Found} → Located s w (n + 1) e (find (ascii "in") (entries (membersAt s w (n + 1) e))) rIn → Located s w (n + 1) e (find (ascii "as") (entries (membersAt s w (n + 1) e))) rAs → Located s w (n + 1) e (find (ascii "that") (entries (membersAt s w (n + 1) e))) rThat → q .over ≡ nodeOf rIn → q .bind ≡ nodeOf rAs → q .body ≡ nodeOf rThat → QuantifierParts s (table w) m n q c
@@ -237,9 +238,9 @@ pub record Turning (s : Bytes) (w₀ : List ℕ) (sheet : Sheet Condition) (f : 
   pub gives : Gives condition s (table w₀) node that
   pub names : Names
   pub left : Left s w₀ w names
-  pub walk : WalkAt s (table w₀) (c .named) (c .first) (c .end) (c .at)
+  pub walk : ChildrenAt s (table w₀) c
   pub over : c .named ≡ named
-  pub rest : eachOf sheet (framesOf s (table w₀) f) m (textAt s name) that (operandOf s (table w₀) o) ≡ Joining m (record { truth = truthOf t; names = names }) (inTurn m (λ p. judge sheet ((textAt s name, p) ∷ framesOf s (table w₀) f) that) (eachPart (partAt sheet s (table w₀) (framesOf s (table w₀) f) o) named (childrenOf s (table w₀) c)))
+  pub rest : eachOf sheet (framesOf s (table w₀) f) m (textAt s name) that (operandOf s (table w₀) o) ≡ Joining m (record { truth = truthOf t; names = names }) (inTurn m (λ p. judge sheet ((textAt s name, p) ∷ framesOf s (table w₀) f) that) (eachPart (partAt sheet s (table w₀) (framesOf s (table w₀) f) o) named (childrenOf (table w₀) c)))
 
 -- whichever condition the body's node gives
 abbrev pub EachAs : Bytes → List ℕ → List ℕ → Sheet Condition → Frames → Mode → ℕ → ℕ → Operand → Outcome → Type 0
@@ -250,19 +251,19 @@ module _ (s : Bytes) (w : List ℕ) (sheet : Sheet Condition) (f : Frames) (m : 
   pub each-unknown : k < 5 → EachAs s w w sheet f m name node o (outcomes.Judged truths.Unknown)
   each-unknown h d g = record { names = []; met = []; means = sym (each-none sheet s (table w) (framesOf s (table w) f) m (textAt s name) d o isClass h); left = left-none s w; marks = refl }
 
-  pub turn-begin : 5 ≤ k → OperandAt s (table w) o → Known (Gives condition s (table w) node) → {t : code.Truth} → truthOf t ≡ start m → (c : Children) → c ≡ begun (table w) (o .node) (eqb k 6) → Turning s w sheet f m name node o (eqb k 6) w t c
-  turn-begin big fits known e c q =
+  pub turn-begin : 5 ≤ k → OperandAt s (table w) o → Linked s (table w) → Known (Gives condition s (table w) node) → {t : code.Truth} → truthOf t ≡ start m → {c : Children} → c ≡ begun (table w) (o .node) (eqb k 6) → Turning s w sheet f m name node o (eqb k 6) w t c
+  turn-begin big fits linked known e {c} q =
       let body : lazy.Operand → Result Answer = λ p. judge sheet ((textAt s name, p) ∷ framesOf s (table w) f) (known .given) in
-      let over : Children → Result Answer = λ y. inTurn m body (eachPart (partAt sheet s (table w) (framesOf s (table w) f) o) (eqb k 6) (childrenOf s (table w) y)) in
+      let over : List ℕ → Result Answer = λ ks. inTurn m body (eachPart (partAt sheet s (table w) (framesOf s (table w) f) o) (eqb k 6) ks) in
       let h = each-holds s (table w) o isClass big fits in
       record {
         that = known .given;
         gives = known .known;
         names = [];
         left = left-none s w;
-        walk = walk-begins s (table w) (eqb k 6) (o .node) h c q;
-        over = walk-named s (table w) (eqb k 6) (o .node) h c q;
-        rest = each-parts sheet s (table w) (framesOf s (table w) f) m (textAt s name) (known .given) o isClass big ∙ ap over (sym q) ∙ sym (joining-none m (over c)) ∙ ap (λ (y : Truth). Joining m (record { truth = y; names = [] }) (over c)) (sym e);
+        walk = walk-begins (eqb k 6) h linked q;
+        over = walk-named (eqb k 6) h linked q;
+        rest = each-parts sheet s (table w) (framesOf s (table w) f) m (textAt s name) (known .given) o isClass big ∙ ap over (sym (walk-kids (eqb k 6) h linked q)) ∙ sym (joining-none m (over (childrenOf (table w) c))) ∙ ap (λ (y : Truth). Joining m (record { truth = y; names = [] }) (over (childrenOf (table w) c))) (sym e);
       }
 
 module _ {s : Bytes} {w₀ : List ℕ} {sheet : Sheet Condition} {f : Frames} {m : Mode} {name node : ℕ} {o : Operand} {named : Bool} {w : List ℕ} {t : code.Truth} {c : Children} (g : Turning s w₀ sheet f m name node o named w t c) where
@@ -287,23 +288,23 @@ module _ {s : Bytes} {w₀ : List ℕ} {sheet : Sheet Condition} {f : Frames} {m
   pub turn-gives : Known (Gives condition s (table w) node)
   turn-gives = record { given = g .that; known = gives-now }
 
-  none-left : childrenOf s (table w₀) c ≡ [] → inTurn m body (eachPart (partAt sheet s (table w₀) fs o) named (childrenOf s (table w₀) c)) ≡ ok (record { truth = start m; names = [] })
+  none-left : childrenOf (table w₀) c ≡ [] → inTurn m body (eachPart (partAt sheet s (table w₀) fs o) named (childrenOf (table w₀) c)) ≡ ok (record { truth = start m; names = [] })
   unfolding inTurn eachPart
   none-left e = rw e
 
   -- what the walk told, among the rows at entry
-  told : (r : Child) → ChildTold s (table w) c r → ChildTold s (table w₀) c r
-  told r h = subst (λ (y : List ℕ). ChildTold s y c r) (g .left .rows) h
+  told : {r : Child} → r ≡ nextOf (table w) c → r ≡ nextOf (table w₀) c
+  told h = h ∙ ap (λ (y : List ℕ). nextOf y c) (g .left .rows)
 
   -- no part is left
-  pub turn-end : {r : Child} → ChildTold s (table w) c r → r ≡ child.End → EachAs s w₀ w sheet f m name node o (outcomes.Judged t)
-  turn-end {r} h i =
-      let e = child-end s (table w₀) c (told r h) i in
+  pub turn-end : {r : Child} → r ≡ nextOf (table w) c → r ≡ child.End → EachAs s w₀ w sheet f m name node o (outcomes.Judged t)
+  turn-end h i =
+      let e = child-end (g .walk) (told h) i in
       let done : eachOf sheet fs m (textAt s name) (g .that) (operandOf s (table w₀) o) ≡ ok soFar = g .rest ∙ ap (Joining m soFar) (none-left e) ∙ joining-last m soFar in
       for-each (record { names = g .names; met = g .names; means = sym done; left = g .left; marks = refl })
 
-  pub turn-given : {r : Child} → ChildTold s (table w) c r → (x : Next) → r ≡ child.Is x → Given s (table w₀) c (x .node) (x .rest)
-  turn-given {r} h x i = child-given s (table w₀) c (told r h) x i
+  pub turn-given : {r : Child} → r ≡ nextOf (table w) c → (x : Next) → r ≡ child.Is x → Given s (table w₀) c (x .node) (x .rest)
+  turn-given h x i = child-given (g .walk) (told h) x i
 
   pub turn-long : {w′ : List ℕ} {r : Outcome} {y : Condition → Result Answer} → ((d : Condition) → Gives condition s (table w) node d → EvaluatedAs s w w′ r (y d)) → length w′ ≡ length w₀
   turn-long h = h (g .that) gives-now .left .long ∙ g .left .long
@@ -320,9 +321,9 @@ module _ {s : Bytes} {w₀ : List ℕ} {sheet : Sheet Condition} {f : Frames} {m
     turn-node e = rw (e, g .left .rows) (turn-child .0)
 
     abbrev others : Result Answer
-    others = inTurn m body (eachPart (partAt sheet s (table w₀) fs o) named (childrenOf s (table w₀) c′))
+    others = inTurn m body (eachPart (partAt sheet s (table w₀) fs o) named (childrenOf (table w₀) c′))
 
-    turn : {y : Result Answer} → inTurn m body (part k ∷ eachPart (partAt sheet s (table w₀) fs o) named (childrenOf s (table w₀) c′)) ≡ y → eachOf sheet fs m (textAt s name) (g .that) (operandOf s (table w₀) o) ≡ Joining m soFar y
+    turn : {y : Result Answer} → inTurn m body (part k ∷ eachPart (partAt sheet s (table w₀) fs o) named (childrenOf (table w₀) c′)) ≡ y → eachOf sheet fs m (textAt s name) (g .that) (operandOf s (table w₀) o) ≡ Joining m soFar y
     unfolding eachPart
     turn e = g .rest ∙ ap (λ (ks : List ℕ). Joining m soFar (inTurn m body (eachPart (partAt sheet s (table w₀) fs o) named ks))) (x .children) ∙ ap (Joining m soFar) e
 
@@ -389,6 +390,7 @@ pushed r l n p d h = record {
     rows = r .ready .rows;
     short = r .ready .short;
     rooted = r .ready .rooted;
+    linked = r .ready .linked;
     bound = record { within = omega arith; names = rw h (n, r .ready .bound .names); operands = rw h (p, r .ready .bound .operands) };
   };
   long = r .long;

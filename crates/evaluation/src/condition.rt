@@ -230,7 +230,7 @@ fn each(
     let mut truth = start(mode);
     let mut c = Children::of(work, o.node, class == 6);
     loop {
-        match c.next(s, work) {
+        match c.next(work) {
             Child::End => {
                 return Outcome::Judged(truth);
             }

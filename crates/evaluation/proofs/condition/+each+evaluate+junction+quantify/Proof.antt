@@ -116,10 +116,10 @@ each-of-requires : (t : ℕ) → each-lts.Need-of-requires (each-claims t) (each
 each-of-requires t c κs = begin-room (c .before .before .before .before .before .before .args .s .now) (c .before .before .before .before .before .before .args .work .now) (eqb (c .before .before .before .class-of .result) 6) (c .before .before .before .before .before .before .pre .1 .0 .ready .rows) (each-holds (c .before .before .before .before .before .before .args .s .now) (table (c .before .before .before .before .before .before .args .work .now)) (c .before .before .before .before .before .before .args .o) (c .before .before .before .class-of .ensures) (c .before .before .if1 .left) (c .before .before .before .before .before .before .pre .1 .2))
 
 each-loop-holds : (t : ℕ) → each-lts.Need-loop-holds (each-claims t) (each-at t) each.Post each-Inv-loop each-μ-loop
-each-loop-holds t c = turn-begin (c .before .before .before .before .before .before .before .args .s .now) (c .before .before .before .before .before .before .before .args .work .now) (sheetIn (c .before .before .before .before .before .before .before .args .s .now)) (c .before .before .before .before .before .before .before .args .frames) (modeOf (c .before .before .before .before .before .before .before .args .mode)) (c .before .before .before .before .before .before .before .args .name) (c .before .before .before .before .before .before .before .args .body) (c .before .before .before .before .before .before .before .args .o) (c .before .before .before .before .class-of .ensures) (c .before .before .before .if1 .left) (c .before .before .before .before .before .before .before .pre .1 .2) (c .before .before .before .before .before .before .before .pre .1 .4) (c .before .before .start .ensures) _ (c .of .ensures)
+each-loop-holds t c = turn-begin (c .before .before .before .before .before .before .before .args .s .now) (c .before .before .before .before .before .before .before .args .work .now) (sheetIn (c .before .before .before .before .before .before .before .args .s .now)) (c .before .before .before .before .before .before .before .args .frames) (modeOf (c .before .before .before .before .before .before .before .args .mode)) (c .before .before .before .before .before .before .before .args .name) (c .before .before .before .before .before .before .before .args .body) (c .before .before .before .before .before .before .before .args .o) (c .before .before .before .before .class-of .ensures) (c .before .before .before .if1 .left) (c .before .before .before .before .before .before .before .pre .1 .2) (c .before .before .before .before .before .before .before .pre .1 .0 .ready .linked) (c .before .before .before .before .before .before .before .pre .1 .4) (c .before .before .start .ensures) (c .of .ensures)
 
 each-next-requires : (t : ℕ) → each-lts.Need-next-requires (each-claims t) (each-at t) each.Post each-Inv-loop each-μ-loop
-each-next-requires t c κs = (record { rows = working-after (c .before .before .before .before .before .before .before .before .before .pre .1 .0) (c .before .loop .inv .left) .ready .rows; node = omega arith }, rw (c .before .loop .inv .left .rows) (c .before .loop .inv .walk))
+each-next-requires t c κs = (record { rows = working-after (c .before .before .before .before .before .before .before .before .before .pre .1 .0) (c .before .loop .inv .left) .ready .rows; node = omega arith }, c .before .loop .inv .walk .within)
 
 each-enum-told : (t : ℕ) → each-lts.Need-enum-told (each-claims t) (each-at t) each.Post each-Inv-loop each-μ-loop
 each-enum-told t c = search needs
