@@ -10,6 +10,7 @@ use lib.Dec.{T, leb, leb→le}
 use lib.ListN.{drop, length}
 use Rattle.line.specs.Line.{refusalLine, refusalNumber}
 use Rattle.order.specs.Ordered.{Ordered, Unordered}
+use Rattle.reader.proofs.Complete.{read-exactly}
 use Rattle.reader.proofs.Laws.{leb-true}
 use Rattle.reader.specs.Answers.{refusalOf}
 use Rattle.reader.specs.Bytes.{Bytes}
@@ -119,15 +120,15 @@ module _ {s : Bytes} {w w′ : List ℕ} {r : Read} (t : ReadTold s w w′ r) wh
     unfolding readOf
     was-read = t .answers ∙ ap {B = Result Value} (readOf s w′) q
 
-    large : 16384 ≤ length w
-    large = is-large (length w) s (valueAt s w′ 0) was-read
+    read-large : 16384 ≤ length w
+    read-large = is-large (length w) s (valueAt s w′ 0) was-read
 
     reads-json : json s ≡ ok (valueAt s w′ 0)
     reads-json = is-json (length w) s (valueAt s w′ 0) was-read
 
     pub unordered : length w′ ≡ length w → Unordered s w′
     unfolding HoldsOf
-    unordered e = record { long = omega (arith, e, large); root = subst (HoldsOf s w′) q (t .holds) .root; isTidy = read-exactly s (valueAt s w′ 0) .0 reads-json .isTidy }
+    unordered e = record { long = omega (arith, e, read-large); root = subst (HoldsOf s w′) q (t .holds) .root; isTidy = read-exactly s (valueAt s w′ 0) .0 reads-json .isTidy }
 
     -- the table once its members are linked
     module _ {w″ : List ℕ} (o : Ordered s w′ w″) where
@@ -135,7 +136,7 @@ module _ {s : Bytes} {w w′ : List ℕ} {r : Read} (t : ReadTold s w w′ r) wh
       stored = record { reads = reads-json ∙ ap {B = Result Value} (λ v. ok v) (sym (o .same)); node = o .root; linked = o .linked }
 
       still-small : length w < 16384 → w″ ≡ w
-      still-small h = absurd (omega (arith, h, large))
+      still-small h = absurd (omega (arith, h, read-large))
 
       still-past : 16384 ≤ length w → drop 16384 w″ ≡ drop 16384 w
       still-past h = o .further ∙ t .cleared h .past
@@ -154,7 +155,7 @@ module _ {s : Bytes} {w w′ : List ℕ} {r : Read} (t : ReadTold s w w′ r) wh
       opened-sheet {a} h m e =
           let x = subst (Shaped s w″) e h in
           record {
-            is = record { long = large; sheet = x .0; accepted = x .1 };
+            is = record { long = read-large; sheet = x .0; accepted = x .1 };
             small = still-small;
             past = still-past;
           }
