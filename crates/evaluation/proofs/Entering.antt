@@ -29,7 +29,7 @@ use Rattle.sheet.specs.Sheet.{Sheet, aSheet, checked, readSheet}
 use Rattle.sheet.specs.declared.shape.Members.{Members as Places}
 use Rattle.semantics.specs.Evaluate.{evaluate}
 use Rattle.semantics.specs.Semantics.{kernel}
-use Rattle.operands.specs.Marks.{Working}
+use Rattle.operands.specs.Ready.{Ready}
 use Rattle.operands.specs.Rooted.{IsNumber, IsObject, IsText, MayBeText, Rooted, orNone, sheetIn}
 use Rattle.operands.specs.Stack.{Named, top}
 use Rattle.operands.specs.Stored.{Bound, fieldsOf, framed, framesOf, table, tree}
@@ -119,18 +119,15 @@ module _ {s : Bytes} {w : List ℕ} {m : Places} {sheet : Sheet Condition} (a : 
       })
 
   -- ---- ready, with no binder in force
-  pub ready-for : {r : Roots} {f : Frames} → 16384 ≤ length w → r ≡ rootsOf m → f .depth ≡ 0 → Working s w r f
+  pub ready-for : {r : Roots} {f : Frames} → 16384 ≤ length w → r ≡ rootsOf m → f .depth ≡ 0 → Ready s w r f
   unfolding top Named Bound
   ready-for {r} {f} l e z =
       record {
-        ready = record {
-          rows = omega arith;
-          short = read-exactly s (valueAt s w 0) .0 (a .stored .reads) .bytes;
-          rooted = rw e rooted;
-          linked = linked-table (a .stored .linked);
-          bound = record { within = omega arith; names = subst (λ (d : ℕ). Named s (top d (f .slots))) (sym z) tt; operands = subst (λ (d : ℕ). Bound s (table w) (top d (f .slots))) (sym z) tt };
-        };
-        long = l;
+        rows = l;
+        short = read-exactly s (valueAt s w 0) .0 (a .stored .reads) .bytes;
+        rooted = rw e rooted;
+        linked = linked-table (a .stored .linked);
+        bound = record { within = omega arith; names = subst (λ (d : ℕ). Named s (top d (f .slots))) (sym z) tt; operands = subst (λ (d : ℕ). Bound s (table w) (top d (f .slots))) (sym z) tt };
       }
 
   -- judged is what is defined

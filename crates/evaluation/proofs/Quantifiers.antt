@@ -47,8 +47,9 @@ use Rattle.operands.specs.Comparing.{shape}
 use Rattle.operands.specs.Layered.{classOf, eachName, eachNode, kids, partAt, shapeOf, valueNode}
 use Rattle.operands.specs.Lazy as lazy
 use Rattle.operands.specs.Lazy.{operand}
-use Rattle.operands.specs.Marks.{Left, ResolvedAs, Working}
+use Rattle.operands.specs.Marks.{Left, ResolvedAs}
 use Rattle.operands.specs.Matched.{Holds}
+use Rattle.operands.specs.Ready.{Ready}
 use Rattle.operands.specs.Shape.{Shape, collected, digits, fields, items, nothing, seconds, truth, words}
 use Rattle.operands.specs.Stack.{Named, held}
 use Rattle.operands.specs.Stored.{Bound, HasKind, Means, OperandAt, framed, framesOf, operandOf, table, tree}
@@ -383,17 +384,14 @@ pub quantify-falls : (l : ℕ) {t : ℕ} → 3 * l + 2 ≡ t → 3 * (l - 1) + 1
 quantify-falls l e = omega arith
 
 -- frames with one more
-pub pushed : {s : Bytes} {w : List ℕ} {roots : Roots} {f g : Frames} {name : ℕ} {p : Operand} → Working s w roots f → f .depth + 1 ≤ 32 → OnText s name 0 → OperandAt s (table w) p → g .depth ≡ f .depth + 1 → held g ≡ record { name = name; operand = p } ∷ held f → Working s w roots g
+pub pushed : {s : Bytes} {w : List ℕ} {roots : Roots} {f g : Frames} {name : ℕ} {p : Operand} → Ready s w roots f → f .depth + 1 ≤ 32 → OnText s name 0 → OperandAt s (table w) p → g .depth ≡ f .depth + 1 → held g ≡ record { name = name; operand = p } ∷ held f → Ready s w roots g
 unfolding Named Bound
 pushed r l n p d h = record {
-  ready = record {
-    rows = r .ready .rows;
-    short = r .ready .short;
-    rooted = r .ready .rooted;
-    linked = r .ready .linked;
-    bound = record { within = omega arith; names = rw h (n, r .ready .bound .names); operands = rw h (p, r .ready .bound .operands) };
-  };
-  long = r .long;
+  rows = r .rows;
+  short = r .short;
+  rooted = r .rooted;
+  linked = r .linked;
+  bound = record { within = omega arith; names = rw h (n, r .bound .names); operands = rw h (p, r .bound .operands) };
 }
 
 -- ---- the whole quantifier

@@ -12,7 +12,6 @@ ghost use Rattle.reader.specs.Limits.{depth};
 ghost use Rattle.sheet.specs.Condition.{exists, pair};
 ghost use Rattle.evaluation.specs.Answers.{EvaluatedAs, JudgedAs};
 ghost use Rattle.evaluation.specs.Judge.{judge};
-ghost use Rattle.operands.specs.Marks.{Working};
 ghost use Rattle.sheet.specs.Answers.{formOf};
 ghost use Rattle.operands.specs.Ready.{Ready};
 ghost use Rattle.operands.specs.Rooted.{sheetIn};
@@ -34,7 +33,7 @@ pub fn exists_at(
     node: usize,
     left: usize,
 ) -> Outcome
-    requires { ⌜ Working (now s) (now work) roots frames × HasNode (now s) (table (now work)) node × (depth (tree (now s) (table (now work)) node) ≤ left) ⌝ }
+    requires { ⌜ Ready (now s) (now work) roots frames × HasNode (now s) (table (now work)) node × (depth (tree (now s) (table (now work)) node) ≤ left) ⌝ }
     ensures { λ r. ⌜ EvaluatedAs (now (s .entry)) (now (work .entry)) (now (work .exit)) r (judge (sheetIn (now (s .entry))) (framesOf (now (s .entry)) (table (now (work .entry))) frames) (exists (tree (now (s .entry)) (table (now (work .entry))) node))) ⌝ }
 {
     match resolve(s, work, roots, frames, node, true, left) {
@@ -75,7 +74,7 @@ pub fn pair_at(
     n: usize,
     left: usize,
 ) -> Outcome
-    requires { ⌜ Working (now s) (now work) roots frames × HasNode (now s) (table (now work)) m × HasNode (now s) (table (now work)) n × (depth (tree (now s) (table (now work)) m) ≤ left) × (depth (tree (now s) (table (now work)) n) ≤ left) ⌝ }
+    requires { ⌜ Ready (now s) (now work) roots frames × HasNode (now s) (table (now work)) m × HasNode (now s) (table (now work)) n × (depth (tree (now s) (table (now work)) m) ≤ left) × (depth (tree (now s) (table (now work)) n) ≤ left) ⌝ }
     ensures { λ r. ⌜ EvaluatedAs (now (s .entry)) (now (work .entry)) (now (work .exit)) r (judge (sheetIn (now (s .entry))) (framesOf (now (s .entry)) (table (now (work .entry))) frames) (pair (formOf form) (tree (now (s .entry)) (table (now (work .entry))) m) (tree (now (s .entry)) (table (now (work .entry))) n))) ⌝ }
 {
     match resolve(s, work, roots, frames, m, false, left) {

@@ -34,7 +34,7 @@ ghost use Rattle.sheet.specs.Accepted.{ConditionsGive, Gives, Known};
 ghost use Rattle.sheet.specs.Answers.{modeOf};
 ghost use Rattle.sheet.specs.Condition as conditions;
 ghost use Rattle.sheet.specs.Condition.{Condition, Conditions, condition};
-ghost use Rattle.operands.specs.Marks.{Working};
+ghost use Rattle.operands.specs.Ready.{Ready};
 ghost use Rattle.operands.specs.Rooted.{sheetIn};
 ghost use Rattle.operands.specs.Stored.{HasKind, OperandAt, Room, framesOf, operandOf, table, tree};
 ghost use Rattle.evaluation.specs.Answers.{EvaluatedAs};
@@ -124,7 +124,7 @@ pub fn evaluate(
     node: usize,
     left: usize,
 ) -> Outcome
-    requires { ⌜ Working (now s) (now work) roots frames × (2 * frames .depth + left ≤ 64) × Known (Gives condition (now s) (table (now work)) node) × (depth (tree (now s) (table (now work)) node) ≤ left) ⌝ }
+    requires { ⌜ Ready (now s) (now work) roots frames × (2 * frames .depth + left ≤ 64) × Known (Gives condition (now s) (table (now work)) node) × (depth (tree (now s) (table (now work)) node) ≤ left) ⌝ }
     ensures { λ r. ⌜ ((c : Condition) → Gives condition (now (s .entry)) (table (now (work .entry))) node c → EvaluatedAs (now (s .entry)) (now (work .entry)) (now (work .exit)) r (judge (sheetIn (now (s .entry))) (framesOf (now (s .entry)) (table (now (work .entry))) frames) c)) ⌝ }
 {
     let kind = kind_at(work, node);
@@ -160,7 +160,7 @@ fn junction(
     node: usize,
     left: usize,
 ) -> Outcome
-    requires { ⌜ Working (now s) (now work) roots frames × (2 * frames .depth + left ≤ 64) × HasKind (now s) (table (now work)) node 5 × Known (ConditionsGive (now s) (table (now work)) (node + 1) (afterAt (table (now work)) node)) × (depth (tree (now s) (table (now work)) node) ≤ left) ⌝ }
+    requires { ⌜ Ready (now s) (now work) roots frames × (2 * frames .depth + left ≤ 64) × HasKind (now s) (table (now work)) node 5 × Known (ConditionsGive (now s) (table (now work)) (node + 1) (afterAt (table (now work)) node)) × (depth (tree (now s) (table (now work)) node) ≤ left) ⌝ }
     ensures { λ r. ⌜ ((cs : Conditions) → ConditionsGive (now (s .entry)) (table (now (work .entry))) (node + 1) (afterAt (table (now (work .entry))) node) cs → EvaluatedAs (now (s .entry)) (now (work .entry)) (now (work .exit)) r (judgeAll (sheetIn (now (s .entry))) (framesOf (now (s .entry)) (table (now (work .entry))) frames) (modeOf mode) cs)) ⌝ }
 {
     let end = after_at(work, node);
@@ -193,7 +193,7 @@ fn quantify(
     node: usize,
     left: usize,
 ) -> Outcome
-    requires { ⌜ Working (now s) (now work) roots frames × (2 * frames .depth + left + 1 ≤ 64) × Known (QuantifierAt (now s) (table (now work)) (modeOf mode) node) × (depth (tree (now s) (table (now work)) node) ≤ left) ⌝ }
+    requires { ⌜ Ready (now s) (now work) roots frames × (2 * frames .depth + left + 1 ≤ 64) × Known (QuantifierAt (now s) (table (now work)) (modeOf mode) node) × (depth (tree (now s) (table (now work)) node) ≤ left) ⌝ }
     ensures { λ r. ⌜ ((c : Condition) → QuantifierAt (now (s .entry)) (table (now (work .entry))) (modeOf mode) node c → EvaluatedAs (now (s .entry)) (now (work .entry)) (now (work .exit)) r (judge (sheetIn (now (s .entry))) (framesOf (now (s .entry)) (table (now (work .entry))) frames) c)) ⌝ }
 {
     let q = quantifier_at(s, work, node);
@@ -219,7 +219,7 @@ fn each(
     body: usize,
     left: usize,
 ) -> Outcome
-    requires { ⌜ Working (now s) (now work) roots frames × (2 * frames .depth + 2 + left ≤ 64) × OperandAt (now s) (table (now work)) o × OnText (now s) name 0 × Known (Gives condition (now s) (table (now work)) body) × (depth (tree (now s) (table (now work)) body) ≤ left) ⌝ }
+    requires { ⌜ Ready (now s) (now work) roots frames × (2 * frames .depth + 2 + left ≤ 64) × OperandAt (now s) (table (now work)) o × OnText (now s) name 0 × Known (Gives condition (now s) (table (now work)) body) × (depth (tree (now s) (table (now work)) body) ≤ left) ⌝ }
     ensures { λ r. ⌜ ((c : Condition) → Gives condition (now (s .entry)) (table (now (work .entry))) body c → EvaluatedAs (now (s .entry)) (now (work .entry)) (now (work .exit)) r (eachOf (sheetIn (now (s .entry))) (framesOf (now (s .entry)) (table (now (work .entry))) frames) (modeOf mode) (textAt (now (s .entry)) name) c (operandOf (now (s .entry)) (table (now (work .entry))) o))) ⌝ }
 {
     let kind = o.kind;

@@ -14,7 +14,7 @@ use Rattle.reader.specs.Bytes.{Bytes}
 use Rattle.reader.specs.Links.{Linked, linkAt}
 use Rattle.reader.specs.Spans.{textAt}
 use Rattle.reader.specs.Table.{startAt}
-use Rattle.operands.specs.Marks.{Left, Marked, Working, heard, missed}
+use Rattle.operands.specs.Marks.{Left, Marked, heard, missed}
 use Rattle.operands.proofs.Words.{table-set}
 use Rattle.semantics.specs.Names.{Named, Names}
 use Rattle.operands.specs.Ready.{Ready}
@@ -120,6 +120,3 @@ ready-after {s} {roots = roots} {f = f} r l = record {
   linked = subst (λ (t : List ℕ). Linked s t) (sym (l .rows)) (r .linked);
   bound = subst (λ (t : List ℕ). FramesAt s t f) (sym (l .rows)) (r .bound);
 }
-
-pub working-after : {s : Bytes} {w w′ : List ℕ} {roots : Roots} {f : Frames} {ns : Names} → Working s w roots f → Left s w w′ ns → Working s w′ roots f
-working-after r l = record { ready = ready-after (r .ready) l; long = omega (arith, r .long, l .long) }

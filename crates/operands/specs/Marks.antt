@@ -4,7 +4,7 @@ use mathlib.Core.Bool.{Bool, false, true}
 use mathlib.Core.List.{List}
 use mathlib.Core.Logic.{_⊎_}
 use mathlib.Core.Path.{_≡_}
-use Prim.Native.Nat.{ℕ, _%_, _*_, _+_, _<_, _≤_}
+use Prim.Native.Nat.{ℕ, _%_, _*_, _+_, _<_}
 use lib.ListN.{drop, getD, length, set}
 use Rattle.reader.specs.Bytes.{Bytes}
 use Rattle.reader.specs.Links.{linkAt}
@@ -14,16 +14,13 @@ use Rattle.reader.specs.Table.{startAt}
 use Rattle.operands.specs.Lazy as lazy
 use Rattle.semantics.specs.Names.{Named, Names, noNames}
 use Rattle.semantics.specs.Operand as operands
-use Rattle.operands.specs.Ready.{Ready}
 use Rattle.operands.specs.Stored.{HasKind, OperandAt, operandOf, table}
-use Rattle.operands.specs.declared.frames.Frames.{Frames}
 use Rattle.operands.specs.declared.operand.Kind.the-variants as kinds
 use Rattle.operands.specs.declared.operand.Operand.{Operand}
 use Rattle.operands.specs.declared.resolve.Part.{Part}
 use Rattle.operands.specs.declared.resolve.Part.the-variants as part
 use Rattle.operands.specs.declared.resolve.Resolved.{Resolved}
 use Rattle.operands.specs.declared.resolve.Resolved.the-variants as resolved
-use Rattle.operands.specs.declared.roots.Roots.{Roots}
 
 -- the marks stand behind the rows
 abbrev pub marks : ℕ
@@ -31,11 +28,6 @@ marks = 12288
 
 abbrev pub words : ℕ
 words = 16384
-
--- ready, with room for the marks
-pub record Working (s : Bytes) (w : List ℕ) (roots : Roots) (frames : Frames) : Type 0 where
-  pub ready : Ready s w roots frames
-  pub long : words ≤ length w
 
 -- a text that is marked
 pub record Marked (s : Bytes) (w : List ℕ) (x : Bytes) : Type 0 where

@@ -16,7 +16,8 @@ ghost use Rattle.reader.specs.Limits.{depth};
 ghost use Rattle.reader.specs.Links.{linkAt};
 ghost use Rattle.operands.specs.Lazy.{operand};
 ghost use Rattle.operands.specs.Matched.{Holds};
-ghost use Rattle.operands.specs.Marks.{Observed, ResolvedAs, Working, gatheredOf, missed, seenOf};
+ghost use Rattle.operands.specs.Marks.{Observed, ResolvedAs, gatheredOf, missed, seenOf};
+ghost use Rattle.operands.specs.Ready.{Ready};
 ghost use Rattle.operands.specs.Rooted.{sheetIn};
 ghost use Rattle.operands.specs.Stored.{HasKind, framesOf, table, tree};
 ghost use Rattle.operands.specs.declared.resolve.Resolved.the-variants.{Missing};
@@ -74,7 +75,7 @@ pub fn resolve_text(
     node: usize,
     quiet: bool,
 ) -> Resolved
-    requires { ⌜ Working (now s) (now work) roots frames × HasKind (now s) (table (now work)) node 4 ⌝ }
+    requires { ⌜ Ready (now s) (now work) roots frames × HasKind (now s) (table (now work)) node 4 ⌝ }
     ensures { λ r. ⌜ ResolvedAs quiet (now (s .entry)) (now (work .entry)) (now (work .exit)) r (operand (sheetIn (now (s .entry))) (framesOf (now (s .entry)) (table (now (work .entry))) frames) (tree (now (s .entry)) (table (now (work .entry))) node)) ⌝ }
 {
     let start = crate::rows::start_at(work, node);
@@ -150,7 +151,7 @@ pub fn resolve(
     quiet: bool,
     left: usize,
 ) -> Resolved
-    requires { ⌜ Working (now s) (now work) roots frames × HasNode (now s) (table (now work)) node × (depth (tree (now s) (table (now work)) node) ≤ left) ⌝ }
+    requires { ⌜ Ready (now s) (now work) roots frames × HasNode (now s) (table (now work)) node × (depth (tree (now s) (table (now work)) node) ≤ left) ⌝ }
     ensures { λ r. ⌜ ResolvedAs quiet (now (s .entry)) (now (work .entry)) (now (work .exit)) r (operand (sheetIn (now (s .entry))) (framesOf (now (s .entry)) (table (now (work .entry))) frames) (tree (now (s .entry)) (table (now (work .entry))) node)) ⌝ }
 {
     let code = crate::rows::kind_at(work, node);
@@ -181,7 +182,7 @@ fn resolve_parts(
     quiet: bool,
     left: usize,
 ) -> Resolved
-    requires { ⌜ Working (now s) (now work) roots frames × Holds (now s) (table (now work)) named node × (depth (tree (now s) (table (now work)) node) ≤ left) ⌝ }
+    requires { ⌜ Ready (now s) (now work) roots frames × Holds (now s) (table (now work)) named node × (depth (tree (now s) (table (now work)) node) ≤ left) ⌝ }
     ensures { λ r. ⌜ ResolvedAs quiet (now (s .entry)) (now (work .entry)) (now (work .exit)) r (operand (sheetIn (now (s .entry))) (framesOf (now (s .entry)) (table (now (work .entry))) frames) (tree (now (s .entry)) (table (now (work .entry))) node)) ⌝ }
 {
     let mut whole = true;

@@ -8,7 +8,7 @@ use Rattle.operands.specs.Rooted.{sheetIn}
 use Rattle.operands.specs.Stored.{framesOf, table, tree}
 use Rattle.sheet.specs.Answers.{formOf}
 use Rattle.evaluation.proofs.Judging.{both-missing, both-present, is-present, left-missing, left-then-no-id, left-then-unknown, no-id-first, pair-refused, right-missing, right-no-id, right-unknown, unknown-first}
-use Rattle.operands.proofs.Marking.{ready-after, working-after}
+use Rattle.operands.proofs.Marking.{ready-after}
 
 resolve-requires : tie.Need-resolve-requires
 resolve-requires c κs = (c .before .before .before .pre .0, c .before .before .before .pre .1, c .before .before .before .pre .3)
@@ -23,13 +23,13 @@ enum-known-a : tie.Need-enum-known-a
 enum-known-a c = search needs
 
 resolve-requires-2 : tie.Need-resolve-requires-2
-resolve-requires-2 c κs = (working-after (c .before .before .before .before .before .before .before .before .before .before .pre .0) (c .before .before .before .before .before .before .resolve .ensures .left), rw (c .before .before .before .before .before .before .resolve .ensures .left .rows) (c .before .before .before .before .before .before .before .before .before .before .pre .2), rw (c .before .before .before .before .before .before .resolve .ensures .left .rows) (c .before .before .before .before .before .before .before .before .before .before .pre .4))
+resolve-requires-2 c κs = (ready-after (c .before .before .before .before .before .before .before .before .before .before .pre .0) (c .before .before .before .before .before .before .resolve .ensures .left), rw (c .before .before .before .before .before .before .resolve .ensures .left .rows) (c .before .before .before .before .before .before .before .before .before .before .pre .2), rw (c .before .before .before .before .before .before .resolve .ensures .left .rows) (c .before .before .before .before .before .before .before .before .before .before .pre .4))
 
 enum-known-b : tie.Need-enum-known-b
 enum-known-b c = search needs
 
 judged-requires : tie.Need-judged-requires
-judged-requires c κs = (ready-after (working-after (c .before .before .before .before .before .before .before .before .before .before .before .before .before .before .before .before .before .pre .0) (c .before .before .before .before .before .before .before .before .before .before .before .before .before .resolve .ensures .left) .ready) (c .before .before .before .before .before .before .resolve2 .ensures .left), rw (c .before .before .before .before .before .before .resolve2 .ensures .left .rows ∙ c .before .before .before .before .before .before .before .before .before .before .before .before .before .resolve .ensures .left .rows) (is-present (c .before .before .before .before .before .before .before .before .before .before .before .before .before .resolve .ensures) _ (c .before .before .before .before .before .before .before .before .before .a .given .1) .1), rw (c .before .before .before .before .before .before .resolve2 .ensures .left .rows) (is-present (c .before .before .before .before .before .before .resolve2 .ensures) _ (c .before .before .b .given .1) .1))
+judged-requires c κs = (ready-after (ready-after (c .before .before .before .before .before .before .before .before .before .before .before .before .before .before .before .before .before .pre .0) (c .before .before .before .before .before .before .before .before .before .before .before .before .before .resolve .ensures .left)) (c .before .before .before .before .before .before .resolve2 .ensures .left), rw (c .before .before .before .before .before .before .resolve2 .ensures .left .rows ∙ c .before .before .before .before .before .before .before .before .before .before .before .before .before .resolve .ensures .left .rows) (is-present (c .before .before .before .before .before .before .before .before .before .before .before .before .before .resolve .ensures) _ (c .before .before .before .before .before .before .before .before .before .a .given .1) .1), rw (c .before .before .before .before .before .before .resolve2 .ensures .left .rows) (is-present (c .before .before .before .before .before .before .resolve2 .ensures) _ (c .before .before .b .given .1) .1))
 
 enum-told-2 : tie.Need-enum-told-2
 enum-told-2 c = search needs
@@ -44,7 +44,7 @@ enum-told-4 : tie.Need-enum-told-4
 enum-told-4 c = search needs
 
 resolve-requires-3 : tie.Need-resolve-requires-3
-resolve-requires-3 c κs = (working-after (c .before .before .before .before .before .before .before .before .before .pre .0) (c .before .before .before .before .before .resolve .ensures .left), rw (c .before .before .before .before .before .resolve .ensures .left .rows) (c .before .before .before .before .before .before .before .before .before .pre .2), rw (c .before .before .before .before .before .resolve .ensures .left .rows) (c .before .before .before .before .before .before .before .before .before .pre .4))
+resolve-requires-3 c κs = (ready-after (c .before .before .before .before .before .before .before .before .before .pre .0) (c .before .before .before .before .before .resolve .ensures .left), rw (c .before .before .before .before .before .resolve .ensures .left .rows) (c .before .before .before .before .before .before .before .before .before .pre .2), rw (c .before .before .before .before .before .resolve .ensures .left .rows) (c .before .before .before .before .before .before .before .before .before .pre .4))
 
 enum-known--b : tie.Need-enum-known--b
 enum-known--b c = search needs

@@ -41,7 +41,7 @@ use lib.Dec.{eqb}
 use Rattle.sheet.proofs.GivenConditions.{given-carried, given-known}
 use Rattle.sheet.specs.Answers.{modeOf}
 use Rattle.operands.proofs.Alike.{begin-room}
-use Rattle.operands.proofs.Marking.{working-after}
+use Rattle.operands.proofs.Marking.{ready-after}
 use Rattle.operands.proofs.Slices.{node-room}
 use Rattle.operands.proofs.Trees.{text-row}
 use Rattle.operands.specs.Rooted.{sheetIn}
@@ -113,13 +113,13 @@ each-start-requires : (t : ℕ) → each-lts.Need-start-requires (each-claims t)
 each-start-requires t c κs = search needs
 
 each-of-requires : (t : ℕ) → each-lts.Need-of-requires (each-claims t) (each-at t) each.Post each-Inv-loop each-μ-loop
-each-of-requires t c κs = begin-room (c .before .before .before .before .before .before .args .s .now) (c .before .before .before .before .before .before .args .work .now) (eqb (c .before .before .before .class-of .result) 6) (c .before .before .before .before .before .before .pre .1 .0 .ready .rows) (each-holds (c .before .before .before .before .before .before .args .s .now) (table (c .before .before .before .before .before .before .args .work .now)) (c .before .before .before .before .before .before .args .o) (c .before .before .before .class-of .ensures) (c .before .before .if1 .left) (c .before .before .before .before .before .before .pre .1 .2))
+each-of-requires t c κs = begin-room (c .before .before .before .before .before .before .args .s .now) (c .before .before .before .before .before .before .args .work .now) (eqb (c .before .before .before .class-of .result) 6) (c .before .before .before .before .before .before .pre .1 .0 .rows) (each-holds (c .before .before .before .before .before .before .args .s .now) (table (c .before .before .before .before .before .before .args .work .now)) (c .before .before .before .before .before .before .args .o) (c .before .before .before .class-of .ensures) (c .before .before .if1 .left) (c .before .before .before .before .before .before .pre .1 .2))
 
 each-loop-holds : (t : ℕ) → each-lts.Need-loop-holds (each-claims t) (each-at t) each.Post each-Inv-loop each-μ-loop
-each-loop-holds t c = turn-begin (c .before .before .before .before .before .before .before .args .s .now) (c .before .before .before .before .before .before .before .args .work .now) (sheetIn (c .before .before .before .before .before .before .before .args .s .now)) (c .before .before .before .before .before .before .before .args .frames) (modeOf (c .before .before .before .before .before .before .before .args .mode)) (c .before .before .before .before .before .before .before .args .name) (c .before .before .before .before .before .before .before .args .body) (c .before .before .before .before .before .before .before .args .o) (c .before .before .before .before .class-of .ensures) (c .before .before .before .if1 .left) (c .before .before .before .before .before .before .before .pre .1 .2) (c .before .before .before .before .before .before .before .pre .1 .0 .ready .linked) (c .before .before .before .before .before .before .before .pre .1 .4) (c .before .before .start .ensures) (c .of .ensures)
+each-loop-holds t c = turn-begin (c .before .before .before .before .before .before .before .args .s .now) (c .before .before .before .before .before .before .before .args .work .now) (sheetIn (c .before .before .before .before .before .before .before .args .s .now)) (c .before .before .before .before .before .before .before .args .frames) (modeOf (c .before .before .before .before .before .before .before .args .mode)) (c .before .before .before .before .before .before .before .args .name) (c .before .before .before .before .before .before .before .args .body) (c .before .before .before .before .before .before .before .args .o) (c .before .before .before .before .class-of .ensures) (c .before .before .before .if1 .left) (c .before .before .before .before .before .before .before .pre .1 .2) (c .before .before .before .before .before .before .before .pre .1 .0 .linked) (c .before .before .before .before .before .before .before .pre .1 .4) (c .before .before .start .ensures) (c .of .ensures)
 
 each-next-requires : (t : ℕ) → each-lts.Need-next-requires (each-claims t) (each-at t) each.Post each-Inv-loop each-μ-loop
-each-next-requires t c κs = (record { rows = working-after (c .before .before .before .before .before .before .before .before .before .pre .1 .0) (c .before .loop .inv .left) .ready .rows; node = omega arith }, c .before .loop .inv .walk .within)
+each-next-requires t c κs = (record { rows = ready-after (c .before .before .before .before .before .before .before .before .before .pre .1 .0) (c .before .loop .inv .left) .rows; node = omega arith }, c .before .loop .inv .walk .within)
 
 each-enum-told : (t : ℕ) → each-lts.Need-enum-told (each-claims t) (each-at t) each.Post each-Inv-loop each-μ-loop
 each-enum-told t c = search needs
@@ -137,13 +137,13 @@ each-value-node-requires : (t : ℕ) → each-lts.Need-value-node-requires (each
 each-value-node-requires t c κs = turn-below (c .before .before .before .before .before .loop .inv) (turn-given (c .before .before .before .before .before .loop .inv) (c .before .before .before .next .ensures) (c .before .x .given .0 .0) (c .before .x .given .1))
 
 each-part-of-requires : (t : ℕ) → each-lts.Need-part-of-requires (each-claims t) (each-at t) each.Post each-Inv-loop each-μ-loop
-each-part-of-requires t c κs = (working-after (c .before .before .before .before .before .before .before .before .before .before .before .before .before .before .before .pre .1 .0) (c .before .before .before .before .before .before .before .loop .inv .left) .ready, turn-node (c .before .before .before .before .before .before .before .loop .inv) (turn-given (c .before .before .before .before .before .before .before .loop .inv) (c .before .before .before .before .before .next .ensures) (c .before .before .before .x .given .0 .0) (c .before .before .before .x .given .1)) (c .before .value-node .ensures))
+each-part-of-requires t c κs = (ready-after (c .before .before .before .before .before .before .before .before .before .before .before .before .before .before .before .pre .1 .0) (c .before .before .before .before .before .before .before .loop .inv .left), turn-node (c .before .before .before .before .before .before .before .loop .inv) (turn-given (c .before .before .before .before .before .before .before .loop .inv) (c .before .before .before .before .before .next .ensures) (c .before .before .before .x .given .0 .0) (c .before .before .before .x .given .1)) (c .before .value-node .ensures))
 
 each-push-requires : (t : ℕ) → each-lts.Need-push-requires (each-claims t) (each-at t) each.Post each-Inv-loop each-μ-loop
 each-push-requires t c κs = omega (arith, c .before .before .before .before .before .before .before .before .before .before .before .before .before .before .before .before .pre .1 .1)
 
 each-evaluate-requires : (t : ℕ) → each-lts.Need-evaluate-requires (each-claims t) (each-at t) each.Post each-Inv-loop each-μ-loop
-each-evaluate-requires t c κs = (each-falls (c .before .before .before .before .before .before .before .before .before .before .before .before .before .before .before .before .before .before .args .left) (c .before .before .before .before .before .before .before .before .before .before .before .before .before .before .before .before .before .before .pre .0), (pushed (working-after (c .before .before .before .before .before .before .before .before .before .before .before .before .before .before .before .before .before .before .pre .1 .0) (c .before .before .before .before .before .before .before .before .before .before .loop .inv .left)) (omega (arith, c .before .before .before .before .before .before .before .before .before .before .before .before .before .before .before .before .before .before .pre .1 .1)) (c .before .before .before .before .before .before .before .before .before .before .before .before .before .before .before .before .before .before .pre .1 .3) (c .before .before .part-of .ensures .fits) (c .before .push .ensures .0) (c .before .push .ensures .1), omega (arith, c .before .before .before .before .before .before .before .before .before .before .before .before .before .before .before .before .before .before .pre .1 .1, c .before .push .ensures .0), turn-gives (c .before .before .before .before .before .before .before .before .before .before .loop .inv), rw (c .before .before .before .before .before .before .before .before .before .before .loop .inv .left .rows) (c .before .before .before .before .before .before .before .before .before .before .before .before .before .before .before .before .before .before .pre .1 .5)))
+each-evaluate-requires t c κs = (each-falls (c .before .before .before .before .before .before .before .before .before .before .before .before .before .before .before .before .before .before .args .left) (c .before .before .before .before .before .before .before .before .before .before .before .before .before .before .before .before .before .before .pre .0), (pushed (ready-after (c .before .before .before .before .before .before .before .before .before .before .before .before .before .before .before .before .before .before .pre .1 .0) (c .before .before .before .before .before .before .before .before .before .before .loop .inv .left)) (omega (arith, c .before .before .before .before .before .before .before .before .before .before .before .before .before .before .before .before .before .before .pre .1 .1)) (c .before .before .before .before .before .before .before .before .before .before .before .before .before .before .before .before .before .before .pre .1 .3) (c .before .before .part-of .ensures .fits) (c .before .push .ensures .0) (c .before .push .ensures .1), omega (arith, c .before .before .before .before .before .before .before .before .before .before .before .before .before .before .before .before .before .before .pre .1 .1, c .before .push .ensures .0), turn-gives (c .before .before .before .before .before .before .before .before .before .before .loop .inv), rw (c .before .before .before .before .before .before .before .before .before .before .loop .inv .left .rows) (c .before .before .before .before .before .before .before .before .before .before .before .before .before .before .before .before .before .before .pre .1 .5)))
 
 each-enum-known-t : (t : ℕ) → each-lts.Need-enum-known-t (each-claims t) (each-at t) each.Post each-Inv-loop each-μ-loop
 each-enum-known-t t c = search needs
@@ -185,7 +185,7 @@ each-loop-again : (t : ℕ) → each-lts.Need-loop-again (each-claims t) (each-a
 each-loop-again t c = turn-on (c .before .before .before .before .before .before .before .before .before .before .before .before .before .before .before .before .before .before .before .before .loop .inv) (turn-given (c .before .before .before .before .before .before .before .before .before .before .before .before .before .before .before .before .before .before .before .before .loop .inv) (c .before .before .before .before .before .before .before .before .before .before .before .before .before .before .before .before .before .before .next .ensures) (c .before .before .before .before .before .before .before .before .before .before .before .before .before .before .before .before .x .given .0 .0) (c .before .before .before .before .before .before .before .before .before .before .before .before .before .before .before .before .x .given .1)) (c .before .before .before .before .before .before .before .before .before .before .before .push .result) (c .before .before .before .before .before .before .before .before .before .before .before .before .before .before .value-node .ensures) (c .before .before .before .before .before .before .before .before .before .before .before .before .part-of .ensures) (c .before .before .before .before .before .before .before .before .before .before .before .push .ensures .1) (c .before .before .before .before .before .before .before .before .before .evaluate .ensures) _ (c .before .before .before .before .before .t .given .1) (c .before .before .before .join .result) (c .before .before .before .join .ensures) (c .before .before .settles .ensures) (c .before .if2 .left)
 
 evaluate-kind-at-requires : (t : ℕ) → evaluate-lts.Need-kind-at-requires (evaluate-claims t) (evaluate-at t) evaluate.Post
-evaluate-kind-at-requires t c κs = node-room (c .before .before .before .pre .1 .0 .ready) (record { left = 64; isNode = c .before .before .before .pre .1 .2 .known .node })
+evaluate-kind-at-requires t c κs = node-room (c .before .before .before .pre .1 .0) (record { left = 64; isNode = c .before .before .before .pre .1 .2 .known .node })
 
 evaluate-same-length : (t : ℕ) → evaluate-lts.Need-same-length (evaluate-claims t) (evaluate-at t) evaluate.Post
 evaluate-same-length t c = search needs
@@ -203,7 +203,7 @@ evaluate-add-start-at : (t : ℕ) → evaluate-lts.Need-add-start-at (evaluate-c
 evaluate-add-start-at t c = omega (arith, the-member (c .before .before .before .before .before .before .before .pre .1 .2 .known) (c .before .before .before .kind-at .ensures) (c .before .before .if1 .left) (c .before .if2 .left) .namePlace .1)
 
 evaluate-start-at-requires : (t : ℕ) → evaluate-lts.Need-start-at-requires (evaluate-claims t) (evaluate-at t) evaluate.Post
-evaluate-start-at-requires t c κs = record { rows = c .before .before .before .before .before .before .before .pre .1 .0 .ready .rows; node = the-member (c .before .before .before .before .before .before .before .pre .1 .2 .known) (c .before .before .before .kind-at .ensures) (c .before .before .if1 .left) (c .before .if2 .left) .namePlace .1 }
+evaluate-start-at-requires t c κs = record { rows = c .before .before .before .before .before .before .before .pre .1 .0 .rows; node = the-member (c .before .before .before .before .before .before .before .pre .1 .2 .known) (c .before .before .before .kind-at .ensures) (c .before .before .if1 .left) (c .before .if2 .left) .namePlace .1 }
 
 evaluate-add-inner : (t : ℕ) → evaluate-lts.Need-add-inner (evaluate-claims t) (evaluate-at t) evaluate.Post
 evaluate-add-inner t c = omega (arith, the-member (c .before .before .before .before .before .before .before .before .pre .1 .2 .known) (c .before .before .before .before .kind-at .ensures) (c .before .before .before .if1 .left) (c .before .before .if2 .left) .namePlace .1)
@@ -248,7 +248,7 @@ evaluate-add-after-at : (t : ℕ) → evaluate-lts.Need-add-after-at (evaluate-c
 evaluate-add-after-at t c = omega (arith, the-member (c .before .before .before .before .before .before .before .before .before .before .before .before .before .pre .1 .2 .known) (c .before .before .before .before .before .before .before .before .before .kind-at .ensures) (c .before .before .before .before .before .before .before .before .if1 .left) (c .before .before .before .before .before .before .before .if2 .left) .namePlace .1)
 
 evaluate-after-at-requires : (t : ℕ) → evaluate-lts.Need-after-at-requires (evaluate-claims t) (evaluate-at t) evaluate.Post
-evaluate-after-at-requires t c κs = node-room (c .before .before .before .before .before .before .before .before .before .before .before .before .before .pre .1 .0 .ready) (a-pair (c .before .before .before .before .before .before .before .before .before .before .before .before .before .pre .1 .2 .known) (c .before .before .before .before .before .before .before .before .before .kind-at .ensures) (c .before .before .before .before .before .before .before .before .if1 .left) (c .before .before .before .before .before .before .before .if2 .left) (c .before .before .before .before .before .start-at .ensures) (c .before .before .before .before .operator-at .ensures) _ (c .before .before .f .given .1) .0)
+evaluate-after-at-requires t c κs = node-room (c .before .before .before .before .before .before .before .before .before .before .before .before .before .pre .1 .0) (a-pair (c .before .before .before .before .before .before .before .before .before .before .before .before .before .pre .1 .2 .known) (c .before .before .before .before .before .before .before .before .before .kind-at .ensures) (c .before .before .before .before .before .before .before .before .if1 .left) (c .before .before .before .before .before .before .before .if2 .left) (c .before .before .before .before .before .start-at .ensures) (c .before .before .before .before .operator-at .ensures) _ (c .before .before .f .given .1) .0)
 
 evaluate-add-pair-at : (t : ℕ) → evaluate-lts.Need-add-pair-at (evaluate-claims t) (evaluate-at t) evaluate.Post
 evaluate-add-pair-at t c = omega (arith, the-member (c .before .before .before .before .before .before .before .before .before .before .before .before .before .before .before .pre .1 .2 .known) (c .before .before .before .before .before .before .before .before .before .before .before .kind-at .ensures) (c .before .before .before .before .before .before .before .before .before .before .if1 .left) (c .before .before .before .before .before .before .before .before .before .if2 .left) .namePlace .1)
@@ -326,13 +326,13 @@ abbrev junction-μ-loop : junction-lts.MeasureT-loop
 junction-μ-loop s work₀ roots frames mode node left end truth₀ k₀ work truth k = end - k
 
 junction-after-at-requires : (t : ℕ) → junction-lts.Need-after-at-requires (junction-claims t) (junction-at t) junction.Post junction-Inv-loop junction-μ-loop
-junction-after-at-requires t c κs = node-room (c .before .before .before .pre .1 .0 .ready) (c .before .before .before .pre .1 .2 .node)
+junction-after-at-requires t c κs = node-room (c .before .before .before .pre .1 .0) (c .before .before .before .pre .1 .2 .node)
 
 junction-start-requires : (t : ℕ) → junction-lts.Need-start-requires (junction-claims t) (junction-at t) junction.Post junction-Inv-loop junction-μ-loop
 junction-start-requires t c κs = search needs
 
 junction-add-k : (t : ℕ) → junction-lts.Need-add-k (junction-claims t) (junction-at t) junction.Post junction-Inv-loop junction-μ-loop
-junction-add-k t c = omega (arith, node-room (c .before .before .before .before .before .pre .1 .0 .ready) (c .before .before .before .before .before .pre .1 .2 .node) .node)
+junction-add-k t c = omega (arith, node-room (c .before .before .before .before .before .pre .1 .0) (c .before .before .before .before .before .pre .1 .2 .node) .node)
 
 junction-loop-holds : (t : ℕ) → junction-lts.Need-loop-holds (junction-claims t) (junction-at t) junction.Post junction-Inv-loop junction-μ-loop
 junction-loop-holds t c = collect-begin (c .before .before .before .before .before .args .s .now) (c .before .before .before .before .before .args .work .now) (sheetIn (c .before .before .before .before .before .args .s .now)) (framesOf (c .before .before .before .before .before .args .s .now) (table (c .before .before .before .before .before .args .work .now)) (c .before .before .before .before .before .args .frames)) (modeOf (c .before .before .before .before .before .args .mode)) (c .before .before .before .before .before .pre .1 .2) (c .before .before .before .before .before .pre .1 .3) (c .before .before .before .before .before .pre .1 .4) (c .before .after-at .ensures) (c .start .ensures)
@@ -341,7 +341,7 @@ junction-sub-evaluate : (t : ℕ) → junction-lts.Need-sub-evaluate (junction-c
 junction-sub-evaluate t c = collect-one (c .before .before .before .before .before .before .before .before .pre .1 .2) (c .before .before .before .before .before .before .before .before .pre .1 .4)
 
 junction-evaluate-requires : (t : ℕ) → junction-lts.Need-evaluate-requires (junction-claims t) (junction-at t) junction.Post junction-Inv-loop junction-μ-loop
-junction-evaluate-requires t c κs = (element-falls (c .before .before .before .before .before .before .before .before .args .left) (c .before .before .before .before .before .before .before .before .pre .0) (collect-one (c .before .before .before .before .before .before .before .before .pre .1 .2) (c .before .before .before .before .before .before .before .before .pre .1 .4)), (working-after (c .before .before .before .before .before .before .before .before .pre .1 .0) (c .before .before .loop .inv .left), omega (arith, c .before .before .before .before .before .before .before .before .pre .1 .1), rw (c .before .before .loop .inv .left .rows) (record { given = child (c .before .before .loop .inv) (c .before .loop-test .taken) .first; known = child (c .before .before .loop .inv) (c .before .loop-test .taken) .here }), rw (c .before .before .loop .inv .left .rows) (child-shallow (c .before .before .loop .inv) (c .before .loop-test .taken))))
+junction-evaluate-requires t c κs = (element-falls (c .before .before .before .before .before .before .before .before .args .left) (c .before .before .before .before .before .before .before .before .pre .0) (collect-one (c .before .before .before .before .before .before .before .before .pre .1 .2) (c .before .before .before .before .before .before .before .before .pre .1 .4)), (ready-after (c .before .before .before .before .before .before .before .before .pre .1 .0) (c .before .before .loop .inv .left), omega (arith, c .before .before .before .before .before .before .before .before .pre .1 .1), rw (c .before .before .loop .inv .left .rows) (record { given = child (c .before .before .loop .inv) (c .before .loop-test .taken) .first; known = child (c .before .before .loop .inv) (c .before .loop-test .taken) .here }), rw (c .before .before .loop .inv .left .rows) (child-shallow (c .before .before .loop .inv) (c .before .loop-test .taken))))
 
 junction-enum-known-t : (t : ℕ) → junction-lts.Need-enum-known-t (junction-claims t) (junction-at t) junction.Post junction-Inv-loop junction-μ-loop
 junction-enum-known-t t c = search needs
@@ -368,7 +368,7 @@ junction-returns-2 : (t : ℕ) → junction-lts.Need-returns-2 (junction-claims 
 junction-returns-2 t c = collect-no-id (c .before .before .before .before .before .before .before .loop .inv) (c .before .before .before .before .before .before .loop-test .taken) (rw (c .before .before .before .before .before .before .before .loop .inv .left .rows) at (c .before .before .before .before .evaluate .ensures)) (c .enum-told .given .1)
 
 junction-after-at-requires-2 : (t : ℕ) → junction-lts.Need-after-at-requires-2 (junction-claims t) (junction-at t) junction.Post junction-Inv-loop junction-μ-loop
-junction-after-at-requires-2 t c κs = record { rows = omega (arith, c .before .before .before .before .before .before .before .before .before .before .before .before .before .before .before .before .pre .1 .0 .long, collect-long (c .before .before .before .before .before .before .before .before .before .before .loop .inv) (c .before .before .before .before .before .before .before .before .before .loop-test .taken) (rw (c .before .before .before .before .before .before .before .before .before .before .loop .inv .left .rows) at (c .before .before .before .before .before .before .before .evaluate .ensures))); node = child-below (c .before .before .before .before .before .before .before .before .before .before .loop .inv) (c .before .before .before .before .before .before .before .before .before .loop-test .taken) }
+junction-after-at-requires-2 t c κs = record { rows = omega (arith, c .before .before .before .before .before .before .before .before .before .before .before .before .before .before .before .before .pre .1 .0 .rows, collect-long (c .before .before .before .before .before .before .before .before .before .before .loop .inv) (c .before .before .before .before .before .before .before .before .before .loop-test .taken) (rw (c .before .before .before .before .before .before .before .before .before .before .loop .inv .left .rows) at (c .before .before .before .before .before .before .before .evaluate .ensures))); node = child-below (c .before .before .before .before .before .before .before .before .before .before .loop .inv) (c .before .before .before .before .before .before .before .before .before .loop-test .taken) }
 
 junction-loop-less : (t : ℕ) → junction-lts.Need-loop-less (junction-claims t) (junction-at t) junction.Post junction-Inv-loop junction-μ-loop
 junction-loop-less t c = collect-less (c .before .before .before .before .before .before .before .before .before .before .before .loop .inv) (c .before .before .before .before .before .before .before .before .before .before .loop-test .taken) (rw (c .before .before .before .before .before .before .before .before .before .before .before .loop .inv .left .rows) at (c .before .before .before .before .before .before .before .before .evaluate .ensures)) (c .after-at2 .ensures)
@@ -383,10 +383,10 @@ junction-returns-3 : (t : ℕ) → junction-lts.Need-returns-3 (junction-claims 
 junction-returns-3 t c = collect-end (c .before .loop .inv) (c .loop-test .left)
 
 quantify-quantifier-at-requires : (t : ℕ) → quantify-lts.Need-quantifier-at-requires (quantify-claims t) (quantify-at t) quantify.Post
-quantify-quantifier-at-requires t c κs = (node-room (c .before .before .before .pre .1 .0 .ready) (record { left = 64; isNode = c .before .before .before .pre .1 .2 .known .node }), record { given = modeOf (c .before .before .before .args .mode); known = c .before .before .before .pre .1 .2 })
+quantify-quantifier-at-requires t c κs = (node-room (c .before .before .before .pre .1 .0) (record { left = 64; isNode = c .before .before .before .pre .1 .2 .known .node }), record { given = modeOf (c .before .before .before .args .mode); known = c .before .before .before .pre .1 .2 })
 
 quantify-start-at-requires : (t : ℕ) → quantify-lts.Need-start-at-requires (quantify-claims t) (quantify-at t) quantify.Post
-quantify-start-at-requires t c κs = node-room (c .before .before .before .before .before .pre .1 .0 .ready) (c .before .quantifier-at .ensures _ _ (c .before .before .before .before .before .pre .1 .2 .known) .bind .node)
+quantify-start-at-requires t c κs = node-room (c .before .before .before .before .before .pre .1 .0) (c .before .quantifier-at .ensures _ _ (c .before .before .before .before .before .pre .1 .2 .known) .bind .node)
 
 quantify-sub-resolve : (t : ℕ) → quantify-lts.Need-sub-resolve (quantify-claims t) (quantify-at t) quantify.Post
 quantify-sub-resolve t c = let p = c .before .before .before .quantifier-at .ensures _ _ (c .before .before .before .before .before .before .before .pre .1 .2 .known) in omega (arith, p .overDepth, c .before .before .before .before .before .before .before .pre .1 .3)
@@ -404,7 +404,7 @@ quantify-each-requires : (t : ℕ) → quantify-lts.Need-each-requires (quantify
 quantify-each-requires t c κs =
     let p = c .before .before .before .before .before .before .before .before .before .before .quantifier-at .ensures _ _ (c .before .before .before .before .before .before .before .before .before .before .before .before .before .before .pre .1 .2 .known) in
     let sheet = sheetIn (c .before .before .before .before .before .before .before .before .before .before .before .before .before .before .args .s .now) in
-    (quantify-falls (c .before .before .before .before .before .before .before .before .before .before .before .before .before .before .args .left) (c .before .before .before .before .before .before .before .before .before .before .before .before .before .before .pre .0), (working-after (c .before .before .before .before .before .before .before .before .before .before .before .before .before .before .pre .1 .0) (c .before .before .before .before .before .before .resolve .ensures .left), omega (arith, p .overDepth, c .before .before .before .before .before .before .before .before .before .before .before .before .before .before .pre .1 .1, c .before .before .before .before .before .before .before .before .before .before .before .before .before .before .pre .1 .3), over-fits sheet (c .before .before .before .before .before .before .before .before .before .before .before .before .before .before .args .frames) p (c .before .before .before .before .before .before .resolve .ensures) _ (c .before .before .o .given .1), rw (c .before .before .before .before .before .before .before .before .start-at .ensures) (text-row (p .bind) .onText), body-known sheet (c .before .before .before .before .before .before .before .before .before .before .before .before .before .before .args .frames) p (c .before .before .before .before .before .before .resolve .ensures), body-shallow sheet (c .before .before .before .before .before .before .before .before .before .before .before .before .before .before .args .frames) p (c .before .before .before .before .before .before .resolve .ensures) (c .before .before .before .before .before .before .before .before .before .before .before .before .before .before .pre .1 .3)))
+    (quantify-falls (c .before .before .before .before .before .before .before .before .before .before .before .before .before .before .args .left) (c .before .before .before .before .before .before .before .before .before .before .before .before .before .before .pre .0), (ready-after (c .before .before .before .before .before .before .before .before .before .before .before .before .before .before .pre .1 .0) (c .before .before .before .before .before .before .resolve .ensures .left), omega (arith, p .overDepth, c .before .before .before .before .before .before .before .before .before .before .before .before .before .before .pre .1 .1, c .before .before .before .before .before .before .before .before .before .before .before .before .before .before .pre .1 .3), over-fits sheet (c .before .before .before .before .before .before .before .before .before .before .before .before .before .before .args .frames) p (c .before .before .before .before .before .before .resolve .ensures) _ (c .before .before .o .given .1), rw (c .before .before .before .before .before .before .before .before .start-at .ensures) (text-row (p .bind) .onText), body-known sheet (c .before .before .before .before .before .before .before .before .before .before .before .before .before .before .args .frames) p (c .before .before .before .before .before .before .resolve .ensures), body-shallow sheet (c .before .before .before .before .before .before .before .before .before .before .before .before .before .before .args .frames) p (c .before .before .before .before .before .before .resolve .ensures) (c .before .before .before .before .before .before .before .before .before .before .before .before .before .before .pre .1 .3)))
 
 quantify-enum-told : (t : ℕ) → quantify-lts.Need-enum-told (quantify-claims t) (quantify-at t) quantify.Post
 quantify-enum-told t c = search needs

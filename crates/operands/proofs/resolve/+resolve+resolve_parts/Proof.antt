@@ -27,7 +27,7 @@ use Rattle.operands.specs.Rooted.{sheetIn}
 use Rattle.operands.specs.Stored.{framesOf, table, tree}
 use Rattle.operands.proofs.Alike.{begin-room, value-there}
 use Rattle.operands.proofs.Gathering.{plain-value}
-use Rattle.operands.proofs.Marking.{working-after}
+use Rattle.operands.proofs.Marking.{ready-after}
 use Rattle.operands.proofs.Ordered.{child-end, child-given}
 use Rattle.operands.proofs.Slices.{frames-length, node-room, part-falls, parts-falls}
 use Rattle.operands.proofs.Wholes.{Gathering, gather-begin, gather-end, gather-on, gather-refused, this-child, this-shallow, whole-shallow}
@@ -62,7 +62,7 @@ abbrev resolve-claims : ℕ → resolve-lts.Claims
 resolve-claims t = (kind-at-reads.Asked, kind-at-reads.Learnt, resolve-text-reads.Asked, resolve-text-reads.Learnt, resolve-parts-below t, resolve-parts.Post, value-kind-reads.Asked, value-kind-reads.Learnt)
 
 resolve-kind-at-requires : (t : ℕ) → resolve-lts.Need-kind-at-requires (resolve-claims t) (resolve-at t) resolve.Post
-resolve-kind-at-requires t c κs = node-room (c .before .before .before .pre .1 .0 .ready) (c .before .before .before .pre .1 .1)
+resolve-kind-at-requires t c κs = node-room (c .before .before .before .pre .1 .0) (c .before .before .before .pre .1 .1)
 
 resolve-resolve-text-requires : (t : ℕ) → resolve-lts.Need-resolve-text-requires (resolve-claims t) (resolve-at t) resolve.Post
 resolve-resolve-text-requires t c κs = (c .before .before .before .before .before .before .pre .1 .0, record { node = c .before .before .before .before .before .before .pre .1 .1; kind = sym (c .before .before .kind-at .ensures) ∙ c .before .if1 .taken })
@@ -110,13 +110,13 @@ abbrev resolve-parts-μ-loop : resolve-parts-lts.MeasureT-loop
 resolve-parts-μ-loop s work₀ roots frames node named quiet left whole₀ c₀ work whole c = c .left
 
 resolve-parts-of-requires : (t : ℕ) → resolve-parts-lts.Need-of-requires (resolve-parts-claims t) (resolve-parts-at t) resolve-parts.Post resolve-parts-Inv-loop resolve-parts-μ-loop
-resolve-parts-of-requires t c κs = begin-room (c .before .before .before .args .s .now) (c .before .before .before .args .work .now) (c .before .before .before .args .named) (c .before .before .before .pre .1 .0 .ready .rows) (c .before .before .before .pre .1 .1)
+resolve-parts-of-requires t c κs = begin-room (c .before .before .before .args .s .now) (c .before .before .before .args .work .now) (c .before .before .before .args .named) (c .before .before .before .pre .1 .0 .rows) (c .before .before .before .pre .1 .1)
 
 resolve-parts-loop-holds : (t : ℕ) → resolve-parts-lts.Need-loop-holds (resolve-parts-claims t) (resolve-parts-at t) resolve-parts.Post resolve-parts-Inv-loop resolve-parts-μ-loop
-resolve-parts-loop-holds t c = gather-begin (c .before .before .before .before .args .quiet) (c .before .before .before .before .args .s .now) (c .before .before .before .before .args .work .now) (sheetIn (c .before .before .before .before .args .s .now)) (framesOf (c .before .before .before .before .args .s .now) (table (c .before .before .before .before .args .work .now)) (c .before .before .before .before .args .frames)) (c .before .before .before .before .args .node) (c .before .before .before .before .args .frames .depth) (c .before .before .before .before .args .named) (c .before .before .before .before .args .left) (c .before .before .before .before .pre .1 .1) (c .before .before .before .before .pre .1 .0 .ready .linked) (frames-length (c .before .before .before .before .pre .1 .0 .ready)) (c .before .before .before .before .pre .1 .2) (c .of .ensures)
+resolve-parts-loop-holds t c = gather-begin (c .before .before .before .before .args .quiet) (c .before .before .before .before .args .s .now) (c .before .before .before .before .args .work .now) (sheetIn (c .before .before .before .before .args .s .now)) (framesOf (c .before .before .before .before .args .s .now) (table (c .before .before .before .before .args .work .now)) (c .before .before .before .before .args .frames)) (c .before .before .before .before .args .node) (c .before .before .before .before .args .frames .depth) (c .before .before .before .before .args .named) (c .before .before .before .before .args .left) (c .before .before .before .before .pre .1 .1) (c .before .before .before .before .pre .1 .0 .linked) (frames-length (c .before .before .before .before .pre .1 .0)) (c .before .before .before .before .pre .1 .2) (c .of .ensures)
 
 resolve-parts-next-requires : (t : ℕ) → resolve-parts-lts.Need-next-requires (resolve-parts-claims t) (resolve-parts-at t) resolve-parts.Post resolve-parts-Inv-loop resolve-parts-μ-loop
-resolve-parts-next-requires t c κs = (record { rows = working-after (c .before .before .before .before .before .before .pre .1 .0) (c .before .loop .inv .left) .ready .rows; node = omega arith }, c .before .loop .inv .walk .within)
+resolve-parts-next-requires t c κs = (record { rows = ready-after (c .before .before .before .before .before .before .pre .1 .0) (c .before .loop .inv .left) .rows; node = omega arith }, c .before .loop .inv .walk .within)
 
 resolve-parts-enum-told : (t : ℕ) → resolve-parts-lts.Need-enum-told (resolve-parts-claims t) (resolve-parts-at t) resolve-parts.Post resolve-parts-Inv-loop resolve-parts-μ-loop
 resolve-parts-enum-told t c = search needs
@@ -142,7 +142,7 @@ resolve-parts-sub-resolve t c = whole-shallow (c .before .before .before .before
 resolve-parts-resolve-requires : (t : ℕ) → resolve-parts-lts.Need-resolve-requires (resolve-parts-claims t) (resolve-parts-at t) resolve-parts.Post resolve-parts-Inv-loop resolve-parts-μ-loop
 resolve-parts-resolve-requires t c κs =
     let one = whole-shallow (c .before .before .before .before .before .before .before .before .before .before .before .before .args .s .now) (table (c .before .before .before .before .before .before .before .before .before .before .before .before .args .work .now)) (c .before .before .before .before .before .before .before .before .before .before .before .before .args .named) (c .before .before .before .before .before .before .before .before .before .before .before .before .args .node) (c .before .before .before .before .before .before .before .before .before .before .before .before .args .left) (c .before .before .before .before .before .before .before .before .before .before .before .before .pre .1 .1) (c .before .before .before .before .before .before .before .before .before .before .before .before .pre .1 .2) .0 in
-    (parts-falls (c .before .before .before .before .before .before .before .before .before .before .before .before .args .left) (c .before .before .before .before .before .before .before .before .before .before .before .before .pre .0) one, (working-after (c .before .before .before .before .before .before .before .before .before .before .before .before .pre .1 .0) (c .before .before .before .before .before .before .before .loop .inv .left), rw (c .before .before .before .before .before .before .before .loop .inv .left .rows, c .before .value-node .ensures) (value-there (c .before .before .before .before .before .before .before .before .before .before .before .before .args .s .now) (table (c .before .before .before .before .before .before .before .before .before .before .before .before .args .work .now)) (c .before .before .before .before .before .before .before .before .before .before .before .before .args .named) (this-child (c .before .before .before .before .before .before .before .loop .inv) (child-given (c .before .before .before .before .before .before .before .loop .inv .walk) (rw (c .before .before .before .before .before .before .before .loop .inv .left .rows) at (c .before .before .before .before .before .next .ensures)) (c .before .before .before .x .given .0 .0) (c .before .before .before .x .given .1))) .0), rw (c .before .before .before .before .before .before .before .loop .inv .left .rows, c .before .value-node .ensures) (this-shallow (c .before .before .before .before .before .before .before .loop .inv) (child-given (c .before .before .before .before .before .before .before .loop .inv .walk) (rw (c .before .before .before .before .before .before .before .loop .inv .left .rows) at (c .before .before .before .before .before .next .ensures)) (c .before .before .before .x .given .0 .0) (c .before .before .before .x .given .1)))))
+    (parts-falls (c .before .before .before .before .before .before .before .before .before .before .before .before .args .left) (c .before .before .before .before .before .before .before .before .before .before .before .before .pre .0) one, (ready-after (c .before .before .before .before .before .before .before .before .before .before .before .before .pre .1 .0) (c .before .before .before .before .before .before .before .loop .inv .left), rw (c .before .before .before .before .before .before .before .loop .inv .left .rows, c .before .value-node .ensures) (value-there (c .before .before .before .before .before .before .before .before .before .before .before .before .args .s .now) (table (c .before .before .before .before .before .before .before .before .before .before .before .before .args .work .now)) (c .before .before .before .before .before .before .before .before .before .before .before .before .args .named) (this-child (c .before .before .before .before .before .before .before .loop .inv) (child-given (c .before .before .before .before .before .before .before .loop .inv .walk) (rw (c .before .before .before .before .before .before .before .loop .inv .left .rows) at (c .before .before .before .before .before .next .ensures)) (c .before .before .before .x .given .0 .0) (c .before .before .before .x .given .1))) .0), rw (c .before .before .before .before .before .before .before .loop .inv .left .rows, c .before .value-node .ensures) (this-shallow (c .before .before .before .before .before .before .before .loop .inv) (child-given (c .before .before .before .before .before .before .before .loop .inv .walk) (rw (c .before .before .before .before .before .before .before .loop .inv .left .rows) at (c .before .before .before .before .before .next .ensures)) (c .before .before .before .x .given .0 .0) (c .before .before .before .x .given .1)))))
 
 resolve-parts-seen-requires : (t : ℕ) → resolve-parts-lts.Need-seen-requires (resolve-parts-claims t) (resolve-parts-at t) resolve-parts.Post resolve-parts-Inv-loop resolve-parts-μ-loop
 resolve-parts-seen-requires t c κs = search needs

@@ -16,7 +16,7 @@ use Rattle.operands.proofs.Units.{was-escaped, was-expression, was-plai
 use native.Mathlib.Omega.{arith}
 
 start-at-requires : tie.Need-start-at-requires
-start-at-requires c κs = node-room (c .before .before .before .pre .0 .ready) (c .before .before .before .pre .1 .node)
+start-at-requires c κs = node-room (c .before .before .before .pre .0) (c .before .before .before .pre .1 .node)
 
 classify-requires : tie.Need-classify-requires
 classify-requires c κs = subst (λ (x : ℕ). OnText (c .before .before .before .before .args .s .now) x 0) (sym (c .start-at .ensures)) (text-row (c .before .before .before .before .pre .1) .onText)
@@ -40,19 +40,19 @@ part-look-up-end : tie.Need-part-look-up-end
 part-look-up-end c = search needs
 
 look-up-requires : tie.Need-look-up-requires
-look-up-requires c κs = (c .before .before .before .before .before .before .before .before .before .before .pre .0 .ready, path-from (c .before .before .before .before .before .before .before .before .before .before .args .s .now) (c .before .before .before .next .given .0 .0) ((was-expression (c .before .before .before .before .before .before .before .before .before .before .args .s .now) (c .before .before .before .before .before .classify .ensures) (c .before .before .before .before .before .before .start-at .ensures) _ (c .before .before .before .next .given .1)) .1 .onText) ((was-expression (c .before .before .before .before .before .before .before .before .before .before .args .s .now) (c .before .before .before .before .before .classify .ensures) (c .before .before .before .before .before .before .start-at .ensures) _ (c .before .before .before .next .given .1)) .1 .upto) (c .before .before .before .before .before .before .before .before .before .before .pre .0 .ready .short))
+look-up-requires c κs = (c .before .before .before .before .before .before .before .before .before .before .pre .0, path-from (c .before .before .before .before .before .before .before .before .before .before .args .s .now) (c .before .before .before .next .given .0 .0) ((was-expression (c .before .before .before .before .before .before .before .before .before .before .args .s .now) (c .before .before .before .before .before .classify .ensures) (c .before .before .before .before .before .before .start-at .ensures) _ (c .before .before .before .next .given .1)) .1 .onText) ((was-expression (c .before .before .before .before .before .before .before .before .before .before .args .s .now) (c .before .before .before .before .before .classify .ensures) (c .before .before .before .before .before .before .start-at .ensures) _ (c .before .before .before .next .given .1)) .1 .upto) (c .before .before .before .before .before .before .before .before .before .before .pre .0 .short))
 
 enum-known-o : tie.Need-enum-known-o
 enum-known-o c = search needs
 
 observed-requires : tie.Need-observed-requires
-observed-requires c κs = (c .before .before .before .before .before .before .before .before .before .before .before .before .before .before .before .pre .0 .long, (node-below (c .before .before .before .before .before .before .before .before .before .before .before .before .before .before .before .args .s .now) (table (c .before .before .before .before .before .before .before .before .before .before .before .before .before .before .before .args .work .now)) (c .before .before .before .before .before .before .before .before .before .before .before .before .before .before .before .pre .1 .node)))
+observed-requires c κs = (c .before .before .before .before .before .before .before .before .before .before .before .before .before .before .before .pre .0 .rows, (node-below (c .before .before .before .before .before .before .before .before .before .before .before .before .before .before .before .args .s .now) (table (c .before .before .before .before .before .before .before .before .before .before .before .before .before .before .before .args .work .now)) (c .before .before .before .before .before .before .before .before .before .before .before .before .before .before .before .pre .1 .node)))
 
 enum-told-2 : tie.Need-enum-told-2
 enum-told-2 c = search needs
 
 miss-requires : tie.Need-miss-requires
-miss-requires c κs = (c .before .before .before .before .before .before .before .before .before .before .before .before .before .before .pre .0 .long, (node-below (c .before .before .before .before .before .before .before .before .before .before .before .before .before .before .args .s .now) (table (c .before .before .before .before .before .before .before .before .before .before .before .before .before .before .args .work .now)) (c .before .before .before .before .before .before .before .before .before .before .before .before .before .before .pre .1 .node)))
+miss-requires c κs = (c .before .before .before .before .before .before .before .before .before .before .before .before .before .before .pre .0 .rows, (node-below (c .before .before .before .before .before .before .before .before .before .before .before .before .before .before .args .s .now) (table (c .before .before .before .before .before .before .before .before .before .before .before .before .before .before .args .work .now)) (c .before .before .before .before .before .before .before .before .before .before .before .before .before .before .pre .1 .node)))
 
 enum-told-3 : tie.Need-enum-told-3
 enum-told-3 c = search needs
@@ -76,25 +76,25 @@ same-length-3 : tie.Need-same-length-3
 same-length-3 c = c .before .before .observed .kept .0
 
 returns-3 : tie.Need-returns-3
-returns-3 c = text-found (c .before .before .before .before .before .before .before .before .before .before .before .before .before .before .before .before .before .before .args .quiet) (sheetIn (c .before .before .before .before .before .before .before .before .before .before .before .before .before .before .before .before .before .before .args .s .now)) (framesOf (c .before .before .before .before .before .before .before .before .before .before .before .before .before .before .before .before .before .before .args .s .now) (table (c .before .before .before .before .before .before .before .before .before .before .before .before .before .before .before .before .before .before .args .work .now)) (c .before .before .before .before .before .before .before .before .before .before .before .before .before .before .before .before .before .before .args .frames)) (c .before .before .before .before .before .before .before .before .before .before .before .before .before .before .before .before .before .before .args .s .now) (c .before .before .before .before .before .before .before .before .before .before .before .before .before .before .before .before .before .before .args .work .now) (c .before .before .before .before .before .before .before .before .before .before .before .before .before .before .before .before .before .before .args .node) (c .before .before .before .before .before .before .before .before .before .before .before .before .before .before .before .before .before .before .pre .1) ((was-expression (c .before .before .before .before .before .before .before .before .before .before .before .before .before .before .before .before .before .before .args .s .now) (c .before .before .before .before .before .before .before .before .before .before .before .before .before .classify .ensures) (c .before .before .before .before .before .before .before .before .before .before .before .before .before .before .start-at .ensures) _ (c .before .before .before .before .before .before .before .before .before .before .before .next .given .1)) .0) ((was-expression (c .before .before .before .before .before .before .before .before .before .before .before .before .before .before .before .before .before .before .args .s .now) (c .before .before .before .before .before .before .before .before .before .before .before .before .before .classify .ensures) (c .before .before .before .before .before .before .before .before .before .before .before .before .before .before .start-at .ensures) _ (c .before .before .before .before .before .before .before .before .before .before .before .next .given .1)) .1 .dollar) (frames-length (c .before .before .before .before .before .before .before .before .before .before .before .before .before .before .before .before .before .before .pre .0 .ready)) (rw text-from at (c .before .before .before .before .before .before .before .look-up .ensures)) _ (c .before .before .before .before .before .before .before .before .before .before .before .before .before .before .before .before .before .before .pre .0 .long) (node-below (c .before .before .before .before .before .before .before .before .before .before .before .before .before .before .before .before .before .before .args .s .now) (table (c .before .before .before .before .before .before .before .before .before .before .before .before .before .before .before .before .before .before .args .work .now)) (c .before .before .before .before .before .before .before .before .before .before .before .before .before .before .before .before .before .before .pre .1 .node)) (c .before .before .before .before .before .o .given .1) (c .before .before .observed .ensures)
+returns-3 c = text-found (c .before .before .before .before .before .before .before .before .before .before .before .before .before .before .before .before .before .before .args .quiet) (sheetIn (c .before .before .before .before .before .before .before .before .before .before .before .before .before .before .before .before .before .before .args .s .now)) (framesOf (c .before .before .before .before .before .before .before .before .before .before .before .before .before .before .before .before .before .before .args .s .now) (table (c .before .before .before .before .before .before .before .before .before .before .before .before .before .before .before .before .before .before .args .work .now)) (c .before .before .before .before .before .before .before .before .before .before .before .before .before .before .before .before .before .before .args .frames)) (c .before .before .before .before .before .before .before .before .before .before .before .before .before .before .before .before .before .before .args .s .now) (c .before .before .before .before .before .before .before .before .before .before .before .before .before .before .before .before .before .before .args .work .now) (c .before .before .before .before .before .before .before .before .before .before .before .before .before .before .before .before .before .before .args .node) (c .before .before .before .before .before .before .before .before .before .before .before .before .before .before .before .before .before .before .pre .1) ((was-expression (c .before .before .before .before .before .before .before .before .before .before .before .before .before .before .before .before .before .before .args .s .now) (c .before .before .before .before .before .before .before .before .before .before .before .before .before .classify .ensures) (c .before .before .before .before .before .before .before .before .before .before .before .before .before .before .start-at .ensures) _ (c .before .before .before .before .before .before .before .before .before .before .before .next .given .1)) .0) ((was-expression (c .before .before .before .before .before .before .before .before .before .before .before .before .before .before .before .before .before .before .args .s .now) (c .before .before .before .before .before .before .before .before .before .before .before .before .before .classify .ensures) (c .before .before .before .before .before .before .before .before .before .before .before .before .before .before .start-at .ensures) _ (c .before .before .before .before .before .before .before .before .before .before .before .next .given .1)) .1 .dollar) (frames-length (c .before .before .before .before .before .before .before .before .before .before .before .before .before .before .before .before .before .before .pre .0)) (rw text-from at (c .before .before .before .before .before .before .before .look-up .ensures)) _ (c .before .before .before .before .before .before .before .before .before .before .before .before .before .before .before .before .before .before .pre .0 .rows) (node-below (c .before .before .before .before .before .before .before .before .before .before .before .before .before .before .before .before .before .before .args .s .now) (table (c .before .before .before .before .before .before .before .before .before .before .before .before .before .before .before .before .before .before .args .work .now)) (c .before .before .before .before .before .before .before .before .before .before .before .before .before .before .before .before .before .before .pre .1 .node)) (c .before .before .before .before .before .o .given .1) (c .before .before .observed .ensures)
 
 same-length-4 : tie.Need-same-length-4
 same-length-4 c = c .before .before .miss .kept .0
 
 returns-4 : tie.Need-returns-4
-returns-4 c = text-nothing (c .before .before .before .before .before .before .before .before .before .before .before .before .before .before .before .before .before .args .quiet) (sheetIn (c .before .before .before .before .before .before .before .before .before .before .before .before .before .before .before .before .before .args .s .now)) (framesOf (c .before .before .before .before .before .before .before .before .before .before .before .before .before .before .before .before .before .args .s .now) (table (c .before .before .before .before .before .before .before .before .before .before .before .before .before .before .before .before .before .args .work .now)) (c .before .before .before .before .before .before .before .before .before .before .before .before .before .before .before .before .before .args .frames)) (c .before .before .before .before .before .before .before .before .before .before .before .before .before .before .before .before .before .args .s .now) (c .before .before .before .before .before .before .before .before .before .before .before .before .before .before .before .before .before .args .work .now) (c .before .before .before .before .before .before .before .before .before .before .before .before .before .before .before .before .before .args .node) (c .before .before .before .before .before .before .before .before .before .before .before .before .before .before .before .before .before .pre .1) ((was-expression (c .before .before .before .before .before .before .before .before .before .before .before .before .before .before .before .before .before .args .s .now) (c .before .before .before .before .before .before .before .before .before .before .before .before .classify .ensures) (c .before .before .before .before .before .before .before .before .before .before .before .before .before .start-at .ensures) _ (c .before .before .before .before .before .before .before .before .before .before .next .given .1)) .0) ((was-expression (c .before .before .before .before .before .before .before .before .before .before .before .before .before .before .before .before .before .args .s .now) (c .before .before .before .before .before .before .before .before .before .before .before .before .classify .ensures) (c .before .before .before .before .before .before .before .before .before .before .before .before .before .start-at .ensures) _ (c .before .before .before .before .before .before .before .before .before .before .next .given .1)) .1 .dollar) (frames-length (c .before .before .before .before .before .before .before .before .before .before .before .before .before .before .before .before .before .pre .0 .ready)) (rw text-from at (c .before .before .before .before .before .before .look-up .ensures)) (c .before .before .before .before .before .before .before .before .before .before .before .before .before .before .before .before .before .pre .0 .long) (node-below (c .before .before .before .before .before .before .before .before .before .before .before .before .before .before .before .before .before .args .s .now) (table (c .before .before .before .before .before .before .before .before .before .before .before .before .before .before .before .before .before .args .work .now)) (c .before .before .before .before .before .before .before .before .before .before .before .before .before .before .before .before .before .pre .1 .node)) (c .before .before .before .before .enum-told2 .given .1) (c .before .before .miss .ensures .0) (c .before .before .miss .ensures .1)
+returns-4 c = text-nothing (c .before .before .before .before .before .before .before .before .before .before .before .before .before .before .before .before .before .args .quiet) (sheetIn (c .before .before .before .before .before .before .before .before .before .before .before .before .before .before .before .before .before .args .s .now)) (framesOf (c .before .before .before .before .before .before .before .before .before .before .before .before .before .before .before .before .before .args .s .now) (table (c .before .before .before .before .before .before .before .before .before .before .before .before .before .before .before .before .before .args .work .now)) (c .before .before .before .before .before .before .before .before .before .before .before .before .before .before .before .before .before .args .frames)) (c .before .before .before .before .before .before .before .before .before .before .before .before .before .before .before .before .before .args .s .now) (c .before .before .before .before .before .before .before .before .before .before .before .before .before .before .before .before .before .args .work .now) (c .before .before .before .before .before .before .before .before .before .before .before .before .before .before .before .before .before .args .node) (c .before .before .before .before .before .before .before .before .before .before .before .before .before .before .before .before .before .pre .1) ((was-expression (c .before .before .before .before .before .before .before .before .before .before .before .before .before .before .before .before .before .args .s .now) (c .before .before .before .before .before .before .before .before .before .before .before .before .classify .ensures) (c .before .before .before .before .before .before .before .before .before .before .before .before .before .start-at .ensures) _ (c .before .before .before .before .before .before .before .before .before .before .next .given .1)) .0) ((was-expression (c .before .before .before .before .before .before .before .before .before .before .before .before .before .before .before .before .before .args .s .now) (c .before .before .before .before .before .before .before .before .before .before .before .before .classify .ensures) (c .before .before .before .before .before .before .before .before .before .before .before .before .before .start-at .ensures) _ (c .before .before .before .before .before .before .before .before .before .before .next .given .1)) .1 .dollar) (frames-length (c .before .before .before .before .before .before .before .before .before .before .before .before .before .before .before .before .before .pre .0)) (rw text-from at (c .before .before .before .before .before .before .look-up .ensures)) (c .before .before .before .before .before .before .before .before .before .before .before .before .before .before .before .before .before .pre .0 .rows) (node-below (c .before .before .before .before .before .before .before .before .before .before .before .before .before .before .before .before .before .args .s .now) (table (c .before .before .before .before .before .before .before .before .before .before .before .before .before .before .before .before .before .args .work .now)) (c .before .before .before .before .before .before .before .before .before .before .before .before .before .before .before .before .before .pre .1 .node)) (c .before .before .before .before .enum-told2 .given .1) (c .before .before .miss .ensures .0) (c .before .before .miss .ensures .1)
 
 same-length-5 : tie.Need-same-length-5
 same-length-5 c = search needs
 
 returns-5 : tie.Need-returns-5
-returns-5 c = text-unknown (c .before .before .before .before .before .before .before .before .before .before .before .before .before .args .quiet) (sheetIn (c .before .before .before .before .before .before .before .before .before .before .before .before .before .args .s .now)) (framesOf (c .before .before .before .before .before .before .before .before .before .before .before .before .before .args .s .now) (table (c .before .before .before .before .before .before .before .before .before .before .before .before .before .args .work .now)) (c .before .before .before .before .before .before .before .before .before .before .before .before .before .args .frames)) (c .before .before .before .before .before .before .before .before .before .before .before .before .before .args .s .now) (c .before .before .before .before .before .before .before .before .before .before .before .before .before .args .work .now) (c .before .before .before .before .before .before .before .before .before .before .before .before .before .args .node) (c .before .before .before .before .before .before .before .before .before .before .before .before .before .pre .1) ((was-expression (c .before .before .before .before .before .before .before .before .before .before .before .before .before .args .s .now) (c .before .before .before .before .before .before .before .before .classify .ensures) (c .before .before .before .before .before .before .before .before .before .start-at .ensures) _ (c .before .before .before .before .before .before .next .given .1)) .0) ((was-expression (c .before .before .before .before .before .before .before .before .before .before .before .before .before .args .s .now) (c .before .before .before .before .before .before .before .before .classify .ensures) (c .before .before .before .before .before .before .before .before .before .start-at .ensures) _ (c .before .before .before .before .before .before .next .given .1)) .1 .dollar) (frames-length (c .before .before .before .before .before .before .before .before .before .before .before .before .before .pre .0 .ready)) (rw text-from at (c .before .before .look-up .ensures)) (c .enum-told3 .given .1)
+returns-5 c = text-unknown (c .before .before .before .before .before .before .before .before .before .before .before .before .before .args .quiet) (sheetIn (c .before .before .before .before .before .before .before .before .before .before .before .before .before .args .s .now)) (framesOf (c .before .before .before .before .before .before .before .before .before .before .before .before .before .args .s .now) (table (c .before .before .before .before .before .before .before .before .before .before .before .before .before .args .work .now)) (c .before .before .before .before .before .before .before .before .before .before .before .before .before .args .frames)) (c .before .before .before .before .before .before .before .before .before .before .before .before .before .args .s .now) (c .before .before .before .before .before .before .before .before .before .before .before .before .before .args .work .now) (c .before .before .before .before .before .before .before .before .before .before .before .before .before .args .node) (c .before .before .before .before .before .before .before .before .before .before .before .before .before .pre .1) ((was-expression (c .before .before .before .before .before .before .before .before .before .before .before .before .before .args .s .now) (c .before .before .before .before .before .before .before .before .classify .ensures) (c .before .before .before .before .before .before .before .before .before .start-at .ensures) _ (c .before .before .before .before .before .before .next .given .1)) .0) ((was-expression (c .before .before .before .before .before .before .before .before .before .before .before .before .before .args .s .now) (c .before .before .before .before .before .before .before .before .classify .ensures) (c .before .before .before .before .before .before .before .before .before .start-at .ensures) _ (c .before .before .before .before .before .before .next .given .1)) .1 .dollar) (frames-length (c .before .before .before .before .before .before .before .before .before .before .before .before .before .pre .0)) (rw text-from at (c .before .before .look-up .ensures)) (c .enum-told3 .given .1)
 
 same-length-6 : tie.Need-same-length-6
 same-length-6 c = search needs
 
 returns-6 : tie.Need-returns-6
-returns-6 c = text-no-id (c .before .before .before .before .before .before .before .before .before .before .before .before .before .args .quiet) (sheetIn (c .before .before .before .before .before .before .before .before .before .before .before .before .before .args .s .now)) (framesOf (c .before .before .before .before .before .before .before .before .before .before .before .before .before .args .s .now) (table (c .before .before .before .before .before .before .before .before .before .before .before .before .before .args .work .now)) (c .before .before .before .before .before .before .before .before .before .before .before .before .before .args .frames)) (c .before .before .before .before .before .before .before .before .before .before .before .before .before .args .s .now) (c .before .before .before .before .before .before .before .before .before .before .before .before .before .args .work .now) (c .before .before .before .before .before .before .before .before .before .before .before .before .before .args .node) (c .before .before .before .before .before .before .before .before .before .before .before .before .before .pre .1) ((was-expression (c .before .before .before .before .before .before .before .before .before .before .before .before .before .args .s .now) (c .before .before .before .before .before .before .before .before .classify .ensures) (c .before .before .before .before .before .before .before .before .before .start-at .ensures) _ (c .before .before .before .before .before .before .next .given .1)) .0) ((was-expression (c .before .before .before .before .before .before .before .before .before .before .before .before .before .args .s .now) (c .before .before .before .before .before .before .before .before .classify .ensures) (c .before .before .before .before .before .before .before .before .before .start-at .ensures) _ (c .before .before .before .before .before .before .next .given .1)) .1 .dollar) (frames-length (c .before .before .before .before .before .before .before .before .before .before .before .before .before .pre .0 .ready)) (rw text-from at (c .before .before .look-up .ensures)) (c .enum-told4 .given .1)
+returns-6 c = text-no-id (c .before .before .before .before .before .before .before .before .before .before .before .before .before .args .quiet) (sheetIn (c .before .before .before .before .before .before .before .before .before .before .before .before .before .args .s .now)) (framesOf (c .before .before .before .before .before .before .before .before .before .before .before .before .before .args .s .now) (table (c .before .before .before .before .before .before .before .before .before .before .before .before .before .args .work .now)) (c .before .before .before .before .before .before .before .before .before .before .before .before .before .args .frames)) (c .before .before .before .before .before .before .before .before .before .before .before .before .before .args .s .now) (c .before .before .before .before .before .before .before .before .before .before .before .before .before .args .work .now) (c .before .before .before .before .before .before .before .before .before .before .before .before .before .args .node) (c .before .before .before .before .before .before .before .before .before .before .before .before .before .pre .1) ((was-expression (c .before .before .before .before .before .before .before .before .before .before .before .before .before .args .s .now) (c .before .before .before .before .before .before .before .before .classify .ensures) (c .before .before .before .before .before .before .before .before .before .start-at .ensures) _ (c .before .before .before .before .before .before .next .given .1)) .0) ((was-expression (c .before .before .before .before .before .before .before .before .before .before .before .before .before .args .s .now) (c .before .before .before .before .before .before .before .before .classify .ensures) (c .before .before .before .before .before .before .before .before .before .start-at .ensures) _ (c .before .before .before .before .before .before .next .given .1)) .1 .dollar) (frames-length (c .before .before .before .before .before .before .before .before .before .before .before .before .before .pre .0)) (rw text-from at (c .before .before .look-up .ensures)) (c .enum-told4 .given .1)
 
 pub resolve-text-spec : {M : Type 1} → statement M
 resolve-text-spec =
