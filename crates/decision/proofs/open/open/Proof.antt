@@ -1,11 +1,11 @@
--- `decision::open::open` meets its contract: by what reading says, then by the shape.
+-- `decision::open::open` meets its contract: by what reading says, then by the shape of the linked table.
 -- Assumes nothing.
 use mathlib.Core.Path.{refl}
 use Rattle.line.specs.Line.{refusalLine, refusalNumber}
 use Rattle.reader.specs.Refusal.{notCarried, wrongShape, wrongSheet}
 use Rattle.sheet.specs.Accepted.{Shaped}
 use Rattle.sheet.specs.declared.shape.Shape.the-variants as shapes
-use Rattle.decision.proofs.Opening.{opened-sheet, stopped-reading, stopped-shape, stored}
+use Rattle.decision.proofs.Opening.{opened-sheet, stopped-reading, stopped-shape, stored, unordered}
 use borrow.Author.Needs.{needs}
 use Rattle.decision.proofs.open.open.Statement.{statement}
 use Rattle.decision.proofs.open.open.Tie as tie
@@ -22,8 +22,11 @@ number-requires c κs = search needs
 enum-told : tie.Need-enum-told
 enum-told c = search needs
 
+order-requires : tie.Need-order-requires
+order-requires c κs = unordered (c .before .before .before .before .before .read .ensures) (c .before .enum-told .given .0 .0) (c .before .enum-told .given .1) (c .before .before .before .before .before .read .kept .1 .0)
+
 shape-of-requires : tie.Need-shape-of-requires
-shape-of-requires c κs = stored (c .before .before .before .before .before .read .ensures) (c .before .enum-told .given .0 .0) (c .before .enum-told .given .1)
+shape-of-requires c κs = stored (c .before .before .before .before .before .before .before .before .before .read .ensures) (c .before .before .before .before .before .enum-told .given .0 .0) (c .before .before .before .before .before .enum-told .given .1) (c .before .before .before .order .ensures)
 
 enum-told-2 : tie.Need-enum-told-2
 enum-told-2 c = search needs
@@ -48,27 +51,27 @@ same-length-2 c = search needs
 
 returns-2 : tie.Need-returns-2
 unfolding Shaped refusalNumber refusalLine
-returns-2 c = stopped-shape (c .before .before .before .before .before .before .before .before .read .ensures) (c .before .before .before .before .enum-told .given .0 .0) (c .before .before .before .before .enum-told .given .1) wrongSheet refl refl (c .before .before .shape-of .ensures) shapes.WrongSheet (c .enum-told2 .given .1) (λ h. h)
+returns-2 c = stopped-shape (c .before .before .before .before .before .before .before .before .before .before .before .before .read .ensures) (c .before .before .before .before .before .before .before .before .enum-told .given .0 .0) (c .before .before .before .before .before .before .before .before .enum-told .given .1) (c .before .before .before .before .before .before .order .ensures) wrongSheet refl refl (c .before .before .shape-of .ensures) shapes.WrongSheet (c .enum-told2 .given .1) (λ h. h)
 
 same-length-3 : tie.Need-same-length-3
 same-length-3 c = search needs
 
 returns-3 : tie.Need-returns-3
 unfolding Shaped refusalNumber refusalLine
-returns-3 c = stopped-shape (c .before .before .before .before .before .before .before .before .read .ensures) (c .before .before .before .before .enum-told .given .0 .0) (c .before .before .before .before .enum-told .given .1) wrongShape refl refl (c .before .before .shape-of .ensures) shapes.WrongShape (c .enum-told3 .given .1) (λ h. h)
+returns-3 c = stopped-shape (c .before .before .before .before .before .before .before .before .before .before .before .before .read .ensures) (c .before .before .before .before .before .before .before .before .enum-told .given .0 .0) (c .before .before .before .before .before .before .before .before .enum-told .given .1) (c .before .before .before .before .before .before .order .ensures) wrongShape refl refl (c .before .before .shape-of .ensures) shapes.WrongShape (c .enum-told3 .given .1) (λ h. h)
 
 same-length-4 : tie.Need-same-length-4
 same-length-4 c = search needs
 
 returns-4 : tie.Need-returns-4
 unfolding Shaped refusalNumber refusalLine
-returns-4 c = stopped-shape (c .before .before .before .before .before .before .before .before .read .ensures) (c .before .before .before .before .enum-told .given .0 .0) (c .before .before .before .before .enum-told .given .1) notCarried refl refl (c .before .before .shape-of .ensures) shapes.NotCarried (c .enum-told4 .given .1) (λ h. h)
+returns-4 c = stopped-shape (c .before .before .before .before .before .before .before .before .before .before .before .before .read .ensures) (c .before .before .before .before .before .before .before .before .enum-told .given .0 .0) (c .before .before .before .before .before .before .before .before .enum-told .given .1) (c .before .before .before .before .before .before .order .ensures) notCarried refl refl (c .before .before .shape-of .ensures) shapes.NotCarried (c .enum-told4 .given .1) (λ h. h)
 
 same-length-5 : tie.Need-same-length-5
 same-length-5 c = search needs
 
 returns-5 : tie.Need-returns-5
-returns-5 c = opened-sheet (c .before .before .before .before .before .before .before .before .before .read .ensures) (c .before .before .before .before .before .enum-told .given .0 .0) (c .before .before .before .before .before .enum-told .given .1) (c .before .before .before .shape-of .ensures) (c .before .m .given .0 .0) (c .before .m .given .1)
+returns-5 c = opened-sheet (c .before .before .before .before .before .before .before .before .before .before .before .before .before .read .ensures) (c .before .before .before .before .before .before .before .before .before .enum-told .given .0 .0) (c .before .before .before .before .before .before .before .before .before .enum-told .given .1) (c .before .before .before .before .before .before .before .order .ensures) (c .before .before .before .shape-of .ensures) (c .before .m .given .0 .0) (c .before .m .given .1)
 
 pub open-spec : {M : Type 1} → statement M
 open-spec =
@@ -78,6 +81,7 @@ open-spec =
     enum-known-why
     number-requires
     enum-told
+    order-requires
     shape-of-requires
     enum-told-2
     enum-told-3
