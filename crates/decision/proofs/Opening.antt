@@ -8,6 +8,7 @@ use Prim.Native.Nat.{ℕ, _<_, _≤_}
 use native.Mathlib.Omega.{arith}
 use lib.Dec.{T, leb, leb→le}
 use lib.ListN.{drop, length}
+use lib.Seq.{drop-drop}
 use Rattle.line.specs.Line.{refusalLine, refusalNumber}
 use Rattle.order.specs.Ordered.{Ordered, Unordered}
 use Rattle.reader.proofs.Complete.{read-exactly}
@@ -105,6 +106,9 @@ module _ (words : ℕ) (s : Bytes) where
     pub is-sheet : opening words s ≡ readSheet s
     is-sheet = open-by true large
 
+past-table : {s : Bytes} {w w′ : List ℕ} {r : Read} → ReadTold s w w′ r → drop 16384 w′ ≡ drop 16384 w
+past-table {s} {w} {w′} t = sym (drop-drop 4096 12288 w′) ∙ ap (drop 4096) (t .past) ∙ drop-drop 4096 12288 w
+
 module _ {s : Bytes} {w w′ : List ℕ} {r : Read} (t : ReadTold s w w′ r) where
   pub stopped-reading : (why : Why) → r ≡ reads.Refused why → {n : ℕ} → n ≡ refusalNumber (refusalOf why) → Opening s w w′ (opened.Refused n)
   unfolding OpenedAs readOf
@@ -112,7 +116,7 @@ module _ {s : Bytes} {w w′ : List ℕ} {r : Read} (t : ReadTold s w w′ r) wh
       record {
         is = record { why = refusalOf why; is = reading-refused (length w) s (refusalOf why) (t .answers ∙ ap {B = Result Value} (readOf s w′) q); isNumber = e; noLine = no-line why };
         small = t .small;
-        past = λ h. t .cleared h .past;
+        past = λ h. past-table t;
       }
 
   module _ (k : ℕ) (q : r ≡ reads.Table k) where
@@ -139,7 +143,7 @@ module _ {s : Bytes} {w w′ : List ℕ} {r : Read} (t : ReadTold s w w′ r) wh
       still-small h = absurd (omega (arith, h, read-large))
 
       still-past : 16384 ≤ length w → drop 16384 w″ ≡ drop 16384 w
-      still-past h = o .further ∙ t .cleared h .past
+      still-past h = o .further ∙ past-table t
 
       pub stopped-shape : (f : Refusal) {n : ℕ} → n ≡ refusalNumber f → refusalLine f ≡ none → {a : Shape} → Shaped s w″ a → (b : Shape) → a ≡ b → (Shaped s w″ b → readSheet s ≡ refused f) → Opening s w w″ (opened.Refused n)
       unfolding OpenedAs

@@ -1,13 +1,12 @@
--- The whole sheet: the words for marks are cleared, and what the tree's reading answers is what `json` says.
+-- The whole sheet: what the tree's reading answers is what `json` says.
 -- Assumes nothing.
 use mathlib.Core.Bool.{Bool, false, true}
 use mathlib.Core.List.{List}
 use mathlib.Core.Path.{ap, refl, sym, _∙_, _≡_}
-use Prim.Native.Nat.{ℕ, _+_, _-_, _<_, _≤_}
+use Prim.Native.Nat.{ℕ, _-_, _<_, _≤_}
 use native.Mathlib.Omega.{arith}
-use lib.Dec.{eqb, leb}
-use lib.ListN.{drop, getD, length, length-set, set}
-use lib.Seq.{drop-drop, drop-set-lt, getD-drop, getD-set-other, getD-set-same}
+use lib.Dec.{leb}
+use lib.ListN.{drop, length}
 use Rattle.reader.proofs.Agree.{erased, json-erased, read-facts}
 use Rattle.reader.proofs.ArrayLoop.{past-rows}
 use Rattle.reader.proofs.Decoded.{length-rows, node-after}
@@ -22,7 +21,7 @@ use Rattle.reader.specs.Laid.{ParsedTold, Rows}
 use Rattle.reader.specs.Limits.{maxBytes, maxDepth, nodes, nodesIn, nodesOf}
 use Rattle.reader.specs.Placing.{Placed, readAt, skipAt, spanned, wholeAt}
 use Rattle.reader.specs.Reader.{json}
-use Rattle.reader.specs.Reads.{Cleared, HoldsOf, ReadTold, readOf, reading}
+use Rattle.reader.specs.Reads.{HoldsOf, ReadTold, readOf, reading}
 use Rattle.reader.specs.Refusal.{Refusal, Result, notJson, notUtf8, ok, refused, tooLong, _>>=_}
 use Rattle.reader.specs.Spans.{Fields, Node, Nodes, Plain, arr, erase, eraseIn, eraseOf, field, isFalse, isNull, isNumber, isText, isTrue, leaf, noField, noNode, node, obj, plain, size, sizeIn, sizeOf}
 use Rattle.reader.specs.Table.{rows, valueAt}
@@ -32,43 +31,7 @@ use Rattle.reader.specs.declared.answer.Place.{Place}
 use Rattle.reader.specs.declared.answer.Read.the-variants as reads
 use Rattle.reader.specs.declared.answer.Refusal.{Refusal as Why}
 use Rattle.reader.specs.declared.answer.Refusal.the-variants as whys
-use borrow.Author.Tests.{eq-eqb, eqb-false, eqb-true, le-leb, lt-leb, ne-eqb}
-
--- ---- the words for marks
-pub record Clearing (w₀ w : List ℕ) (k : ℕ) : Type 0 where
-  pub long : length w ≡ length w₀
-  pub low : 12288 ≤ k
-  pub high : k ≤ 16384
-  pub zero : (i : ℕ) → 12288 ≤ i → i < k → getD w i 0 ≡ 0
-  pub past : drop 16384 w ≡ drop 16384 w₀
-
-pub clearing : (w : List ℕ) → Clearing w w 12288
-clearing w = record { long = refl; low = omega arith; high = omega arith; zero = λ i h k. absurd (omega arith); past = refl }
-
-below : (i k : ℕ) → i < k + 1 → (i ≡ k → ⊥) → i < k
-below i k h f = omega arith
-
-pub cleared-one : {w₀ w : List ℕ} {k : ℕ} → Clearing w₀ w k → k < 16384 → 16384 ≤ length w₀ → Clearing w₀ (set w k 0) (k + 1)
-cleared-one {w₀} {w} {k} l h m = record { long = length-set w k 0 ∙ l .long; low = omega (arith, l .low); high = omega arith; zero = at; past = drop-set-lt 16384 w k 0 h ∙ l .past }
-  where
-    at : (i : ℕ) → 12288 ≤ i → i < k + 1 → getD (set w k 0) i 0 ≡ 0
-    at i p q = go (eqb i k) refl
-      where
-        go : (b : Bool) → eqb i k ≡ b → getD (set w k 0) i 0 ≡ 0
-        go true e = ap (λ (j : ℕ). getD (set w k 0) j 0) (eqb-true i k e) ∙ getD-set-same w k 0 0 (omega (arith, l .long))
-        go false e = let f = eqb-false i k e in getD-set-other w k i 0 0 f ∙ l .zero i p (below i k q f)
-
-pub cleared-all : {w₀ w : List ℕ} {k : ℕ} → Clearing w₀ w k → 16384 ≤ k → Cleared w₀ w
-cleared-all {w₀} {w} {k} l h = record { marks = λ i p q. l .zero i p (omega arith); past = l .past }
-
--- what the reader leaves keeps them so
-pub kept-clear : {w₀ w : List ℕ} (w′ : List ℕ) → Cleared w₀ w → drop 12288 w′ ≡ drop 12288 w → Cleared w₀ w′
-kept-clear {w₀} {w} w′ l e = record { marks = at; past = sym (drop-drop 4096 12288 w′) ∙ ap (drop 4096) e ∙ drop-drop 4096 12288 w ∙ l .past }
-  where
-    at : (i : ℕ) → 12288 ≤ i → i < 16384 → getD w′ i 0 ≡ 0
-    at i p q =
-        let z : 12288 + (i - 12288) ≡ i = omega arith in
-        ap (λ (j : ℕ). getD w′ j 0) (sym z) ∙ sym (getD-drop 12288 w′ (i - 12288) 0) ∙ ap (λ (x : List ℕ). getD x (i - 12288) 0) e ∙ getD-drop 12288 w (i - 12288) 0 ∙ ap (λ (j : ℕ). getD w j 0) z ∙ l .marks i p q
+use borrow.Author.Tests.{eq-eqb, le-leb, lt-leb, ne-eqb}
 
 -- ---- each value and each name is a node
 plain-node : (s : Bytes) (k : Plain) (a e : ℕ) → nodes (plain s k a e) ≡ 1
@@ -132,23 +95,23 @@ module _ (s : Bytes) where
 -- ---- what is told
 pub too-small : (s : Bytes) (w : List ℕ) → length w < 16384 → ReadTold s w w (reads.Refused whys.WorkTooSmall)
 unfolding reading readOf HoldsOf
-too-small s w h = record { answers = rw (lt-leb 16384 (length w) h, reading); holds = tt; small = λ k. refl; cleared = λ k. absurd (omega arith) }
+too-small s w h = record { answers = rw (lt-leb 16384 (length w) h, reading); holds = tt; small = λ k. refl; past = refl }
 
 module _ (s : Bytes) (w : List ℕ) (enough : 16384 ≤ length w) where
   is-json : reading (length w) s ≡ json s
   unfolding reading
   is-json = rw (le-leb 16384 (length w) enough, reading)
 
-  module _ (w′ : List ℕ) (clear : Cleared w w′) where
+  module _ (w′ : List ℕ) (past : drop 12288 w′ ≡ drop 12288 w) where
     pub told-refused : (r : Why) → spanned s ≡ refused (refusalOf r) → ReadTold s w w′ (reads.Refused r)
     unfolding readOf HoldsOf erased
-    told-refused r e = record { answers = is-json ∙ json-erased s ∙ ap (erased s) e; holds = tt; small = λ h. absurd (omega arith); cleared = λ h. clear }
+    told-refused r e = record { answers = is-json ∙ json-erased s ∙ ap (erased s) e; holds = tt; small = λ h. absurd (omega arith); past = past }
 
-    pub told-table : (w₁ : List ℕ) (p : Place) (at k : ℕ) → length w₁ ≡ length w → length s ≤ maxBytes → utf8 scalar s ≡ true → at ≡ skipAt s 0 → Rows (readAt maxDepth s 0 at) w₁ w′ 0 p → k ≡ skipAt s (p .at) → k ≡ length s → ReadTold s w w′ (reads.Table (p .node))
+    pub told-table : (p : Place) (at k : ℕ) → length s ≤ maxBytes → utf8 scalar s ≡ true → at ≡ skipAt s 0 → Rows (readAt maxDepth s 0 at) w w′ 0 p → k ≡ skipAt s (p .at) → k ≡ length s → ReadTold s w w′ (reads.Table (p .node))
     unfolding readOf HoldsOf
-    told-table w₁ p at k long bytes u isAt r q z =
+    told-table p at k bytes u isAt r q z =
         let v : Placed Node = record { tree = r .tree; place = p .at; count = p .node } in
-        let a = accepted s w₁ w′ (r .tree) (spanned-is s bytes u at isAt v k (r .read) q z) (r .words) (omega arith) in
+        let a = accepted s w w′ (r .tree) (spanned-is s bytes u at isAt v k (r .read) q z) (r .words) (omega arith) in
         let f = read-facts maxDepth s 0 at v (skip-past s 0 at (omega arith) isAt .1) (r .read) in
         let n : nodes (valueAt s w′ 0) ≡ size (r .tree) = ap nodes (a .1) ∙ nodes-size s (r .tree) in
         let b = a .2 in
@@ -157,7 +120,7 @@ module _ (s : Bytes) (w : List ℕ) (enough : 16384 ≤ length w) where
           answers = is-json ∙ a .0 ∙ ap {B = Result Value} (λ y. ok y) (sym (a .1));
           holds = record { bytes = bytes; root = b; count = omega (arith, n, f .1 .counted); after = node-after s w′ maxDepth 0 (b .tree) (b .held) ∙ omega (arith, n, m, f .1 .counted) };
           small = λ h. absurd (omega arith);
-          cleared = λ h. clear;
+          past = past;
         }
 
 -- what the tree's answer says of the words past its rows

@@ -5,7 +5,7 @@ use mathlib.Core.List.{List}
 use mathlib.Core.Path.{_≡_}
 use Prim.Native.Nat.{ℕ, _<_, _≤_}
 use lib.Dec.{leb}
-use lib.ListN.{drop, getD, length}
+use lib.ListN.{drop, length}
 use Rattle.reader.specs.Answers.{refusalOf}
 use Rattle.reader.specs.Bytes.{Bytes}
 use Rattle.reader.specs.Held.{IsNode}
@@ -39,13 +39,9 @@ unfoldable pub HoldsOf : Bytes → List ℕ → Read → Type 0
 HoldsOf s w (reads.Refused r) = Unit {0}
 HoldsOf s w (reads.Table n) = Holds s w n
 
--- the words for marks are zero, and those past the table are as they were
-pub record Cleared (w w′ : List ℕ) : Type 0 where
-  pub marks : (i : ℕ) → 12288 ≤ i → i < 16384 → getD w′ i 0 ≡ 0
-  pub past : drop 16384 w′ ≡ drop 16384 w
-
+-- no word behind the rows is touched
 pub record ReadTold (s : Bytes) (w w′ : List ℕ) (r : Read) : Type 0 where
   pub answers : reading (length w) s ≡ readOf s w′ r
   pub holds : HoldsOf s w′ r
   pub small : length w < 16384 → w′ ≡ w
-  pub cleared : 16384 ≤ length w → Cleared w w′
+  pub past : drop 12288 w′ ≡ drop 12288 w

@@ -2,9 +2,7 @@
 use crate::answer::Parsed;
 use crate::answer::Read;
 use crate::answer::Refusal;
-ghost use Prim.Native.Nat.{_≤_};
-ghost use lib.ListN.{length};
-ghost use Rattle.reader.specs.Reads.{Cleared, ReadTold};
+ghost use Rattle.reader.specs.Reads.{ReadTold};
 
 pub mod answer;
 mod bracket;
@@ -18,18 +16,6 @@ pub mod text;
 mod tree;
 mod utf8;
 
-// The words for marks, 12,288 to 16,383, become zero.
-fn clear(work: &mut [u32])
-    requires { ⌜ 16384 ≤ length (now work) ⌝ }
-    ensures { λ _. ⌜ Cleared (now (work .entry)) (now (work .exit)) ⌝ }
-{
-    let mut k = 12288;
-    while k < 16384 {
-        work[k] = 0;
-        k += 1;
-    }
-}
-
 // The sheet's tree in the table, or the first refusal of 1 to 8. One pass for UTF-8 and one for the rest, without a step back. Besides the
 // lent table it takes stack: the marks of names, 32,749 bytes, and two calls for each of at most 64 brackets.
 pub fn read(sheet: &[u8], work: &mut [u32]) -> Read
@@ -38,7 +24,6 @@ pub fn read(sheet: &[u8], work: &mut [u32]) -> Read
     if work.len() < 16384 {
         return Read::Refused(Refusal::WorkTooSmall);
     }
-    clear(work);
     if 32768 < sheet.len() {
         return Read::Refused(Refusal::TooLong);
     }
