@@ -1,8 +1,8 @@
 // A text of the sheet against words that the program knows.
 use reader::rows::Found;
-use reader::text::Cursor;
 use reader::text::Step;
 ghost use mathlib.Core.Path.{_≡_};
+ghost use lib.ListN.{getD};
 ghost use Rattle.reader.specs.Bytes.{sameBytes};
 ghost use Rattle.reader.specs.Cursor.{OnText};
 ghost use Rattle.reader.specs.Spans.{textAt};
@@ -10,15 +10,11 @@ ghost use Rattle.sheet.specs.Words.{position, words};
 ghost use Rattle.sheet.specs.Answers.{placeOf};
 
 // Whether a text is a given word, decoded as it is compared.
-pub fn is_word(s: &[u8], at: usize, word: &[u8]) -> bool
+fn spells(s: &[u8], at: usize, word: &[u8]) -> bool
     requires { ⌜ OnText (now s) at 0 ⌝ }
     ensures { λ r. ⌜ r ≡ sameBytes (textAt (now (s .entry)) at) (now (word .entry)) ⌝ }
 {
-    let mut c = Cursor {
-        at: at,
-        unit: 0,
-        left: 0,
-    };
+    let mut c = reader::text::begin(at);
     let mut i = 0;
     loop {
         match reader::text::next(s, c) {
@@ -39,18 +35,57 @@ pub fn is_word(s: &[u8], at: usize, word: &[u8]) -> bool
     }
 }
 
-// The place of a text among words, each of which a comma ends.
+// Whether a text is a given word. Few names have an escape: up to the first one, bytes are compared as they stand.
+pub fn is_word(s: &[u8], at: usize, word: &[u8]) -> bool
+    requires { ⌜ OnText (now s) at 0 ⌝ }
+    ensures { λ r. ⌜ r ≡ sameBytes (textAt (now (s .entry)) at) (now (word .entry)) ⌝ }
+{
+    let mut i = 0;
+    loop {
+        let b = s[at + i];
+        if b == b'"' {
+            return i == word.len();
+        }
+        if b == b'\\' {
+            return spells(s, at + i, &word[i..]);
+        }
+        if i == word.len() {
+            return false;
+        }
+        if b != word[i] {
+            return false;
+        }
+        i += 1;
+    }
+}
+
+// The text's first byte, or a comma for a text that has none.
+fn head(s: &[u8], at: usize) -> u8
+    requires { ⌜ OnText (now s) at 0 ⌝ }
+    ensures { λ r. ⌜ r ≡ getD (textAt (now (s .entry)) at) 0 44 ⌝ }
+{
+    match reader::text::next(s, reader::text::begin(at)) {
+        Step::End => b',',
+        Step::Byte(t) => t.byte,
+    }
+}
+
+// The place of a text among words, each of which a comma ends. Only words that begin as the text does are compared with it;
+// called here too, `spells` is not inlined in `is_word`, which stays small enough to be inlined in its callers.
 pub fn which(s: &[u8], at: usize, names: &[u8]) -> Found
     requires { ⌜ OnText (now s) at 0 ⌝ }
     ensures { λ r. ⌜ position 0 (textAt (now (s .entry)) at) (words (now (names .entry))) ≡ placeOf r ⌝ }
 {
+    let first = head(s, at);
     let mut n = 0;
     let mut from = 0;
     let mut i = 0;
     while i < names.len() {
         if names[i] == b',' {
-            if is_word(s, at, &names[from..i]) {
-                return Found::At(n);
+            if names[from] == first {
+                if spells(s, at, &names[from..i]) {
+                    return Found::At(n);
+                }
             }
             n += 1;
             from = i + 1;
