@@ -70,8 +70,7 @@ fn head(s: &[u8], at: usize) -> u8
     }
 }
 
-// The place of a text among words, each of which a comma ends. Only words that begin as the text does are compared with it;
-// called here too, `spells` is not inlined in `is_word`, which stays small enough to be inlined in its callers.
+// The place of a text among words, each of which a comma ends. Only words that begin as the text does are compared with it.
 pub fn which(s: &[u8], at: usize, names: &[u8]) -> Found
     requires { ⌜ OnText (now s) at 0 ⌝ }
     ensures { λ r. ⌜ position 0 (textAt (now (s .entry)) at) (words (now (names .entry))) ≡ placeOf r ⌝ }
@@ -83,7 +82,7 @@ pub fn which(s: &[u8], at: usize, names: &[u8]) -> Found
     while i < names.len() {
         if names[i] == b',' {
             if names[from] == first {
-                if spells(s, at, &names[from..i]) {
+                if is_word(s, at, &names[from..i]) {
                     return Found::At(n);
                 }
             }

@@ -29,21 +29,21 @@ shared-slice-read-if1 c = omega arith
 shared-slice-read-if2 : tie.Need-shared-slice-read-if2 Inv-loop μ-loop
 shared-slice-read-if2 c = omega (arith, c .before .before .before .before .loop .inv .order, c .before .before .before .loop-test .taken)
 
-sub-spells : tie.Need-sub-spells Inv-loop μ-loop
-sub-spells c = omega (arith, c .before .before .before .before .before .loop .inv .order)
+sub-is-word : tie.Need-sub-is-word Inv-loop μ-loop
+sub-is-word c = omega (arith, c .before .before .before .before .before .loop .inv .order)
 
-part-spells-start : tie.Need-part-spells-start Inv-loop μ-loop
-part-spells-start c = c .before .before .before .before .before .loop .inv .order
+part-is-word-start : tie.Need-part-is-word-start Inv-loop μ-loop
+part-is-word-start c = c .before .before .before .before .before .loop .inv .order
 
-part-spells-end : tie.Need-part-spells-end Inv-loop μ-loop
-part-spells-end c = c .before .before .before .before .before .loop .inv .upto
+part-is-word-end : tie.Need-part-is-word-end Inv-loop μ-loop
+part-is-word-end c = c .before .before .before .before .before .loop .inv .upto
 
-spells-requires : tie.Need-spells-requires Inv-loop μ-loop
-spells-requires c κs = c .before .before .before .before .before .before .before .before .before .before .pre
+is-word-requires : tie.Need-is-word-requires Inv-loop μ-loop
+is-word-requires c κs = c .before .before .before .before .before .before .before .before .before .before .pre
 
 returns : tie.Need-returns Inv-loop μ-loop
 unfolding placeOf
-returns c = listed (c .before .before .before .before .before .before .before .before .loop .inv) (c .before .before .before .before .before .before .before .loop-test .taken) (c .before .before .before .before .before .if1 .taken) (sym (c .if3 .taken) ∙ c .before .spells .ensures)
+returns c = listed (c .before .before .before .before .before .before .before .before .loop .inv) (c .before .before .before .before .before .before .before .loop-test .taken) (c .before .before .before .before .before .if1 .taken) (sym (c .if3 .taken) ∙ c .before .is-word .ensures)
 
 add-n : tie.Need-add-n Inv-loop μ-loop
 add-n c = omega (arith, c .before .before .before .before .before .loop .inv .few, c .before .before .before .before .loop-test .taken)
@@ -77,10 +77,10 @@ which-spec =
     loop-holds
     shared-slice-read-if1
     shared-slice-read-if2
-    sub-spells
-    part-spells-start
-    part-spells-end
-    spells-requires
+    sub-is-word
+    part-is-word-start
+    part-is-word-end
+    is-word-requires
     returns
     add-n
     add-from
