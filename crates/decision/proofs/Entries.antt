@@ -19,12 +19,15 @@ use Rattle.sheet.specs.Condition.{Condition}
 use Rattle.sheet.specs.Sheet.{Sheet, readSheet}
 use Rattle.sheet.specs.declared.shape.Members.{Members}
 use Rattle.decision.specs.Called.{Called}
+use Rattle.decision.specs.Calls.{callOf, verdictOf}
 use Rattle.decision.specs.Entry.{Reply, call, enough, fitted, outputAfter, reply, workAfter}
 use Rattle.sheet.specs.Accepted.{Known}
 use Rattle.decision.specs.Opening.{OpenedAs, Opening, Ready, Stopped, opening}
 use Rattle.rules.specs.Told.{Answered}
+use Rattle.decision.specs.declared.call.Call.{Call}
 use Rattle.decision.specs.declared.open.Opened.{Opened}
 use Rattle.decision.specs.declared.open.Opened.the-variants as opened
+use Rattle.decision.proofs.Calls.{Answers, of-verdict}
 use Rattle.decision.proofs.Clearing.{same-left}
 use Rattle.decision.proofs.Opening.{sheet-opened}
 use Rattle.line.proofs.Bounds.{line-fits, line-short, number-small}
@@ -59,13 +62,17 @@ call-small f s words size = rw call-opened (number-small size (opening words s >
 pub call-fits : (f : Sheet Condition → Result Verdict) (s : Bytes) (words size : ℕ) → lineSize (call f s words size) ≤ size
 call-fits f s words size = rw call-opened (line-fits size (opening words s >>= f))
 
-module _ (f : Sheet Condition → Result Verdict) {s : Bytes} {w w₁ : List ℕ} {r : Opened} (t : Opening s w w₁ r) (size : length w₁ ≡ length w) where
-  pub called-refused : {w′ : List ℕ} → w′ ≡ workAfter w₁ → (n : ℕ) → r ≡ opened.Refused n → (o : Bytes) → Called (call f s (length w) (length o)) w w′ o o (record { number = n; size = 0 })
+-- the same, of each call
+call-of-opened : (x : Call) (s : Bytes) (words size : ℕ) → callOf x s words size ≡ reply size (opening words s >>= verdictOf x)
+call-of-opened x s words size = of-verdict x s words size ∙ call-opened (verdictOf x) s words size
+
+module _ {s : Bytes} {w w₁ : List ℕ} {r : Opened} (t : Opening s w w₁ r) (size : length w₁ ≡ length w) where
+  pub called-refused : (x : Call) {w′ : List ℕ} → w′ ≡ workAfter w₁ → (n : ℕ) → r ≡ opened.Refused n → (o : Bytes) → Called (callOf x s (length w) (length o)) w w′ o o (record { number = n; size = 0 })
   unfolding OpenedAs
-  called-refused z n q o =
-      let x : Stopped (opening (length w) s) n = subst (OpenedAs (length w) s w₁) q (t .is) in
-      let e : call f s (length w) (length o) ≡ record { number = refusalNumber (x .why); line = none } = call-opened f s (length w) (length o) ∙ ap {B = Reply} (λ (y : Result (Sheet Condition)). reply (length o) (y >>= f)) (x .is) ∙ unlined (length o) (x .why) (x .noLine) in
-      record { isNumber = x .isNumber ∙ ap (λ (y : Reply). y .number) (sym e); isSize = ap lineSize (sym e); short = omega arith; output = ap (λ (y : Reply). outputAfter y o) (sym e); work = z ∙ same-left w w₁ size (t .small) (t .past) }
+  called-refused x z n q o =
+      let h : Stopped (opening (length w) s) n = subst (OpenedAs (length w) s w₁) q (t .is) in
+      let e : callOf x s (length w) (length o) ≡ record { number = refusalNumber (h .why); line = none } = call-of-opened x s (length w) (length o) ∙ ap {B = Reply} (λ (y : Result (Sheet Condition)). reply (length o) (y >>= verdictOf x)) (h .is) ∙ unlined (length o) (h .why) (h .noLine) in
+      record { isNumber = h .isNumber ∙ ap (λ (y : Reply). y .number) (sym e); isSize = ap lineSize (sym e); short = omega arith; output = ap (λ (y : Reply). outputAfter y o) (sym e); work = z ∙ same-left w w₁ size (t .small) (t .past) }
 
   module _ (m : Members) (q : r ≡ opened.Sheet m) where
     ready : Ready (length w) s w₁ m
@@ -76,17 +83,17 @@ module _ (f : Sheet Condition → Result Verdict) {s : Bytes} {w w₁ : List ℕ
     opened-large = (omega (arith, ready .long), record { given = ready .sheet; known = ready .accepted })
 
     -- the call answers over the table that it leaves, w₂
-    module _ {w₂ : List ℕ} {a : Answer} (h : (sheet : Sheet Condition) → Accepted s w₁ m sheet → Answered s w₁ w₂ (f sheet) a) where
-      its : Answered s w₁ w₂ (f (ready .sheet)) a
+    module _ (x : Call) {w₂ : List ℕ} {a : Answer} (h : Answers s w₁ w₂ m a x) where
+      its : Answered s w₁ w₂ (verdictOf x (ready .sheet)) a
       its = h (ready .sheet) (ready .accepted)
 
       pub held-answer : Held s w₂ a
       held-answer = its .told .held
 
-      pub called-sheet : {o o′ : Bytes} {n : Sent} → Emitted s w₂ a o o′ n → {w′ : List ℕ} → w′ ≡ workAfter w₂ → Called (call f s (length w) (length o)) w w′ o o′ n
+      pub called-sheet : {o o′ : Bytes} {n : Sent} → Emitted s w₂ a o o′ n → {w′ : List ℕ} → w′ ≡ workAfter w₂ → Called (callOf x s (length w) (length o)) w w′ o o′ n
       called-sheet {o} {o′} {n} g z =
           let i : opening (length w) s ≡ ok (ready .sheet) = sheet-opened (length w) s (ready .long) ∙ ready .accepted .reads in
-          let e : reply (length o) (meaning s w₂ a) ≡ call f s (length w) (length o) = ap (reply (length o)) (its .told .means) ∙ sym (call-opened f s (length w) (length o) ∙ ap {B = Reply} (λ (y : Result (Sheet Condition)). reply (length o) (y >>= f)) i) in
+          let e : reply (length o) (meaning s w₂ a) ≡ callOf x s (length w) (length o) = ap (reply (length o)) (its .told .means) ∙ sym (call-of-opened x s (length w) (length o) ∙ ap {B = Reply} (λ (y : Result (Sheet Condition)). reply (length o) (y >>= verdictOf x)) i) in
           record {
             isNumber = g .number ∙ ap (λ (y : Reply). y .number) e;
             isSize = g .size ∙ ap lineSize e;

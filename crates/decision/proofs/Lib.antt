@@ -7,6 +7,7 @@ pub mod Limits
 pub mod Sentences
 pub mod Clearing
 pub mod Opening
+pub mod Calls
 pub mod Entries
 pub mod AlikeRules
 pub mod Twofold

@@ -4,7 +4,7 @@ use mathlib.Core.Bool.{Bool, false, true}
 use mathlib.Core.Option.{Option, none, some}
 use mathlib.Core.Logic.{_⊎_, inl, inr}
 use mathlib.Core.List.{List}
-use mathlib.Core.Path.{refl, subst, sym, _∙_, _≡_}
+use mathlib.Core.Path.{refl, subst, sym, _≡_}
 use Prim.Native.Nat.{ℕ, _≤_}
 use native.Mathlib.Omega.{arith}
 use lib.Dec.{leb}
@@ -18,11 +18,13 @@ use Rattle.reader.specs.Refusal as refusals
 use Rattle.reader.specs.Refusal.{Refusal, Result, guardUnknown, invariants, noId, noInput, noOutcome, notASource, notCarried, notJson, notUtf8, numberTooLong, ok, preconditions, refused, repeatedName, ruleFalse, ruleUnknown, tooDeep, tooLong, tooManyNodes, unknownExpression, workTooSmall, wrongShape, wrongSheet, wrongState, _>>=_}
 use Rattle.sheet.specs.Condition.{Condition}
 use Rattle.sheet.specs.Sheet.{Sheet, readSheet}
-use Rattle.decision.specs.Called.{Called, Replied}
+use Rattle.decision.specs.Called.{Called}
+use Rattle.decision.specs.Calls.{callOf, verdictOf}
 use Rattle.decision.specs.Entry.{call, enough}
 use Rattle.decision.specs.Ended.{Ended, answered, lineTooLong, withLine, withoutLine}
-use Rattle.decision.specs.Replies.{Told, numberOf, sizeOf}
-use Rattle.decision.specs.declared.reply.Reply.{Reply as Case}
+use Rattle.decision.specs.Replies.{Told}
+use Rattle.decision.specs.declared.call.Call.{Call}
+use Rattle.decision.proofs.Calls.{of-verdict}
 
 -- a line that fits, or 23
 abbrev kept : ℕ → Bytes → Bool → Reply
@@ -80,14 +82,14 @@ told-ended (withLine n line a b) = record { most = omega (arith, b); early = λ 
 told-ended (withoutLine n a b) = record { most = omega (arith, b); early = λ _ _. refl; last = λ _. refl }
 told-ended lineTooLong = record { most = omega arith; early = λ _ _. refl; last = λ _. refl }
 
--- ---- every call ends so, on any bytes, with any sizes; and its answer is a case of the enum
+-- ---- every call ends so, on any bytes, with any sizes
 pub every-call-ends : (f : Sheet Condition → Result Verdict) (s : Bytes) (words size : ℕ) → Ended (call f s words size)
 unfolding call
 every-call-ends f s words size = ended size (enough words >>= (λ _. readSheet s >>= (λ sheet. f sheet)))
 
+pub ends : (x : Call) (s : Bytes) (words size : ℕ) → Ended (callOf x s words size)
+ends x s words size = rw of-verdict (every-call-ends (verdictOf x) s words size)
+
 module _ {answer : Reply} {w w′ : List ℕ} {o o′ : Bytes} {r : Sent} (c : Called answer w w′ o o′ r) where
   pub told-called : Ended answer → Told (r .number) (r .size)
   told-called e = subst (λ (n : ℕ). Told n (r .size)) (sym (c .isNumber)) (subst (Told (answer .number)) (sym (c .isSize)) (told-ended e))
-
-  pub replied : {x : Case} → (numberOf x ≡ r .number) × (sizeOf x ≡ r .size) → Replied answer w w′ o o′ x
-  replied e = record { isNumber = e .0 ∙ c .isNumber; isSize = e .1 ∙ c .isSize; output = c .output; work = c .work }
