@@ -89,12 +89,16 @@ module _ {s : Bytes} {w v : List ℕ} {count : ℕ} (u : Unordered s w) (counted
     root = node .0;
     same = node .1 ∙ cleared-node .1;
     linked = record { links = λ i h q. link i (omega (arith, h .isNode .most, size-pos (h .isNode .tree))) q (ltb i count) refl };
+    behind = λ i p q. word-prefix v w′ firstMark (l .rows) i q ∙ b .none i (omega (arith, p, counts)) q;
     long = m ∙ long;
     further = l .further ∙ cleared-further b;
   }
     where
       node : IsNode s w′ maxDepth 0 × (valueAt s w′ 0 ≡ valueAt s v 0)
       node = same-node s v w′ cleared-table (l .rows)
+
+      counts : afterAt w′ 0 ≡ count
+      counts = same-count s v w′ cleared-table (l .rows) ∙ sym cleared-count
 
       link : (i : ℕ) → i < maxNodes → kindAt w′ i ≡ 6 → (t : Bool) → ltb i count ≡ t → LinkedAt s w′ i
       link i h q true e = let z = word-prefix v w′ firstMark (l .rows) (3 * i) (omega arith) in l .links i (ltb-true i count e) (ap (λ (x : ℕ). x % 8) (sym z) ∙ q)

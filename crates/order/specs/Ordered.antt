@@ -3,8 +3,8 @@
 use mathlib.Core.Bool.{true}
 use mathlib.Core.List.{List}
 use mathlib.Core.Path.{_≡_}
-use Prim.Native.Nat.{ℕ, _<_, _≤_}
-use lib.ListN.{drop, length, take}
+use Prim.Native.Nat.{ℕ, _*_, _<_, _≤_}
+use lib.ListN.{drop, getD, length, take}
 use Rattle.reader.specs.Bytes.{Bytes}
 use Rattle.reader.specs.Held.{IsNode}
 use Rattle.reader.specs.Limits.{maxDepth, maxNumber, tidy}
@@ -18,11 +18,12 @@ pub record Unordered (s : Bytes) (w : List ℕ) : Type 0 where
   pub root : IsNode s w maxDepth 0
   pub isTidy : tidy maxNumber (valueAt s w 0) ≡ true
 
--- the same tree, the names of every object linked
+-- the same tree, the names of every object linked; the rows behind it are zero
 pub record Ordered (s : Bytes) (w w′ : List ℕ) : Type 0 where
   pub root : IsNode s w′ maxDepth 0
   pub same : valueAt s w′ 0 ≡ valueAt s w 0
   pub linked : Linked s w′
+  pub behind : (i : ℕ) → 3 * afterAt w′ 0 ≤ i → i < firstMark → getD w′ i 0 ≡ 0
   pub long : length w′ ≡ length w
   pub further : drop 16384 w′ ≡ drop 16384 w
 
