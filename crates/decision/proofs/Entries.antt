@@ -22,7 +22,7 @@ use Rattle.decision.specs.Called.{Called}
 use Rattle.decision.specs.Calls.{callOf, verdictOf}
 use Rattle.decision.specs.Entry.{Reply, call, enough, fitted, outputAfter, reply, workAfter}
 use Rattle.sheet.specs.Accepted.{Known}
-use Rattle.decision.specs.Opening.{OpenedAs, Opening, Ready, Stopped, opening}
+use Rattle.decision.specs.Opening.{Bounded, OpenedAs, Opening, Ready, Stopped, opening}
 use Rattle.rules.specs.Told.{Answered}
 use Rattle.decision.specs.declared.call.Call.{Call}
 use Rattle.decision.specs.declared.open.Opened.{Opened}
@@ -30,10 +30,12 @@ use Rattle.decision.specs.declared.open.Opened.the-variants as opened
 use Rattle.decision.proofs.Calls.{Answers, of-verdict}
 use Rattle.decision.proofs.Clearing.{same-left}
 use Rattle.decision.proofs.Opening.{sheet-opened}
+use Rattle.operands.proofs.Words.{same-row-word}
 use Rattle.line.proofs.Bounds.{line-fits, line-short, number-small}
 use Rattle.reader.proofs.Complete.{read-exactly}
 use Rattle.reader.specs.Json.{Value}
 use Rattle.reader.specs.Reader.{json}
+use Rattle.reader.specs.Table.{afterAt}
 
 call-opened : (f : Sheet Condition → Result Verdict) (s : Bytes) (words size : ℕ) → call f s words size ≡ reply size (opening words s >>= f)
 unfolding call opening
@@ -89,6 +91,12 @@ module _ {s : Bytes} {w w₁ : List ℕ} {r : Opened} (t : Opening s w w₁ r) (
 
       pub held-answer : Held s w₂ a
       held-answer = its .told .held
+
+      -- the rows stay, and with them where they end
+      pub still-bounded : (16384 ≤ length w₂) × Bounded w₂
+      still-bounded =
+          let e : afterAt w₂ 0 ≡ afterAt w₁ 0 = same-row-word w₁ w₂ (its .rows) 2 (omega arith) in
+          (omega (arith, its .long, size, ready .long), record { few = omega (arith, e, ready .bounded .few); behind = λ i p q. same-row-word w₁ w₂ (its .rows) i q ∙ ready .bounded .behind i (omega (arith, e, p)) q })
 
       pub called-sheet : {o o′ : Bytes} {n : Sent} → Emitted s w₂ a o o′ n → {w′ : List ℕ} → w′ ≡ workAfter w₂ → Called (callOf x s (length w) (length o)) w w′ o o′ n
       called-sheet {o} {o′} {n} g z =

@@ -13,6 +13,7 @@ use Rattle.line.specs.Line.{refusalLine, refusalNumber}
 use Rattle.order.specs.Ordered.{Ordered, Unordered}
 use Rattle.reader.proofs.Complete.{read-exactly}
 use Rattle.reader.proofs.Laws.{leb-true}
+use Rattle.reader.proofs.Walk.{after-node}
 use Rattle.reader.specs.Answers.{refusalOf}
 use Rattle.reader.specs.Bytes.{Bytes}
 use Rattle.reader.specs.Json.{Value}
@@ -159,7 +160,7 @@ module _ {s : Bytes} {w w′ : List ℕ} {r : Read} (t : ReadTold s w w′ r) wh
       opened-sheet {a} h m e =
           let x = subst (Shaped s w″) e h in
           record {
-            is = record { long = read-large; sheet = x .0; accepted = x .1 };
+            is = record { long = read-large; bounded = record { few = after-node s w″ (o .root) .1; behind = o .behind }; sheet = x .0; accepted = x .1 };
             small = still-small;
             past = still-past;
           }

@@ -3,11 +3,14 @@
 use mathlib.Core.List.{List}
 use mathlib.Core.Option.{none}
 use mathlib.Core.Path.{_≡_}
-use Prim.Native.Nat.{ℕ, _<_, _≤_}
-use lib.ListN.{drop, length}
+use Prim.Native.Nat.{ℕ, _*_, _<_, _≤_}
+use lib.ListN.{drop, getD, length}
 use Rattle.line.specs.Line.{refusalLine, refusalNumber}
 use Rattle.reader.specs.Bytes.{Bytes}
+use Rattle.reader.specs.Limits.{maxNodes}
+use Rattle.reader.specs.Marks.{firstMark}
 use Rattle.reader.specs.Refusal.{Refusal, Result, refused, _>>=_}
+use Rattle.reader.specs.Table.{afterAt}
 use Rattle.sheet.specs.Accepted.{Accepted}
 use Rattle.sheet.specs.Condition.{Condition}
 use Rattle.sheet.specs.Sheet.{Sheet, readSheet}
@@ -28,9 +31,15 @@ pub record Stopped (whole : Result (Sheet Condition)) (n : ℕ) : Type 0 where
   pub isNumber : n ≡ refusalNumber why
   pub noLine : refusalLine why ≡ none
 
+-- rows that are zero from behind the last node on
+pub record Bounded (w : List ℕ) : Type 0 where
+  pub few : afterAt w 0 ≤ maxNodes
+  pub behind : (i : ℕ) → 3 * afterAt w 0 ≤ i → i < firstMark → getD w i 0 ≡ 0
+
 -- a sheet accepted over a table that is large enough
 pub record Ready (words : ℕ) (s : Bytes) (w : List ℕ) (m : Members) : Type 0 where
   pub long : 16384 ≤ words
+  pub bounded : Bounded w
   pub sheet : Sheet Condition
   pub accepted : Accepted s w m sheet
 

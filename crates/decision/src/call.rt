@@ -2,6 +2,7 @@
 use crate::open::Opened;
 use crate::open::open;
 use crate::work::clear;
+use crate::work::clear_rows;
 use line::answer::Answer;
 use line::emit::Sent;
 use line::emit::emit;
@@ -58,7 +59,7 @@ pub fn run(sheet: &[u8], work: &mut [u32], out: &mut [u8], call: Call) -> Sent
         Opened::Sheet(m) => {
             let a = answer(sheet, work, m, call);
             let sent = emit(sheet, work, out, a);
-            clear(work);
+            clear_rows(work);
             sent
         }
     }

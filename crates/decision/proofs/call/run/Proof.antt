@@ -1,6 +1,6 @@
 -- `decision::call::run` meets its contract: refused on opening the sheet, or answered by the call on it.
 -- Assumes nothing.
-use Rattle.decision.proofs.Entries.{called-refused, called-sheet, held-answer, opened-large}
+use Rattle.decision.proofs.Entries.{called-refused, called-sheet, held-answer, opened-large, still-bounded}
 use borrow.Author.Needs.{needs}
 use Rattle.decision.proofs.call.run.Statement.{statement}
 use Rattle.decision.proofs.call.run.Tie as tie
@@ -23,8 +23,8 @@ answer-requires c κs = opened-large (c .before .before .before .before .before 
 emit-requires : tie.Need-emit-requires
 emit-requires c κs = held-answer (c .before .before .before .before .before .before .before .before .before .before .before .«open» .ensures) (c .before .before .before .before .before .before .before .before .before .before .before .«open» .kept .1 .0) (c .before .before .before .before .before .before .before .m .given .0 .0) (c .before .before .before .before .before .before .before .m .given .1) (c .before .before .before .before .before .before .before .before .before .before .before .before .before .before .before .before .args .call) (c .before .before .before .before .answer .ensures)
 
-clear-requires-2 : tie.Need-clear-requires-2
-clear-requires-2 c κs = search needs
+clear-rows-requires : tie.Need-clear-rows-requires
+clear-rows-requires c κs = still-bounded (c .before .before .before .before .before .before .before .before .before .before .before .before .before .before .before .«open» .ensures) (c .before .before .before .before .before .before .before .before .before .before .before .before .before .before .before .«open» .kept .1 .0) (c .before .before .before .before .before .before .before .before .before .before .before .m .given .0 .0) (c .before .before .before .before .before .before .before .before .before .before .before .m .given .1) (c .before .before .before .before .before .before .before .before .before .before .before .before .before .before .before .before .before .before .before .before .args .call) (c .before .before .before .before .before .before .before .before .answer .ensures)
 
 same-length : tie.Need-same-length
 same-length c = search needs
@@ -39,7 +39,7 @@ same-length-3 : tie.Need-same-length-3
 same-length-3 c = search needs
 
 returns-2 : tie.Need-returns-2
-returns-2 c = called-sheet (c .before .before .before .before .before .before .before .before .before .before .before .before .before .before .before .before .before .before .«open» .ensures) (c .before .before .before .before .before .before .before .before .before .before .before .before .before .before .before .before .before .before .«open» .kept .1 .0) (c .before .before .before .before .before .before .before .before .before .before .before .before .before .before .m .given .0 .0) (c .before .before .before .before .before .before .before .before .before .before .before .before .before .before .m .given .1) (c .before .before .before .before .before .before .before .before .before .before .before .before .before .before .before .before .before .before .before .before .before .before .before .args .call) (c .before .before .before .before .before .before .before .before .before .before .before .answer .ensures) (c .before .before .before .before .before .before .emit .ensures) (c .before .before .clear2 .ensures)
+returns-2 c = called-sheet (c .before .before .before .before .before .before .before .before .before .before .before .before .before .before .before .before .before .before .«open» .ensures) (c .before .before .before .before .before .before .before .before .before .before .before .before .before .before .before .before .before .before .«open» .kept .1 .0) (c .before .before .before .before .before .before .before .before .before .before .before .before .before .before .m .given .0 .0) (c .before .before .before .before .before .before .before .before .before .before .before .before .before .before .m .given .1) (c .before .before .before .before .before .before .before .before .before .before .before .before .before .before .before .before .before .before .before .before .before .before .before .args .call) (c .before .before .before .before .before .before .before .before .before .before .before .answer .ensures) (c .before .before .before .before .before .before .emit .ensures) (c .before .before .clear-rows .ensures)
 
 pub run-spec : {M : Type 1} → statement M
 run-spec =
@@ -51,7 +51,7 @@ run-spec =
     enum-known-m
     answer-requires
     emit-requires
-    clear-requires-2
+    clear-rows-requires
     same-length
     returns
     same-length-2
