@@ -7,7 +7,7 @@ use mathlib.Core.Path.{refl, _≡_}
 use Prim.Native.Nat.{ℕ}
 use Prim.Native.String.{String}
 use lib.ListN.{replicate}
-use Rattle.decision.specs.Entry.{Reply, admit, checkPreconditions, decide, evaluate, outputAfter, select, workAfter}
+use Rattle.decision.specs.Entry.{Reply, admit, checkInvariants, checkPreconditions, decide, evaluate, outputAfter, select, workAfter}
 use Rattle.reader.specs.Bytes.{Bytes, ascii}
 
 pub record Row : Type 0 where
@@ -58,8 +58,12 @@ rows =
     -- Rules, their names and messages
     row checkPreconditions (sheet "{}" "\"preconditions\":[{\"assert\":true},{\"assert\":false}],\"invariants\":[],\"outcomes\":[]") 15 (says "(refused 15 1 () \"condition evaluated to false\")") ∷
     row checkPreconditions (sheet "{}" "\"preconditions\":[{\"assert\":{\"eq\":[\"$args.v\",1]},\"name\":\"\\u001f\\\"\"}],\"invariants\":[],\"outcomes\":[]") 16 (says "(refused 16 0 \"\\u001f\\\"\" \"condition could not be evaluated\" (names \"$args.v\"))") ∷
+    row checkPreconditions (sheet "{}" "\"preconditions\":[{\"assert\":{\"any\":[true,{\"eq\":[\"$args.a\",1]}]}},{\"assert\":{\"eq\":[\"$args.b\",1]}}],\"invariants\":[],\"outcomes\":[]") 16 (says "(refused 16 1 () \"condition could not be evaluated\" (names \"$args.b\"))") ∷
+    row checkInvariants (sheet "{}" "\"preconditions\":[{\"assert\":false}],\"invariants\":[{\"assert\":false,\"message\":\"m\"}],\"outcomes\":[]") 17 (says "(refused 17 0 () \"m\")") ∷
+    row checkInvariants (sheet "{}" "\"preconditions\":[],\"invariants\":[{\"assert\":{\"not\":{\"eq\":[\"$fields.f\",1]}},\"name\":\"n\"}],\"outcomes\":[]") 18 (says "(refused 18 0 \"n\" \"condition could not be evaluated\" (names \"$fields.f\"))") ∷
     -- Outcomes and admission
     row select (sheet "{}" "\"preconditions\":[],\"invariants\":[],\"outcomes\":[{\"name\":\"w\",\"wrong_state\":true},{\"name\":\"o\",\"in_state\":\"x\"}]") 0 (says "(selected 1 \"o\")") ∷
+    row select (sheet "{}" "\"preconditions\":[],\"invariants\":[],\"outcomes\":[{\"name\":\"o\",\"when\":false},{\"name\":\"p\",\"when\":{\"gt\":[\"$args.v\",1]}},{\"name\":\"q\"}]") 20 (says "(refused 20 1 \"p\" (names \"$args.v\"))") ∷
     row select (sheet "{}" "\"state\":\"a\",\"preconditions\":[],\"invariants\":[],\"outcomes\":[{\"name\":\"o\",\"in_state\":\"x\"}]") 19 (says "(refused 19)") ∷
     row decide (sheet "{}" "\"state\":\"z\",\"preconditions\":[],\"invariants\":[],\"outcomes\":[{\"name\":\"o\",\"effect\":{\"moves\":{\"to\":\"b\",\"from\":[\"a\",\"a\"]}}}]") 22 (says "(refused 22 0 \"o\" \"z\" (from \"a\" \"a\"))") ∷
     row decide (sheet "{}" "\"state\":\"b\",\"preconditions\":[],\"invariants\":[],\"outcomes\":[{\"name\":\"o\",\"effect\":{\"moves\":{\"to\":\"b\",\"from\":\"a\"}}}]") 21 (says "(refused 21 \"b\")") ∷
@@ -69,7 +73,7 @@ rows =
     []
 
 pub sentences : map (λ r. r .answer) rows ≡ map (λ r. r .wanted) rows
-unfolding admit checkPreconditions decide evaluate select
+unfolding admit checkInvariants checkPreconditions decide evaluate select
 sentences = refl
 
 -- a call leaves zeros in the first 16,384 words and the further ones as they were; after 1 all words are as they were
