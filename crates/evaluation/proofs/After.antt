@@ -1,17 +1,17 @@
 -- Marking leaves what the rows give: a node, nodes one after the other, the sheet's members; and the names that are marked.
 -- Assumes nothing.
 use mathlib.Core.Bool.{Bool, false, true}
-use mathlib.Core.List.{List, List·Memᴰ·cases-cons, List·Memᴰ·head, List·Memᴰ·not-nil, List·Memᴰ·tail, _++_, _∷_}
+use mathlib.Core.List.{List, List·Memᴰ·cases-cons, List·Memᴰ·head, List·Memᴰ·not-nil, List·Memᴰ·tail, _∷_}
 use mathlib.Core.Logic.{⊎-elim}
 use mathlib.Core.Option.{Option}
 use mathlib.Core.Path.{ap, refl, sym, _∙_, _≡_}
 use Prim.Native.Nat.{suc, zero, ℕ, _%_, _*_, _+_, _-_, _/_, _<_, _≤_}
 use native.Mathlib.Omega.{arith}
 use lib.Dec.{eqb, ltb}
-use lib.ListN.{drop, getD, length, take, take-append-drop}
-use lib.Seq.{drop-append-seam, take-add, take-append-seam, take-take}
+use lib.ListN.{getD, length}
 use borrow.Author.Tests.{eqb-false, eqb-true, ltb-true}
 use Rattle.reader.proofs.Decoded.{length-rows, length-rowsIn}
+use Rattle.reader.proofs.Prefix.{begins-prefix}
 use Rattle.reader.proofs.Walk.{after-node, members-more, value-is, values-are}
 use Rattle.reader.specs.Bytes.{Bytes}
 use Rattle.reader.specs.Held.{AreMembers, AreNodes, Begins, HasMembers, HasNode, IsNode, NodeAt, NodesAt}
@@ -26,8 +26,8 @@ use Rattle.reader.specs.Spans.{textAt}
 use Rattle.reader.specs.Table.{afterAt, kindAt, rows, rowsIn, startAt, valueAt, valuesAt}
 use Rattle.reader.specs.declared.rows.Found.{Found}
 use Rattle.reader.specs.declared.rows.Found.the-variants as founds
-use Rattle.sheet.specs.Accepted.{Accepted, ConditionsGive, EachGives, Gives, MayGive, Stored}
-use Rattle.sheet.specs.Condition.{Condition, Conditions, condition, conditionsIn}
+use Rattle.sheet.specs.Accepted.{Accepted, EachGives, Gives, MayGive, Stored}
+use Rattle.sheet.specs.Condition.{Condition, condition}
 use Rattle.sheet.specs.Kinds.{aText, eachOf}
 use Rattle.sheet.specs.Sheet.{Sheet}
 use Rattle.sheet.specs.declared.shape.Members.{Members}
@@ -38,18 +38,9 @@ use Rattle.operands.proofs.Words.{row-word, same-link, same-row-word, same-rows
 use Rattle.operands.specs.Marks.{Left, Marked}
 use Rattle.operands.specs.Stored.{table}
 
--- ---- words among the first n
-part-of : (n i m : ℕ) (w : List ℕ) → i + m ≤ n → take m (drop i w) ≡ drop (length (take i (take n w))) (take (i + m) (take n w))
-part-of n i m w h = let l : i ≤ n = omega arith in rw (take-take i n w l, take-take (i + m) n w h, take-add i m w) (sym (drop-append-seam (take i w) (take m (drop i w))))
-
-part-same : (n i m : ℕ) (w w′ : List ℕ) → i + m ≤ n → take n w′ ≡ take n w → take m (drop i w′) ≡ take m (drop i w)
-part-same n i m w w′ h e = part-of n i m w′ h ∙ ap (λ (l : List ℕ). drop (length (take i l)) (take (i + m) l)) e ∙ sym (part-of n i m w h)
-
+-- ---- words of the rows
 begins-rows : (w w′ : List ℕ) (i : ℕ) (vs : List ℕ) → table w′ ≡ table w → i + length vs ≤ 12288 → Begins w i vs → Begins w′ i vs
-begins-rows w w′ i vs e h (r, b) = (
-  drop (length vs) (drop i w′),
-  sym (take-append-drop (length vs) (drop i w′)) ∙ ap (λ (l : List ℕ). l ++ drop (length vs) (drop i w′)) (part-same 12288 i (length vs) w w′ h (same-rows w w′ e) ∙ ap (take (length vs)) b ∙ take-append-seam vs r),
-)
+begins-rows w w′ i vs e h b = begins-prefix w w′ 12288 (same-rows w w′ e) i vs h b
 
 -- ---- nodes
 pub node-rows : {s : Bytes} {w w′ : List ℕ} {left n : ℕ} → table w′ ≡ table w → IsNode s w left n → IsNode s w′ left n × (valueAt s w′ n ≡ valueAt s w n)
@@ -122,9 +113,6 @@ may-give-rows kind s w w′ (founds.At n) o e (a, i, g) = (a, i, gives-rows e g)
 pub each-gives-rows : {A : Type 0} {kind : Value → Result A} {s : Bytes} {w w′ : List ℕ} {k e : ℕ} {xs : List A} → table w′ ≡ table w → EachGives kind s w k e xs → EachGives kind s w′ k e xs
 each-gives-rows {kind = kind} q g = let x = nodes-rows q (g .nodes) in record { nodes = x .0; isTidy = ap (tidyIn maxNumber) (x .1) ∙ g .isTidy; is = ap (λ (v : Values). eachOf kind (elements (sortedIn v))) (x .1) ∙ g .is }
 
-pub conditions-rows : {s : Bytes} {w w′ : List ℕ} {k e : ℕ} {cs : Conditions} → table w′ ≡ table w → ConditionsGive s w k e cs → ConditionsGive s w′ k e cs
-conditions-rows q g = let x = nodes-rows q (g .nodes) in record { nodes = x .0; isTidy = ap (tidyIn maxNumber) (x .1) ∙ g .isTidy; is = ap (λ (v : Values). conditionsIn (sortedIn v)) (x .1) ∙ g .is }
-
 stored-rows : {s : Bytes} {w w′ : List ℕ} → table w′ ≡ table w → Stored s w → Stored s w′
 stored-rows e g = let x = node-rows e (g .node) in record { reads = g .reads ∙ ap {B = Result Value} (λ v. ok v) (sym (x .1)); node = x .0; linked = linked-rows e (g .linked) }
 
@@ -155,9 +143,6 @@ linked-table {w = w} l = linked-rows (table-twice w) l
 
 pub gives-table : {A : Type 0} {kind : Value → Result A} {s : Bytes} {w : List ℕ} {n : ℕ} {a : A} → Gives kind s w n a → Gives kind s (table w) n a
 gives-table {w = w} g = gives-rows (table-twice w) g
-
-pub table-gives : {A : Type 0} {kind : Value → Result A} {s : Bytes} {w : List ℕ} {n : ℕ} {a : A} → Gives kind s (table w) n a → Gives kind s w n a
-table-gives {w = w} g = gives-rows (sym (table-twice w)) g
 
 -- ---- the texts of the marked nodes are those that are marked
 module _ (s : Bytes) (w : List ℕ) (x : Bytes) where

@@ -15,7 +15,6 @@ use Rattle.reader.proofs.Walk.{after-node, inside, isArray, isObject, isPlain, 
 use Rattle.reader.specs.Bytes.{Bytes}
 use Rattle.reader.specs.Cursor.{OnText}
 use Rattle.reader.specs.Held.{AreNodes, IsNode}
-use Rattle.reader.specs.Json.{array}
 use Rattle.reader.specs.Json as json
 use Rattle.reader.specs.Limits.{maxNodes}
 use Rattle.reader.specs.Refusal.{Result, ok, refused}

@@ -3,17 +3,17 @@
 use mathlib.Core.Bool.{Bool, false, true}
 use mathlib.Core.List.{List, [], _∷_}
 use mathlib.Core.Path.{ap, refl, sym, _∙_, _≡_}
-use Prim.Native.Nat.{Ordering, Ordering·eq, Ordering·gt, Ordering·lt, suc, zero, ℕ, _+_, _-_, _<_, _≤_}
+use Prim.Native.Nat.{suc, zero, ℕ, _+_, _-_, _<_, _≤_}
 use native.Mathlib.Omega.{arith}
 use lib.Dec.{ltb}
 use lib.Seq.{slice}
 use borrow.Author.Tests.{ltb-true}
-use Rattle.reader.specs.KeyOrder.{inOrder, namesAt, namesBy, nodesOf, put}
+use Rattle.reader.specs.KeyOrder.{inOrder, namesAt, namesBy, nodesOf}
 use Rattle.reader.specs.Links.{Linked, linkAt, linkedBy}
-use Rattle.reader.proofs.KeyOrder.{ascending-members}
+use Rattle.reader.proofs.KeyOrder.{Each, ascending-members, each-inOrder}
 use Rattle.reader.proofs.Sorted.{valued}
 use Rattle.reader.proofs.Walk.{View, after-node, isArray, isObject, isPlain, members-more, values-more, view}
-use Rattle.reader.specs.Bytes.{Bytes, orderBytes}
+use Rattle.reader.specs.Bytes.{Bytes}
 use Rattle.reader.specs.Cursor.{OnText}
 use Rattle.reader.specs.Fits.{FitsLeaf, Numeral, Text}
 use Rattle.reader.specs.Held.{AreMembers, AreNodes, HasMembers, HasNode}
@@ -145,27 +145,6 @@ items-by f t (suc m) k e = go (ltb k e) refl (items-by f t m (afterAt t k) e)
 pub items-are : (s : Bytes) (t : List ℕ) (n : ℕ) → itemsOf s t n ≡ fromNodes (tree s t) (kids s t n false)
 unfolding itemsOf valuesAt kids tree
 items-are s t n = items-by (valueAt s t) t (afterAt t n - (n + 1)) (n + 1) (afterAt t n)
-
--- what holds of each name holds of each in their order
-module _ (P : Bytes × ℕ → Type 0) where
-  unfoldable Each : List (Bytes × ℕ) → Type 0
-  Each [] = Unit {0}
-  Each (x ∷ xs) = P x × Each xs
-
-  each-put : (x : Bytes × ℕ) (ys : List (Bytes × ℕ)) → P x → Each ys → Each (put x ys)
-  unfolding put Each
-  each-put x [] p h = (p, tt)
-  each-put x (y ∷ ys) p h = go (orderBytes (x .0) (y .0)) refl (each-put x ys p (h .1))
-    where
-      go : (o : Ordering) → orderBytes (x .0) (y .0) ≡ o → Each (put x ys) → Each (put x (y ∷ ys))
-      go Ordering·lt q below = rw (q, put) (p, h)
-      go Ordering·eq q below = rw (q, put) h
-      go Ordering·gt q below = rw (q, put) (h .0, below)
-
-  each-inOrder : (xs : List (Bytes × ℕ)) → Each xs → Each (inOrder xs)
-  unfolding inOrder Each
-  each-inOrder [] h = tt
-  each-inOrder (x ∷ xs) h = each-put x (inOrder xs) (h .0) (each-inOrder xs (h .1))
 
 -- each name is that of its node
 module _ (s : Bytes) (t : List ℕ) where

@@ -12,7 +12,8 @@ use native.Mathlib.Omega.{arith}
 use borrow.Author.Tests.{not-true}
 use Rattle.order.specs.ByText.{TextNode, TextNodes, byKey, insert, keyAt}
 use Rattle.reader.proofs.Sorted.{OrderView, isEq′, isGt, isLt, order-view}
-use Rattle.reader.proofs.Laws.{sameBytes-refl}
+use Rattle.reader.proofs.KeyOrder.{Each, each-inOrder}
+use Rattle.reader.proofs.Laws.{both-true, sameBytes-refl}
 use Rattle.reader.specs.Bytes.{Bytes, isOneOf, orderBytes, sameBytes}
 use Rattle.reader.specs.Json.{Members, Value, keys}
 use Rattle.reader.specs.KeyOrder.{inOrder, namesAt, namesBy, nodesOf, put}
@@ -63,26 +64,6 @@ module _ (key : ℕ → Bytes) where
       go (inl e) more = List·Memᴰ·head e
       go (inr j) more = List·Memᴰ·tail (more j)
 
-  insert-keeps : {x : ℕ} (n : ℕ) (l : List ℕ) → List·Memᴰ x (n ∷ l) → List·Memᴰ x (insert key n l)
-  unfolding insert
-  insert-keeps n [] i = i
-  insert-keeps {x} n (m ∷ ms) i = go (orderBytes (key n) (key m)) refl (insert-keeps n ms)
-    where
-      past : (List·Memᴰ x (n ∷ ms) → List·Memᴰ x (insert key n ms)) → (x ≡ n) ⊎ List·Memᴰ x (m ∷ ms) → List·Memᴰ x (m ∷ insert key n ms)
-      past more (inl e) = List·Memᴰ·tail (more (List·Memᴰ·head e))
-      past more (inr (List·Memᴰ·head e)) = List·Memᴰ·head e
-      past more (inr (List·Memᴰ·tail j)) = List·Memᴰ·tail (more (List·Memᴰ·tail j))
-
-      go : (o : Ordering) → orderBytes (key n) (key m) ≡ o → (List·Memᴰ x (n ∷ ms) → List·Memᴰ x (insert key n ms)) → List·Memᴰ x (insert key n (m ∷ ms))
-      go Ordering·lt e more = rw (e, insert) i
-      go Ordering·eq e more = rw (e, insert) i
-      go Ordering·gt e more = rw (e, insert) (past more (List·Memᴰ·cases-cons i))
-
-  pub byKey-keeps : {x : ℕ} {l : List ℕ} → List·Memᴰ x l → List·Memᴰ x (byKey key l)
-  unfolding byKey
-  byKey-keeps (List·Memᴰ·head {xs = ns} e) = insert-keeps _ (byKey key ns) (List·Memᴰ·head e)
-  byKey-keeps (List·Memᴰ·tail {xs = ns} i) = insert-keeps _ (byKey key ns) (List·Memᴰ·tail (byKey-keeps i))
-
 -- ---- nodes whose texts can be compared
 module _ (s : Bytes) (w : List ℕ) where
   pub text-all : (ns : List ℕ) → ((n : ℕ) → List·Memᴰ n ns → TextNode s w n) → TextNodes s w ns
@@ -127,38 +108,19 @@ module _ (s : Bytes) (w : List ℕ) where
   text-append (n ∷ ns) ms t u = (t .0, text-append ns ms (t .1) u)
 
 -- ---- an object's names
-data Each (P : Bytes × ℕ → Type 0) : List (Bytes × ℕ) → Type 0 where
-  eachNone : Each P []
-  eachMore : {x : Bytes × ℕ} {xs : List (Bytes × ℕ)} → P x → Each P xs → Each P (x ∷ xs)
-
-each-put : {P : Bytes × ℕ → Type 0} (x : Bytes × ℕ) {ys : List (Bytes × ℕ)} → P x → Each P ys → Each P (put x ys)
-unfolding put
-each-put x p eachNone = eachMore p eachNone
-each-put {P} x p (eachMore {x = y} {xs = ys} q r) = go (orderBytes (x .0) (y .0)) refl (each-put x p r)
-  where
-    go : (o : Ordering) → orderBytes (x .0) (y .0) ≡ o → Each P (put x ys) → Each P (put x (y ∷ ys))
-    go Ordering·lt e more = rw (e, put) (eachMore p (eachMore q r))
-    go Ordering·eq e more = rw (e, put) (eachMore q r)
-    go Ordering·gt e more = rw (e, put) (eachMore q more)
-
-each-inOrder : {P : Bytes × ℕ → Type 0} {xs : List (Bytes × ℕ)} → Each P xs → Each P (inOrder xs)
-unfolding inOrder
-each-inOrder eachNone = eachNone
-each-inOrder (eachMore {x} p r) = each-put x p (each-inOrder r)
-
 -- a name with its node that is another than this one
 abbrev Other : (ℕ → Bytes) → Bytes → Bytes × ℕ → Type 0
 Other key k x = (x .0 ≡ key (x .1)) × (k ≡ x .0 → ⊥)
 
-put-nodes : (key : ℕ → Bytes) (n : ℕ) {ys : List (Bytes × ℕ)} → Each (Other key (key n)) ys → insert key n (nodesOf ys) ≡ nodesOf (put (key n, n) ys)
-unfolding insert put nodesOf
-put-nodes key n eachNone = refl
-put-nodes key n (eachMore {x = y} {xs = ys} q r) = go (orderBytes (key n) (y .0)) (order-view (key n) (y .0)) refl (put-nodes key n r)
+put-nodes : (key : ℕ → Bytes) (n : ℕ) (ys : List (Bytes × ℕ)) → Each (Other key (key n)) ys → insert key n (nodesOf ys) ≡ nodesOf (put (key n, n) ys)
+unfolding insert put nodesOf Each
+put-nodes key n [] h = refl
+put-nodes key n (y ∷ ys) h = go (orderBytes (key n) (y .0)) (order-view (key n) (y .0)) refl (put-nodes key n ys (h .1))
   where
     go : (o : Ordering) → OrderView (key n) (y .0) o → orderBytes (key n) (y .0) ≡ o → insert key n (nodesOf ys) ≡ nodesOf (put (key n, n) ys) → insert key n (nodesOf (y ∷ ys)) ≡ nodesOf (put (key n, n) (y ∷ ys))
-    go o (isLt h) e more = rw (← (q .0), e, insert, put, nodesOf)
-    go o (isEq′ h) e more = absurd (q .1 h)
-    go o (isGt h) e more = rw (← (q .0), e, insert, put, nodesOf) (ap (λ (l : List ℕ). y .1 ∷ l) more)
+    go o (isLt l) e more = rw (← (h .0 .0), e, insert, put, nodesOf)
+    go o (isEq′ l) e more = absurd (h .0 .1 l)
+    go o (isGt l) e more = rw (← (h .0 .0), e, insert, put, nodesOf) (ap (λ (l : List ℕ). y .1 ∷ l) more)
 
 -- what a name that is none of these has before it
 not-one : (k : Bytes) (l : Bytes) (ls : List Bytes) → isOneOf k (l ∷ ls) ≡ false → (k ≡ l → ⊥) × (isOneOf k ls ≡ false)
@@ -170,19 +132,15 @@ not-one k l ls e = go (sameBytes k l) refl
     go false q = (λ p. false≢true (sym q ∙ rw p (sameBytes-refl l)), rw (q, isOneOf) at e)
 
 others : (f : ℕ → Value) (s : Bytes) (w : List ℕ) (n : Bytes) (m k e : ℕ) → isOneOf n (keys (membersBy f s w m k e)) ≡ false → Each (Other (keyAt s w) n) (namesBy s w m k e)
-unfolding membersBy namesBy
-others f s w n zero k e d = eachNone
+unfolding membersBy namesBy Each
+others f s w n zero k e d = tt
 others f s w n (suc m) k e d = go (ltb k e) refl (others f s w n m (afterAt w (k + 1)) e)
   where
     go : (b : Bool) → ltb k e ≡ b → (isOneOf n (keys (membersBy f s w m (afterAt w (k + 1)) e)) ≡ false → Each (Other (keyAt s w) n) (namesBy s w m (afterAt w (k + 1)) e)) → Each (Other (keyAt s w) n) (namesBy s w (suc m) k e)
     go true q more =
         let z = not-one n (keyAt s w k) (keys (membersBy f s w m (afterAt w (k + 1)) e)) (rw (q, membersBy) at d) in
-        rw (q, namesBy) (eachMore (refl, z .0) (more (z .1)))
-    go false q more = rw (q, namesBy) eachNone
-
-both-true : (a b : Bool) → (a && b) ≡ true → (a ≡ true) × (b ≡ true)
-both-true true b e = (refl, e)
-both-true false b e = absurd (false≢true e)
+        rw (q, namesBy) ((refl, z .0), more (z .1))
+    go false q more = rw (q, namesBy) tt
 
 names-by : (limit : ℕ) (f : ℕ → Value) (s : Bytes) (w : List ℕ) (m k e : ℕ) → tidyOf limit (membersBy f s w m k e) ≡ true → byKey (keyAt s w) (nodesOf (namesBy s w m k e)) ≡ nodesOf (inOrder (namesBy s w m k e))
 unfolding membersBy namesBy byKey inOrder nodesOf tidyOf
@@ -199,7 +157,7 @@ names-by limit f s w (suc m) k e t = go (ltb k e) refl (names-by limit f s w m (
     go true q more =
         let y = both-true (not (isOneOf (keyAt s w k) (keys ms))) (tidy limit (f (k + 1)) && tidyOf limit ms) (rw (q, membersBy, tidyOf) at t) in
         let z = both-true (tidy limit (f (k + 1))) (tidyOf limit ms) (y .1) in
-        rw (q, namesBy) (ap (insert (keyAt s w) k) (more (z .1)) ∙ put-nodes (keyAt s w) k (each-inOrder (others f s w (keyAt s w k) m (afterAt w (k + 1)) e (not-true _ (y .0)))))
+        rw (q, namesBy) (ap (insert (keyAt s w) k) (more (z .1)) ∙ put-nodes (keyAt s w) k (inOrder ns) (each-inOrder (Other (keyAt s w) (keyAt s w k)) ns (others f s w (keyAt s w k) m (afterAt w (k + 1)) e (not-true _ (y .0)))))
     go false q more = rw (q, namesBy)
 
 -- Where no name stands twice, an object's names sorted are its names in order.

@@ -19,7 +19,8 @@ use Rattle.order.proofs.Chains.{chained-further, chained-leads, chained
 use Rattle.order.proofs.Distinct.{Distinct, distinct-sorted, oneMore}
 use Rattle.order.proofs.Names.{name-row, names-ascend, names-few}
 use Rattle.order.proofs.Owned.{owned}
-use Rattle.order.proofs.Prefix.{names-rows, word-prefix}
+use Rattle.order.proofs.Prefix.{names-rows}
+use Rattle.reader.proofs.Prefix.{word-prefix}
 use Rattle.order.proofs.Rows.{ObjectRow, object-row}
 use Rattle.order.specs.ByText.{TextNodes, byKey, keyAt}
 use Rattle.order.specs.Chained.{AllSmall, orderedAt}

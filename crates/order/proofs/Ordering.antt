@@ -18,7 +18,8 @@ use Rattle.reader.specs.Marks.{firstMark}
 use Rattle.reader.specs.Table.{afterAt, kindAt, valueAt}
 use Rattle.order.proofs.Clearing.{cleared-further}
 use Rattle.order.proofs.Linking.{count-small, fewer, further-words, linked-here, linked-there, object, rows}
-use Rattle.order.proofs.Prefix.{node-rows, word-prefix}
+use Rattle.order.proofs.Prefix.{node-rows}
+use Rattle.reader.proofs.Prefix.{word-prefix}
 use Rattle.order.specs.Chained.{ClearedBehind, orderedAt}
 use Rattle.order.specs.Ordered.{LinkedUpto, Ordered, Unordered}
 

@@ -1,35 +1,18 @@
 -- Nodes and names are told by the words up to the end of their rows: another table that begins with these holds the same.
 -- Assumes nothing.
-use mathlib.Core.List.{List, _++_}
-use mathlib.Core.Path.{ap, sym, _∙_, _≡_}
-use Prim.Native.Nat.{ℕ, _*_, _+_, _<_, _≤_}
+use mathlib.Core.List.{List}
+use mathlib.Core.Path.{sym, _∙_, _≡_}
+use Prim.Native.Nat.{ℕ, _*_, _+_, _<_}
 use native.Mathlib.Omega.{arith}
-use lib.ListN.{drop, getD, length, take, take-append-drop}
-use lib.Seq.{drop-append-seam, getD-take, take-add, take-append-seam, take-take}
+use lib.ListN.{take}
 use Rattle.reader.proofs.Decoded.{length-rows, length-rowsOf, node-after}
+use Rattle.reader.proofs.Prefix.{begins-prefix, word-prefix}
 use Rattle.reader.proofs.Walk.{members-more, value-is}
 use Rattle.reader.specs.Bytes.{Bytes}
-use Rattle.reader.specs.Held.{AreMembers, Begins, HasMembers, IsNode, NodeAt}
+use Rattle.reader.specs.Held.{AreMembers, HasMembers, IsNode, NodeAt}
 use Rattle.reader.specs.KeyOrder.{namesAt}
 use Rattle.reader.specs.Table.{afterAt, rows, rowsOf, valueAt}
 use Rattle.order.proofs.Names.{by-members, names-done, names-more}
-
--- ---- words among the first n
-part-of : (n i m : ℕ) (w : List ℕ) → i + m ≤ n → take m (drop i w) ≡ drop (length (take i (take n w))) (take (i + m) (take n w))
-part-of n i m w h = let l : i ≤ n = omega arith in rw (take-take i n w l, take-take (i + m) n w h, take-add i m w) (sym (drop-append-seam (take i w) (take m (drop i w))))
-
-module _ (w v : List ℕ) (n : ℕ) (e : take n v ≡ take n w) where
-  pub word-prefix : (i : ℕ) → i < n → getD v i 0 ≡ getD w i 0
-  word-prefix i l = sym (getD-take n v i 0 l) ∙ ap (λ (x : List ℕ). getD x i 0) e ∙ getD-take n w i 0 l
-
-  begins-prefix : (i : ℕ) (vs : List ℕ) → i + length vs ≤ n → Begins w i vs → Begins v i vs
-  begins-prefix i vs h (r, b) = (
-    drop (length vs) (drop i v),
-    sym (take-append-drop (length vs) (drop i v)) ∙ ap (λ (x : List ℕ). x ++ drop (length vs) (drop i v)) (part ∙ ap (take (length vs)) b ∙ take-append-seam vs r),
-  )
-    where
-      part : take (length vs) (drop i v) ≡ take (length vs) (drop i w)
-      part = part-of n i (length vs) v h ∙ ap (λ (x : List ℕ). drop (length (take i x)) (take (i + length vs) x)) e ∙ sym (part-of n i (length vs) w h)
 
 module _ (s : Bytes) (w v : List ℕ) where
   -- ---- a node
@@ -45,9 +28,6 @@ module _ (s : Bytes) (w v : List ℕ) where
     are-members {left} {k} h =
         let f = h .held in
         record { tree = h .tree; held = record { words = begins-prefix w v (3 * e) same (3 * k) (rowsOf (h .tree) k) (omega (arith, length-rowsOf (h .tree) k, f .upto)) (f .words); upto = f .upto; shallow = f .shallow; fits = f .fits }; depth = h .depth; most = h .most }
-
-    pub members-rows : {k : ℕ} → HasMembers s w k e → HasMembers s v k e
-    members-rows h = record { left = h .left; members = are-members (h .members) }
 
     pub names-rows : {k : ℕ} → HasMembers s w k e → namesAt s v k e ≡ namesAt s w k e
     names-rows {k} h = by-members s w (λ i. namesAt s v i e ≡ namesAt s w i e) (λ i l. names-done s v l ∙ sym (names-done s w l)) more k (h .members)

@@ -4,13 +4,11 @@ use mathlib.Core.Bool.{Bool, false, false≢true, not, true, _&&_}
 use mathlib.Core.Logic.{inl, inr, _⊎_, _≢_}
 use mathlib.Core.Path.{ap, refl, sym, _∙_, _≡_}
 use Prim.Native.Nat.{Ordering, ℕ}
-use lib.Dec.{leb}
-use lib.ListN.{length}
-use Rattle.reader.proofs.Laws.{sameBytes-refl, sameBytes-true}
+use Rattle.reader.proofs.Laws.{both-true, sameBytes-refl, sameBytes-true}
 use Rattle.reader.proofs.Sorted.{Less, OrderView, isEq′, isGt, isLt, less-order, less-trans, more-order, order-view, same-order}
 use Rattle.reader.specs.Alike.{Alike, AlikeIn, AlikeOf, Among, bothArray, bothBool, bothNull, bothNumber, bothObject, bothText, further, here, noElement, noMember, oneElement, oneMember}
 use Rattle.reader.specs.Bytes.{Bytes, isOneOf, orderBytes, sameBytes}
-use Rattle.reader.specs.Json.{Members, Value, Values, array, bool, cons, empty, keys, member, nil, null, number, object, text}
+use Rattle.reader.specs.Json.{Members, Value, Values, array, empty, keys, member, object}
 use Rattle.reader.specs.Limits.{tidy, tidyIn, tidyOf}
 use Rattle.reader.specs.Sorted.{insert, sorted, sortedIn, sortedOf}
 
@@ -122,10 +120,6 @@ none-alike k ms ns noMember e = e
 none-alike k ms ns (oneMember {k = j} {v} {w} {ms = as′} {ns = bs} {ns′} a h p) e = none-among k j w bs ns′ p (not-first k j v as′ e) (none-alike k as′ bs h (not-rest k j v as′ e))
 
 -- what tidy says of the parts
-both-true : (a b : Bool) → (a && b) ≡ true → (a ≡ true) × (b ≡ true)
-both-true true b h = (refl, h)
-both-true false b h = absurd (false≢true h)
-
 not-true : (b : Bool) → not b ≡ true → b ≡ false
 not-true true h = absurd (false≢true h)
 not-true false h = refl

@@ -207,3 +207,52 @@ module _ {l m : Bytes} where
 pub begins-none : {l : Bytes} (m : Bytes) → l ≡ [] → begins l m ≡ true
 unfolding begins
 begins-none m p = rw p
+
+-- ---- texts by the bytes that stand in the sheet: the first byte is the text's own, unless it ends the text or begins an escape
+module _ {s : Bytes} {at : ℕ} (o : OnText s at 0) where
+  pub text-ends : getD s at 0 ≡ 34 → textAt s at ≡ []
+  unfolding before
+  text-ends e = turn-end s at 0 0 o refl e
+
+  module _ (f : getD s at 0 ≡ 34 → ⊥) (g : getD s at 0 ≡ 92 → ⊥) where
+    pub text-begins : textAt s at ≡ getD s at 0 ∷ textAt s (at + 1)
+    unfolding before
+    text-begins = turn-raw s at 0 0 o refl f g .byte
+
+    pub text-behind : OnText s (at + 1) 0
+    text-behind = turn-raw s at 0 0 o refl f g .onText
+
+-- two texts that begin with the same bytes: what stands behind these decides their order
+pub record Abreast (s : Bytes) (a b n : ℕ) : Type 0 where
+  pub onA : OnText s (a + n) 0
+  pub onB : OnText s (b + n) 0
+  pub same : orderBytes (textAt s a) (textAt s b) ≡ orderBytes (textAt s (a + n)) (textAt s (b + n))
+
+pub abreast : (s : Bytes) (a b : ℕ) → OnText s a 0 → OnText s b 0 → Abreast s a b 0
+abreast s a b p q = let x : a + 0 ≡ a = omega arith in let y : b + 0 ≡ b = omega arith in record { onA = rw x p; onB = rw y q; same = rw (x, y) }
+
+module _ {s : Bytes} {a b n : ℕ} (l : Abreast s a b n) where
+  pub abreast-inA : a + n < length s
+  abreast-inA = omega (arith, l .onA .text .order, l .onA .text .upto)
+
+  pub abreast-inB : b + n < length s
+  abreast-inB = omega (arith, l .onB .text .order, l .onB .text .upto)
+
+  pub abreast-end : getD s (a + n) 0 ≡ getD s (b + n) 0 → getD s (a + n) 0 ≡ 34 → orderBytes (textAt s a) (textAt s b) ≡ Ordering·eq
+  abreast-end e q = l .same ∙ order-none (text-ends (l .onA) q) (text-ends (l .onB) (sym e ∙ q))
+
+  module _ (f : getD s (a + n) 0 ≡ 34 → ⊥) (g : getD s (a + n) 0 ≡ 92 → ⊥) where
+    pub abreast-on : getD s (a + n) 0 ≡ getD s (b + n) 0 → Abreast s a b (n + 1)
+    abreast-on e =
+        let f′ : getD s (b + n) 0 ≡ 34 → ⊥ = λ q. f (e ∙ q) in
+        let g′ : getD s (b + n) 0 ≡ 92 → ⊥ = λ q. g (e ∙ q) in
+        let x : a + (n + 1) ≡ a + n + 1 = omega arith in
+        let y : b + (n + 1) ≡ b + n + 1 = omega arith in
+        record { onA = rw x (text-behind (l .onA) f g); onB = rw y (text-behind (l .onB) f′ g′); same = l .same ∙ order-on (text-begins (l .onA) f g) (text-begins (l .onB) f′ g′) e ∙ rw (x, y) }
+
+    module _ (f′ : getD s (b + n) 0 ≡ 34 → ⊥) (g′ : getD s (b + n) 0 ≡ 92 → ⊥) where
+      pub abreast-less : getD s (a + n) 0 < getD s (b + n) 0 → orderBytes (textAt s a) (textAt s b) ≡ Ordering·lt
+      abreast-less h = l .same ∙ order-less (text-begins (l .onA) f g) (text-begins (l .onB) f′ g′) h
+
+      pub abreast-more : getD s (b + n) 0 < getD s (a + n) 0 → orderBytes (textAt s a) (textAt s b) ≡ Ordering·gt
+      abreast-more h = l .same ∙ order-more (text-begins (l .onA) f g) (text-begins (l .onB) f′ g′) h

@@ -1,14 +1,14 @@
 -- An object's names in the table, and its members in ascending order from them.
 -- Assumes nothing.
 use mathlib.Core.Bool.{Bool, false, true}
-use mathlib.Core.List.{List, _∷_}
+use mathlib.Core.List.{List, [], _∷_}
 use mathlib.Core.Path.{ap, refl, _∙_, _≡_}
-use Prim.Native.Nat.{suc, zero, ℕ, _+_, _-_}
+use Prim.Native.Nat.{Ordering, Ordering·eq, Ordering·gt, Ordering·lt, suc, zero, ℕ, _+_, _-_}
 use lib.Dec.{ltb}
 use Rattle.reader.proofs.Sorted.{each-valued, eachSorted, entries-sorted, inOrder-valued, valued}
-use Rattle.reader.specs.Bytes.{Bytes}
+use Rattle.reader.specs.Bytes.{Bytes, orderBytes}
 use Rattle.reader.specs.Json.{Value, entries}
-use Rattle.reader.specs.KeyOrder.{inOrder, namesAt, namesBy}
+use Rattle.reader.specs.KeyOrder.{inOrder, namesAt, namesBy, put}
 use Rattle.reader.specs.Sorted.{sorted, sortedOf}
 use Rattle.reader.specs.Spans.{textAt}
 use Rattle.reader.specs.Table.{afterAt, membersAt, membersBy, startAt, valueAt}
@@ -32,3 +32,24 @@ ascending-members s w k e =
     ∙ ap (λ (l : List (Bytes × Value)). inOrder (eachSorted l)) (entries-by (valueAt s w) s w (e - k) k e)
     ∙ ap inOrder (each-valued (λ j. valueAt s w (j + 1)) ns)
     ∙ inOrder-valued (λ j. sorted (valueAt s w (j + 1))) ns
+
+-- what holds of each name holds of each in their order
+module _ (P : Bytes × ℕ → Type 0) where
+  unfoldable pub Each : List (Bytes × ℕ) → Type 0
+  Each [] = Unit {0}
+  Each (x ∷ xs) = P x × Each xs
+
+  each-put : (x : Bytes × ℕ) (ys : List (Bytes × ℕ)) → P x → Each ys → Each (put x ys)
+  unfolding put Each
+  each-put x [] p h = (p, tt)
+  each-put x (y ∷ ys) p h = go (orderBytes (x .0) (y .0)) refl (each-put x ys p (h .1))
+    where
+      go : (o : Ordering) → orderBytes (x .0) (y .0) ≡ o → Each (put x ys) → Each (put x (y ∷ ys))
+      go Ordering·lt q below = rw (q, put) (p, h)
+      go Ordering·eq q below = rw (q, put) h
+      go Ordering·gt q below = rw (q, put) (h .0, below)
+
+  pub each-inOrder : (xs : List (Bytes × ℕ)) → Each xs → Each (inOrder xs)
+  unfolding inOrder Each
+  each-inOrder [] h = tt
+  each-inOrder (x ∷ xs) h = each-put x (inOrder xs) (h .0) (each-inOrder xs (h .1))

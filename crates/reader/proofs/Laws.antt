@@ -1,6 +1,6 @@
 -- Laws of the definitions: byte strings, tables, names.
 -- Assumes nothing.
-use mathlib.Core.Bool.{Bool, false, false≢true, true, true≢false}
+use mathlib.Core.Bool.{Bool, false, false≢true, true, true≢false, _&&_}
 use mathlib.Core.List.{List, [], _∷_}
 use mathlib.Core.Logic.{_≢_}
 use mathlib.Core.Option.{none, some}
@@ -116,3 +116,8 @@ ok-injective e = cc
 
 pub ok-not-refused {ℓ} : {A : Type 0} {X : Type ℓ} (a : A) (r : Refusal) → ok a ≡ refused r → X
 ok-not-refused a r e = let z : _≡_ {A = Bool} true false = cc in absurd (true≢false z)
+
+-- both of two
+pub both-true : (a b : Bool) → (a && b) ≡ true → (a ≡ true) × (b ≡ true)
+both-true true b h = (refl, h)
+both-true false b h = absurd (false≢true h)

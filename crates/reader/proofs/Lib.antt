@@ -14,6 +14,7 @@ pub mod Places
 pub mod Agree
 pub mod Decoded
 pub mod Walk
+pub mod Prefix
 pub mod Texts
 pub mod Cursor
 pub mod Scans

@@ -102,9 +102,6 @@ module _ (s : Bytes) (w : List ℕ) where
           isObject (x .isKind) (p .0) (value-is l r ∙ rw (x .isAfter) (ap object (sym (members-are d (p .1))))) (rw (x .isAfter) (record { tree = fs; held = p .1; depth = d; most = omega (arith, m) }))
 
   -- children, one after the other
-  pub ordered : {left k e : ℕ} → AreNodes s w left k e → k ≤ e
-  ordered h = omega (arith, h .held .upto)
-
   pub values-done : {left k e : ℕ} → AreNodes s w left k e → e ≤ k → valuesAt s w k e ≡ nil
   unfolding eraseIn sizeIn
   values-done {left} {k} {e} h q = go (h .tree) (h .held)

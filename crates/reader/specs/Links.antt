@@ -24,6 +24,6 @@ linkedBy w (suc m) k e = elim (ltb k e) [ true ↦ k ∷ linkedBy w m (linkAt w 
 abbrev pub LinkedAt : Bytes → List ℕ → ℕ → Type 0
 LinkedAt s w n = linkedBy w (afterAt w n - (n + 1)) (linkAt w n) (afterAt w n) ≡ nodesOf (inOrder (namesAt s w (n + 1) (afterAt w n)))
 
--- and so for every node that is an object; rows that are no node's may hold anything
+-- and so for every node that is an object
 pub record Linked (s : Bytes) (w : List ℕ) : Type 0 where
   pub links : (n : ℕ) → HasNode s w n → kindAt w n ≡ 6 → LinkedAt s w n

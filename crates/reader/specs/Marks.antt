@@ -1,4 +1,4 @@
--- Marks: word 12,288 + n is odd where node n is marked. Marking leaves the rows as they are.
+-- Marks: word 12,288 + n is odd where node n is marked. Marking leaves rows and links as they are.
 -- Assumes nothing.
 use mathlib.Core.Bool.{Bool, false, true}
 use mathlib.Core.List.{List, [], _∷_}

@@ -105,7 +105,7 @@ pub fn next(s: &[u8], c: Cursor) -> Step
 }
 
 // The order of two texts, decoded as they are compared.
-pub fn compare(s: &[u8], a: usize, b: usize) -> Order
+fn decoded(s: &[u8], a: usize, b: usize) -> Order
     requires { ⌜ OnText (now s) a 0 × OnText (now s) b 0 ⌝ }
     ensures { λ r. ⌜ orderBytes (textAt (now (s .entry)) a) (textAt (now (s .entry)) b) ≡ orderOf r ⌝ }
 {
@@ -131,6 +131,34 @@ pub fn compare(s: &[u8], a: usize, b: usize) -> Order
                 }
             },
         }
+    }
+}
+
+// The order of two texts. Few names have an escape, and many begin alike: up to the first escape or difference, bytes are compared as they stand.
+pub fn compare(s: &[u8], a: usize, b: usize) -> Order
+    requires { ⌜ OnText (now s) a 0 × OnText (now s) b 0 ⌝ }
+    ensures { λ r. ⌜ orderBytes (textAt (now (s .entry)) a) (textAt (now (s .entry)) b) ≡ orderOf r ⌝ }
+{
+    let mut n = 0;
+    loop {
+        let c = s[a + n];
+        let d = s[b + n];
+        if c != d {
+            if c == b'"' || c == b'\\' || d == b'"' || d == b'\\' {
+                return decoded(s, a + n, b + n);
+            }
+            if c < d {
+                return Order::Less;
+            }
+            return Order::More;
+        }
+        if c == b'"' {
+            return Order::Same;
+        }
+        if c == b'\\' {
+            return decoded(s, a + n, b + n);
+        }
+        n += 1;
     }
 }
 

@@ -50,7 +50,7 @@ module _ {s : Bytes} {w w′ : List ℕ} (o : OnlyMarks w w′) where
 
 -- ---- clearing the marks
 pub unmarking : (w : List ℕ) → Unmarked w w 12288
-unmarking w = record { only = marks-none w; zero = λ i h j. absurd (omega arith) }
+unmarking w = record { only = marks-none w; unmarked = λ i h j. absurd (omega arith) }
 
 even : (x : ℕ) → (2 * (x / 2) / 2 ≡ x / 2) × (2 * (x / 2) % 2 ≡ 0)
 even x = (omega arith, omega arith)
@@ -62,7 +62,7 @@ cleared-one w i h = let e : 12288 + (i - 12288) ≡ i = omega arith in rw e at (
 pub unmarked-one : {w w′ : List ℕ} {i : ℕ} → Unmarked w w′ i → 12288 ≤ i → i < 16384 → 16384 ≤ length w → Unmarked w (set w′ i (2 * (getD w′ i 0 / 2))) (i + 1)
 unmarked-one {w} {w′} {i} u low high large = record {
   only = marks-then (u .only) (record { rows = cleared-one w′ i low; long = length-set w′ i v; further = drop-set-lt 16384 w′ i v high });
-  zero = λ j h k. go j h k (eqb j i) refl;
+  unmarked = λ j h k. go j h k (eqb j i) refl;
 }
   where
     v : ℕ
@@ -72,7 +72,7 @@ unmarked-one {w} {w′} {i} u low high large = record {
     go j h k true q = ap (λ (x : ℕ). getD (set w′ i v) x 0 % 2) (eqb-true j i q) ∙ ap (λ (x : ℕ). x % 2) (getD-set-same w′ i v 0 (omega (arith, u .only .long))) ∙ even (getD w′ i 0) .1
     go j h k false q =
         let ne : j ≢ i = eqb-false j i q in
-        ap (λ (x : ℕ). x % 2) (getD-set-other w′ i j v 0 ne) ∙ u .zero j h (omega arith)
+        ap (λ (x : ℕ). x % 2) (getD-set-other w′ i j v 0 ne) ∙ u .unmarked j h (omega arith)
 
 -- ---- a condition evaluated over cleared marks
 module _ {s : Bytes} {w w₁ w′ : List ℕ} (large : 16384 ≤ length w) (u : Unmarked w w₁ 16384) where
@@ -80,7 +80,7 @@ module _ {s : Bytes} {w w₁ w′ : List ℕ} (large : 16384 ≤ length w) (u : 
   names-held l = record { size = omega (arith, u .only .long, l .long); texts = λ k h m. go k h (l .texts k h (eqb-true (getD w′ (12288 + k) 0 % 2) 1 m)) }
     where
       go : (k : ℕ) → k < 4096 → (getD w₁ (12288 + k) 0 % 2 ≡ 1) ⊎ HasKind s (table w₁) k 4 → OnText s (startAt w′ k) 0
-      go k h (inl m) = absurd (omega (arith, u .zero (12288 + k) (omega arith) (omega arith)))
+      go k h (inl m) = absurd (omega (arith, u .unmarked (12288 + k) (omega arith) (omega arith)))
       go k h (inr i) = subst (λ (x : ℕ). OnText s x 0) (sym (ap (λ (x : ℕ). x / 8) (row-word w′ (3 * k) (omega arith) ∙ ap (λ (t : List ℕ). getD t (3 * k) 0) (l .rows)))) (text-row i .onText)
 
   pub alone : {r : Outcome} {m : Result Answer} → EvaluatedAs s w₁ w′ r m → Alone s w w′ r m
@@ -92,6 +92,6 @@ module _ {s : Bytes} {w w₁ w′ : List ℕ} (large : 16384 ≤ length w) (u : 
   }
     where
       go : (x : Outcome) → Marks s (table w₁) (e .names) (e .met) x → OwnMarks s w′ (e .names) x
-      go (outcomes.Judged x) q = (names-held (e .left), names-marked (u .zero) (e .left) ∙ ap ascending q)
+      go (outcomes.Judged x) q = (names-held (e .left), names-marked (u .unmarked) (e .left) ∙ ap ascending q)
       go (outcomes.Unknown n) q = subst (λ (t : List ℕ). HasKind s t n 4) (sym (e .left .rows)) q
       go outcomes.NoId q = tt

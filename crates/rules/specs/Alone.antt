@@ -24,7 +24,7 @@ pub record OnlyMarks (w w′ : List ℕ) : Type 0 where
 -- no word below one is marked
 pub record Unmarked (w w′ : List ℕ) (upto : ℕ) : Type 0 where
   pub only : OnlyMarks w w′
-  pub zero : (i : ℕ) → 12288 ≤ i → i < upto → getD w′ i 0 % 2 ≡ 0
+  pub unmarked : (i : ℕ) → 12288 ≤ i → i < upto → getD w′ i 0 % 2 ≡ 0
 
 -- marked are the names of a judged condition, each at a text's node; the node of a refusal is a text's
 abbrev pub OwnMarks : Bytes → List ℕ → Names → Outcome → Type 0

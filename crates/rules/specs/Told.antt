@@ -40,7 +40,7 @@ answerOf truths.True = answers.True
 answerOf truths.False = answers.False
 answerOf truths.Unknown = answers.Unknown
 
--- an answer told over the table that it leaves: the rows stay, and so do the words behind the marks
+-- an answer told over the table that it leaves: rows and links stay, and so do the words behind the table
 pub record Answered (s : Bytes) (w w′ : List ℕ) (whole : Result Verdict) (r : Answer) : Type 0 where
   pub told : Told s w′ whole r
   pub rows : table w′ ≡ table w

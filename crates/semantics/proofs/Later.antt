@@ -1,6 +1,6 @@
 -- Evaluation on a sheet and again on one where readings give what they gave or nothing: the truth is the old one, or Unknown, and then a lost reading is among the names.
 -- Assumes nothing.
-use mathlib.Core.Bool.{Bool, false, false≢true, true, _&&_}
+use mathlib.Core.Bool.{Bool, false, false≢true, true}
 use mathlib.Core.List.{List, List·Memᴰ, List·Memᴰ·append-cases, List·Memᴰ·cases-cons, List·Memᴰ·eq-of-singleton, List·Memᴰ·head, List·Memᴰ·not-nil, Memᴰ·append-left, Memᴰ·append-right, [], _++_, _∷_}
 use mathlib.Core.Logic.{inl, inr, ⊎-elim, _⊎_}
 use mathlib.Core.Option.{Option, none, some}
@@ -13,7 +13,7 @@ use Rattle.semantics.specs.Operand.{Resolved, Written, both, escaped, ex
 use Rattle.semantics.specs.Semantics.{Semantics}
 use Rattle.semantics.specs.Readings.{Reading, allKnown, allReadings, isAnswer, isTakenBy, operandReadings, readings, readingsIn, readingsOf, textReadings}
 use Rattle.semantics.specs.Truth.{False, True, Truth, Unknown, join, negate, settles}
-use Rattle.reader.proofs.Laws.{bind-ok, find-none, find-some, namesOf}
+use Rattle.reader.proofs.Laws.{bind-ok, both-true, find-none, find-some, namesOf}
 use Rattle.reader.specs.Bytes.{Bytes, find}
 use Rattle.reader.specs.Json.{Members, Value, Values, array, bool, cons, empty, isNull, member, nil, null, number, object, text}
 use Rattle.reader.specs.Refusal.{Result, ok, refused, _>>=_}
@@ -523,10 +523,6 @@ known-gives sem s (x ∷ rs) e = λ r m. ⊎-elim (λ q. rw q here) (λ n. known
     answer : (x : Result (Option Value)) → isAnswer x ≡ true → (g : Option Value) × (x ≡ ok g)
     answer (ok g) h = (g, refl)
     answer (refused r) h = absurd (false≢true h)
-
-    both-true : (a b : Bool) → (a && b) ≡ true → (a ≡ true) × (b ≡ true)
-    both-true true b h = (refl, h)
-    both-true false b h = absurd (false≢true h)
 
     here : (g : Option Value) × (gives sem s [] (x .text) ≡ ok g)
     here = answer (gives sem s [] (x .text)) (both-true (isAnswer (gives sem s [] (x .text))) (allKnown sem s rs) e .0)

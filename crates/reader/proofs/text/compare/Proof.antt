@@ -1,81 +1,80 @@
--- `reader::text::compare` meets its contract: the loop says that what the two cursors have before them is in the order of the two texts.
+-- `reader::text::compare` meets its contract: up to the first escape or difference the bytes of both texts are those of the sheet, and the same.
 -- Assumes nothing.
-use borrow.Author.Needs.{needs}
 use mathlib.Core.Path.{_∙_}
-use Rattle.reader.proofs.Leaves.{Comparing, comparing, was-end, was-byte, on}
-use Rattle.reader.proofs.Cursor.{order-less, order-long, order-more, order-none, order-short}
+use Prim.Native.Nat.{_-_}
+use native.Mathlib.Omega.{arith}
+use lib.ListN.{length}
+use Rattle.reader.proofs.Cursor.{Abreast, abreast, abreast-end, abreast-inA, abreast-inB, abreast-less, abreast-more, abreast-on}
+use Rattle.reader.proofs.Laws.{eqb-no}
 use Rattle.reader.specs.Answers.{orderOf}
-use Rattle.reader.specs.Cursor.{weight}
 use Rattle.reader.proofs.text.compare.Statement.{statement}
 use Rattle.reader.proofs.text.compare.Tie as tie
 
 abbrev Inv-loop : tie.InvT-loop
-Inv-loop s a b x₀ y₀ x y = Comparing s a b x y
+Inv-loop s a b n₀ n = Abreast s a b n
 
 abbrev μ-loop : tie.MeasureT-loop
-μ-loop s a b x₀ y₀ x y = weight s (x .at) (x .left)
-
-begin-requires : tie.Need-begin-requires Inv-loop μ-loop
-begin-requires c κs = search needs
-
-begin-requires-2 : tie.Need-begin-requires-2 Inv-loop μ-loop
-begin-requires-2 c κs = search needs
+μ-loop s a b n₀ n = length s - n
 
 loop-holds : tie.Need-loop-holds Inv-loop μ-loop
-loop-holds c = rw (c .before .begin .ensures, c .begin2 .ensures) (comparing (c .before .before .before .args .s .now) (c .before .before .before .args .a) (c .before .before .before .args .b) (c .before .before .before .pre .0) (c .before .before .before .pre .1))
+loop-holds c = abreast (c .before .args .s .now) (c .before .args .a) (c .before .args .b) (c .before .pre .0) (c .before .pre .1)
 
-next-requires : tie.Need-next-requires Inv-loop μ-loop
-next-requires c κs = c .loop .inv .onX
+add-c : tie.Need-add-c Inv-loop μ-loop
+add-c c = omega (arith, abreast-inA (c .loop .inv))
 
-enum-told : tie.Need-enum-told Inv-loop μ-loop
-enum-told c = search needs
+shared-slice-read-c : tie.Need-shared-slice-read-c Inv-loop μ-loop
+shared-slice-read-c c = abreast-inA (c .before .loop .inv)
 
-next-requires-2 : tie.Need-next-requires-2 Inv-loop μ-loop
-next-requires-2 c κs = c .before .before .before .loop .inv .onY
+add-d : tie.Need-add-d Inv-loop μ-loop
+add-d c = omega (arith, abreast-inB (c .before .loop .inv))
 
-enum-told-2 : tie.Need-enum-told-2 Inv-loop μ-loop
-enum-told-2 c = search needs
+shared-slice-read-d : tie.Need-shared-slice-read-d Inv-loop μ-loop
+shared-slice-read-d c = abreast-inB (c .before .before .loop .inv)
+
+add-decoded : tie.Need-add-decoded Inv-loop μ-loop
+add-decoded c = omega (arith, abreast-inA (c .before .before .before .before .loop .inv))
+
+add-decoded-2 : tie.Need-add-decoded-2 Inv-loop μ-loop
+add-decoded-2 c = omega (arith, abreast-inB (c .before .before .before .before .loop .inv))
+
+decoded-requires : tie.Need-decoded-requires Inv-loop μ-loop
+decoded-requires c κs = (c .before .before .before .before .loop .inv .onA, c .before .before .before .before .loop .inv .onB)
 
 returns : tie.Need-returns Inv-loop μ-loop
-unfolding orderOf
-returns c = c .before .before .before .before .before .before .loop .inv .same ∙ order-none (was-end (c .before .before .before .before .before .before .before .before .before .before .args .s .now) (c .before .before .before .before .before .before .loop .x) (c .before .before .before .before .before .next .ensures) (c .before .before .before .enum-told .given .1)) (was-end (c .before .before .before .before .before .before .before .before .before .before .args .s .now) (c .before .before .before .before .before .before .loop .y) (c .before .before .next2 .ensures) (c .enum-told2 .given .1))
-
-enum-known--q : tie.Need-enum-known--q Inv-loop μ-loop
-enum-known--q c = search needs
+returns c = c .before .before .before .before .before .loop .inv .same ∙ c .decoded .ensures
 
 returns-2 : tie.Need-returns-2 Inv-loop μ-loop
 unfolding orderOf
-returns-2 c = c .before .before .before .before .before .before .before .loop .inv .same ∙ order-short (was-end (c .before .before .before .before .before .before .before .before .before .before .before .args .s .now) (c .before .before .before .before .before .before .before .loop .x) (c .before .before .before .before .before .before .next .ensures) (c .before .before .before .before .enum-told .given .1)) (was-byte (c .before .-q .given .0 .0) (c .before .before .before .next2 .ensures) (c .before .-q .given .1) .byte)
-
-enum-known-p : tie.Need-enum-known-p Inv-loop μ-loop
-enum-known-p c = search needs
-
-next-requires-3 : tie.Need-next-requires-3 Inv-loop μ-loop
-next-requires-3 c κs = c .before .before .before .before .loop .inv .onY
-
-enum-told-3 : tie.Need-enum-told-3 Inv-loop μ-loop
-enum-told-3 c = search needs
+returns-2 c = abreast-less (c .before .before .before .before .before .before .before .before .loop .inv) (c .before .before .before .before .if2 .left) (eqb-no _ _ (c .before .before .before .if3 .left)) (eqb-no _ _ (c .before .before .if4 .left)) (eqb-no _ _ (c .before .if5 .left)) (c .if6 .taken)
 
 returns-3 : tie.Need-returns-3 Inv-loop μ-loop
 unfolding orderOf
-returns-3 c = c .before .before .before .before .before .before .before .loop .inv .same ∙ order-long (was-byte (c .before .before .before .before .p .given .0 .0) (c .before .before .before .before .before .before .next .ensures) (c .before .before .before .before .p .given .1) .byte) (was-end (c .before .before .before .before .before .before .before .before .before .before .before .args .s .now) (c .before .before .before .before .before .before .before .loop .y) (c .before .before .next3 .ensures) (c .enum-told3 .given .1))
-
-enum-known-q : tie.Need-enum-known-q Inv-loop μ-loop
-enum-known-q c = search needs
+returns-3 c = abreast-more (c .before .before .before .before .before .before .before .before .loop .inv) (c .before .before .before .before .if2 .left) (eqb-no _ _ (c .before .before .before .if3 .left)) (eqb-no _ _ (c .before .before .if4 .left)) (eqb-no _ _ (c .before .if5 .left)) (omega (arith, c .before .before .before .before .before .if1 .taken, c .if6 .left))
 
 returns-4 : tie.Need-returns-4 Inv-loop μ-loop
 unfolding orderOf
-returns-4 c = c .before .before .before .before .before .before .before .before .before .before .before .loop .inv .same ∙ order-less (was-byte (c .before .before .before .before .before .before .before .before .p .given .0 .0) (c .before .before .before .before .before .before .before .before .before .before .next .ensures) (c .before .before .before .before .before .before .before .before .p .given .1) .byte) (was-byte (c .before .before .before .before .q .given .0 .0) (c .before .before .before .before .before .before .next3 .ensures) (c .before .before .before .before .q .given .1) .byte) (c .if1 .taken)
+returns-4 c = abreast-end (c .before .before .before .before .loop .inv) (c .before .if1 .left) (c .if7 .taken)
+
+add-decoded-3 : tie.Need-add-decoded-3 Inv-loop μ-loop
+add-decoded-3 c = omega (arith, abreast-inA (c .before .before .before .before .before .loop .inv))
+
+add-decoded-4 : tie.Need-add-decoded-4 Inv-loop μ-loop
+add-decoded-4 c = omega (arith, abreast-inB (c .before .before .before .before .before .loop .inv))
+
+decoded-requires-2 : tie.Need-decoded-requires-2 Inv-loop μ-loop
+decoded-requires-2 c κs = (c .before .before .before .before .before .loop .inv .onA, c .before .before .before .before .before .loop .inv .onB)
 
 returns-5 : tie.Need-returns-5 Inv-loop μ-loop
-unfolding orderOf
-returns-5 c = c .before .before .before .before .before .before .before .before .before .before .before .before .before .before .loop .inv .same ∙ order-more (was-byte (c .before .before .before .before .before .before .before .before .before .before .before .p .given .0 .0) (c .before .before .before .before .before .before .before .before .before .before .before .before .before .next .ensures) (c .before .before .before .before .before .before .before .before .before .before .before .p .given .1) .byte) (was-byte (c .before .before .before .before .before .before .before .q .given .0 .0) (c .before .before .before .before .before .before .before .before .before .next3 .ensures) (c .before .before .before .before .before .before .before .q .given .1) .byte) (c .if2 .taken)
+returns-5 c = c .before .before .before .before .before .before .loop .inv .same ∙ c .decoded2 .ensures
+
+add-n : tie.Need-add-n Inv-loop μ-loop
+add-n c = omega (arith, abreast-inA (c .before .before .before .before .before .loop .inv))
 
 loop-less : tie.Need-loop-less Inv-loop μ-loop
-loop-less c = was-byte (c .before .before .before .before .before .before .before .before .before .before .before .before .before .p .given .0 .0) (c .before .before .before .before .before .before .before .before .before .before .before .before .before .before .before .next .ensures) (c .before .before .before .before .before .before .before .before .before .before .before .before .before .p .given .1) .falls
+loop-less c = omega (arith, abreast-inA (c .before .before .before .before .before .loop .inv))
 
 loop-again : tie.Need-loop-again Inv-loop μ-loop
-loop-again c = on (c .before .before .before .before .before .before .before .before .before .before .before .before .before .p .given .0 .0) (c .before .before .before .before .before .before .before .before .before .q .given .0 .0) (c .before .before .before .before .before .before .before .before .before .before .before .before .before .before .before .before .loop .inv) (was-byte (c .before .before .before .before .before .before .before .before .before .before .before .before .before .p .given .0 .0) (c .before .before .before .before .before .before .before .before .before .before .before .before .before .before .before .next .ensures) (c .before .before .before .before .before .before .before .before .before .before .before .before .before .p .given .1)) (was-byte (c .before .before .before .before .before .before .before .before .before .q .given .0 .0) (c .before .before .before .before .before .before .before .before .before .before .before .next3 .ensures) (c .before .before .before .before .before .before .before .before .before .q .given .1)) (c .before .before .before .before .before .if1 .left) (c .before .before .if2 .left)
+loop-again c = abreast-on (c .before .before .before .before .before .loop .inv) (c .before .if7 .left) (c .if8 .left) (c .before .before .if1 .left)
 
 pub compare-spec : {M : Type 1} → statement M
 compare-spec =
@@ -83,22 +82,22 @@ compare-spec =
     (tie.spec
     Inv-loop
     μ-loop
-    begin-requires
-    begin-requires-2
     loop-holds
-    next-requires
-    enum-told
-    next-requires-2
-    enum-told-2
+    add-c
+    shared-slice-read-c
+    add-d
+    shared-slice-read-d
+    add-decoded
+    add-decoded-2
+    decoded-requires
     returns
-    enum-known--q
     returns-2
-    enum-known-p
-    next-requires-3
-    enum-told-3
     returns-3
-    enum-known-q
     returns-4
+    add-decoded-3
+    add-decoded-4
+    decoded-requires-2
     returns-5
+    add-n
     loop-less
     loop-again)
