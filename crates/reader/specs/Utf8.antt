@@ -1,6 +1,6 @@
 -- UTF-8 (RFC 3629): which bytes are it, and the bytes of a scalar value.
 -- Assumes nothing.
-use mathlib.Core.Bool.{Bool, false, true}
+use mathlib.Core.Bool.{Bool, false, true, _&&_}
 use mathlib.Core.List.{[], _∷_}
 use Prim.Native.Nat.{suc, zero, ℕ, _%_, _+_, _/_}
 use lib.Dec.{eqb, ltb}
@@ -37,6 +37,11 @@ utf8 (tail low high n) [] = false
 utf8 (tail low high n) (c ∷ s) = elim (between low high c) [ true ↦ utf8 (after n) s | false ↦ false ]
 utf8 never [] = false
 utf8 never (c ∷ s) = false
+
+-- every byte a scalar value by itself
+unfoldable pub ascii : Bytes → Bool
+ascii [] = true
+ascii (c ∷ s) = ltb c 128 && ascii s
 
 -- the UTF-8 bytes of a scalar value
 unfoldable pub encode : ℕ → Bytes

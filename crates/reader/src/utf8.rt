@@ -1,6 +1,6 @@
 // UTF-8 (RFC 3629), in a pass of its own.
 ghost use mathlib.Core.Path.{_≡_};
-ghost use Rattle.reader.specs.Utf8.{scalar, utf8};
+ghost use Rattle.reader.specs.Utf8.{ascii, scalar, utf8};
 ghost use Rattle.reader.specs.Answers.{Leads, Follows};
 
 // What may come next: `left` bytes more of a scalar value, the first of them from `low` to `high`.
@@ -73,9 +73,28 @@ fn next(e: Expect, c: u8) -> Expect
     tail(128, 191, left - 1)
 }
 
+// Whether every byte is below 128. The greatest one tells: its loop has no way out but its end, so the compiler takes many bytes at once.
+fn ascii(s: &[u8]) -> bool
+    ensures { λ r. ⌜ r ≡ ascii (now (s .entry)) ⌝ }
+{
+    let mut greatest = 0;
+    let mut at = 0;
+    while at < s.len() {
+        let c = s[at];
+        if greatest < c {
+            greatest = c;
+        }
+        at += 1;
+    }
+    greatest < 128
+}
+
 pub fn utf8(s: &[u8]) -> bool
     ensures { λ r. ⌜ r ≡ utf8 scalar (now (s .entry)) ⌝ }
 {
+    if ascii(s) {
+        return true;
+    }
     let mut e = tail(128, 191, 0);
     let mut at = 0;
     while at < s.len() {

@@ -1,6 +1,7 @@
 -- `reader::utf8::utf8` meets its contract: the loop says that what is left of the text decides the whole.
 -- Assumes nothing.
-use Rattle.reader.proofs.Encoding.{Checking, checked, checking, ended}
+use mathlib.Core.Path.{sym, _∙_}
+use Rattle.reader.proofs.Encoding.{Checking, ascii-utf8, checked, checking, ended}
 use lib.ListN.{length}
 use Prim.Native.Nat.{_-_}
 use borrow.Author.Needs.{needs}
@@ -14,11 +15,17 @@ Inv-loop s e₀ at₀ e at = Checking s e at
 abbrev μ-loop : tie.MeasureT-loop
 μ-loop s e₀ at₀ e at = length s - at
 
+ascii-requires : tie.Need-ascii-requires Inv-loop μ-loop
+ascii-requires c κs = search needs
+
+returns : tie.Need-returns Inv-loop μ-loop
+returns c = sym (ascii-utf8 (c .before .before .before .args .s .now) (sym (c .before .ascii .ensures) ∙ c .if1 .taken))
+
 tail-requires : tie.Need-tail-requires Inv-loop μ-loop
 tail-requires c κs = search needs
 
 loop-holds : tie.Need-loop-holds Inv-loop μ-loop
-loop-holds c = checking (c .before .before .args .s .now) (c .tail .result) (c .tail .ensures)
+loop-holds c = checking (c .before .before .before .before .args .s .now) (c .tail .result) (c .tail .ensures)
 
 shared-slice-read-next : tie.Need-shared-slice-read-next Inv-loop μ-loop
 shared-slice-read-next c = omega arith
@@ -35,8 +42,8 @@ loop-less c = omega arith
 loop-again : tie.Need-loop-again Inv-loop μ-loop
 loop-again c = checked (c .before .before .before .loop .inv) (c .next .result) (c .before .before .loop-test .taken) (c .next .ensures)
 
-returns : tie.Need-returns Inv-loop μ-loop
-returns c = ended (c .before .loop .inv) (c .loop-test .left)
+returns-2 : tie.Need-returns-2 Inv-loop μ-loop
+returns-2 c = ended (c .before .loop .inv) (c .loop-test .left)
 
 pub utf8-spec : {M : Type 1} → statement M
 utf8-spec =
@@ -44,6 +51,8 @@ utf8-spec =
     (tie.spec
     Inv-loop
     μ-loop
+    ascii-requires
+    returns
     tail-requires
     loop-holds
     shared-slice-read-next
@@ -51,4 +60,4 @@ utf8-spec =
     add-at
     loop-less
     loop-again
-    returns)
+    returns-2)
