@@ -2,6 +2,11 @@
 use crate::children::Child;
 use crate::children::Children;
 use crate::frames::Frames;
+use crate::layer::class_of;
+use crate::layer::names_agree;
+use crate::layer::part_of;
+use crate::layer::same_leaf;
+use crate::layer::value_node;
 use crate::operand::Operand;
 use crate::roots::Roots;
 ghost use mathlib.Core.Path.{_≡_};
@@ -29,12 +34,12 @@ pub fn equal_at(
     }
     let x = a.kind;
     let y = b.kind;
-    let class = crate::layer::class_of(x);
-    if class != crate::layer::class_of(y) {
+    let class = class_of(x);
+    if class != class_of(y) {
         return false;
     }
     if class < 5 {
-        return crate::layer::same_leaf(s, work, a, b, class);
+        return same_leaf(s, work, a, b, class);
     }
     equal_parts(s, work, roots, frames, a, b, class == 6, left - 1)
 }
@@ -70,25 +75,11 @@ fn equal_parts(
                     return false;
                 }
                 Child::Is(q) => {
-                    if !crate::layer::names_agree(s, work, named, p.node, q.node) {
+                    if !names_agree(s, work, named, p.node, q.node) {
                         return false;
                     }
-                    let u = crate::layer::part_of(
-                        s,
-                        work,
-                        roots,
-                        frames,
-                        a,
-                        crate::layer::value_node(named, p.node),
-                    );
-                    let v = crate::layer::part_of(
-                        s,
-                        work,
-                        roots,
-                        frames,
-                        b,
-                        crate::layer::value_node(named, q.node),
-                    );
+                    let u = part_of(s, work, roots, frames, a, value_node(named, p.node));
+                    let v = part_of(s, work, roots, frames, b, value_node(named, q.node));
                     if !equal_at(s, work, roots, frames, u, v, left) {
                         return false;
                     }

@@ -1,12 +1,26 @@
 // Expressions under frames, nothing copied: touching a written node, looking an expression up, and walking on along its path call each other.
 use crate::frames::Frames;
+use crate::member::member_of;
 use crate::operand::Bound;
 use crate::operand::Kind;
 use crate::operand::Looked;
 use crate::operand::Operand;
+use crate::operand::as_looked;
+use crate::operand::nothing;
+use crate::operand::or_null;
+use crate::operand::value_at;
+use crate::operand::written_kind;
 use crate::path::Rest;
+use crate::path::part_is_word;
+use crate::path::rest_at;
 use crate::roots::Roots;
+use crate::roots::base_at;
+use crate::roots::root_at;
+use crate::roots::root_named;
+use crate::rows::kind_at;
+use crate::rows::start_at;
 use crate::written::Written;
+use crate::written::classify;
 ghost use mathlib.Core.Path.{_≡_};
 ghost use Prim.Native.Nat.{_≤_};
 ghost use lib.ListN.{length};
@@ -34,12 +48,12 @@ pub fn touch_at(
     ensures { λ r. ⌜ Means (now (s .entry)) (table (now (work .entry))) r (touch (sheetIn (now (s .entry))) left (framesOf (now (s .entry)) (table (now (work .entry))) frames) (tree (now (s .entry)) (table (now (work .entry))) node)) ⌝ }
 {
     if left == 0 {
-        return crate::operand::nothing();
+        return nothing();
     }
-    let code = crate::rows::kind_at(work, node);
+    let code = kind_at(work, node);
     if code == 4 {
-        let start = crate::rows::start_at(work, node);
-        match crate::written::classify(s, start) {
+        let start = start_at(work, node);
+        match classify(s, start) {
             Written::Plain => {
                 return Operand {
                     node: node,
@@ -55,21 +69,14 @@ pub fn touch_at(
                 };
             }
             Written::Expression(next) => {
-                return crate::operand::or_null(look_up(
-                    s,
-                    work,
-                    roots,
-                    frames,
-                    &s[next..],
-                    left - 1,
-                ));
+                return or_null(look_up(s, work, roots, frames, &s[next..], left - 1));
             }
         }
     }
     Operand {
         node: node,
         depth: frames.depth,
-        kind: crate::operand::written_kind(code),
+        kind: written_kind(code),
     }
 }
 
@@ -86,36 +93,20 @@ pub fn look_up(
     ensures { λ r. ⌜ LookedAs (now (s .entry)) (table (now (work .entry))) (textAt (now (path .entry)) 0) r (look (sheetIn (now (s .entry))) (touch (sheetIn (now (s .entry))) left) (framesOf (now (s .entry)) (table (now (work .entry))) frames) (textAt (now (path .entry)) 0)) ⌝ }
 {
     let bound = frames.find(s, path);
-    match crate::path::rest_at(path) {
+    match rest_at(path) {
         Rest::Nothing => match bound {
             Bound::At(o) => Looked::At(o),
-            Bound::Nothing => crate::roots::root_at(roots, crate::roots::root_named(path)),
+            Bound::Nothing => root_at(roots, root_named(path)),
         },
         Rest::At(next) => match bound {
-            Bound::At(o) => crate::operand::as_looked(walk_on(
-                s,
-                work,
-                roots,
-                frames,
-                &path[next..],
-                o,
-                left,
-            )),
-            Bound::Nothing => match crate::roots::base_at(roots, crate::roots::root_named(path)) {
+            Bound::At(o) => as_looked(walk_on(s, work, roots, frames, &path[next..], o, left)),
+            Bound::Nothing => match base_at(roots, root_named(path)) {
                 Bound::Nothing => Looked::Unknown,
                 Bound::At(o) => {
-                    if crate::path::part_is_word(&path[next..], b"") {
+                    if part_is_word(&path[next..], b"") {
                         return Looked::Nothing;
                     }
-                    crate::operand::as_looked(walk_on(
-                        s,
-                        work,
-                        roots,
-                        frames,
-                        &path[next..],
-                        o,
-                        left,
-                    ))
+                    as_looked(walk_on(s, work, roots, frames, &path[next..], o, left))
                 }
             },
         },
@@ -139,14 +130,14 @@ pub fn step_to(
     let node = o.node;
     match kind {
         Kind::Object => {
-            let v = crate::member::member_of(s, work, node, path);
+            let v = member_of(s, work, node, path);
             if v == 0 {
                 return Bound::Nothing;
             }
-            Bound::At(crate::operand::value_at(work, v))
+            Bound::At(value_at(work, v))
         }
         Kind::Named => {
-            let v = crate::member::member_of(s, work, node, path);
+            let v = member_of(s, work, node, path);
             if v == 0 {
                 return Bound::Nothing;
             }
@@ -172,7 +163,7 @@ pub fn walk_on(
     let found = step_to(s, work, roots, frames, path, o, left);
     match found {
         Bound::Nothing => Bound::Nothing,
-        Bound::At(p) => match crate::path::rest_at(path) {
+        Bound::At(p) => match rest_at(path) {
             Rest::Nothing => Bound::At(p),
             Rest::At(next) => walk_on(s, work, roots, frames, &path[next..], p, left),
         },

@@ -13,7 +13,7 @@ use Rattle.reader.proofs.Laws.{both-true}
 use Rattle.reader.proofs.Sound.{between-of, between-out}
 use Rattle.reader.specs.Answers.{Follows, Leads, expectOf, expecting}
 use Rattle.reader.specs.Bytes.{Bytes, choose}
-use Rattle.reader.specs.Utf8.{Expect, after, ascii, lead, never, scalar, utf8}
+use Rattle.reader.specs.Utf8.{Expect, after, isAscii, lead, never, scalar, utf8}
 use Rattle.reader.specs.declared.utf8.Expect.{Expect as Expected}
 use borrow.Author.Tests.{le-ltb, lt-ltb, ltb-true, ne-eqb}
 
@@ -115,40 +115,40 @@ module _ {s : Bytes} {e : Expected} {at : ℕ} (l : Checking s e at) where
       go (suc n) = sym (ne-eqb (suc n) 0 (λ q. omega arith))
 
 -- ---- bytes below 128
-pub ascii-utf8 : (s : Bytes) → ascii s ≡ true → utf8 scalar s ≡ true
-unfolding ascii utf8
+pub ascii-utf8 : (s : Bytes) → isAscii s ≡ true → utf8 scalar s ≡ true
+unfolding isAscii utf8
 ascii-utf8 [] h = refl
 ascii-utf8 (c ∷ s) h =
-    let b = both-true (ltb c 128) (ascii s) h in
+    let b = both-true (ltb c 128) (isAscii s) h in
     ap (λ (k : Expect). utf8 k s) (lead-ascii c (ltb-true c 128 (b .0))) ∙ ascii-utf8 s (b .1)
 
 -- the greatest byte so far and what is left decide the whole
 pub record Greatest (s : Bytes) (greatest at : ℕ) : Type 0 where
   pub upto : at ≤ length s
-  pub rest : ascii s ≡ (ltb greatest 128 && ascii (drop at s))
+  pub rest : isAscii s ≡ (ltb greatest 128 && isAscii (drop at s))
 
 pub greatest-none : (s : Bytes) → Greatest s 0 0
 greatest-none s = record { upto = omega arith; rest = refl }
 
 module _ {s : Bytes} {greatest at : ℕ} (l : Greatest s greatest at) where
-  opened-at : at < length s → ascii (drop at s) ≡ (ltb (getD s at 0) 128 && ascii (drop (at + 1) s))
-  unfolding ascii
-  opened-at h = ap ascii (drop-cons s at 0 h) ∙ rw add-one
+  opened-at : at < length s → isAscii (drop at s) ≡ (ltb (getD s at 0) 128 && isAscii (drop (at + 1) s))
+  unfolding isAscii
+  opened-at h = ap isAscii (drop-cons s at 0 h) ∙ rw add-one
 
   pub greatest-new : at < length s → greatest < getD s at 0 → Greatest s (getD s at 0) (at + 1)
   greatest-new h g = record { upto = omega arith; rest = l .rest ∙ ap (λ (b : Bool). ltb greatest 128 && b) (opened-at h) ∙ go (ltb (getD s at 0) 128) refl }
     where
-      go : (b : Bool) → ltb (getD s at 0) 128 ≡ b → (ltb greatest 128 && (b && ascii (drop (at + 1) s))) ≡ (b && ascii (drop (at + 1) s))
+      go : (b : Bool) → ltb (getD s at 0) 128 ≡ b → (ltb greatest 128 && (b && isAscii (drop (at + 1) s))) ≡ (b && isAscii (drop (at + 1) s))
       go true q = rw (lt-ltb greatest 128 (omega (arith, g, ltb-true (getD s at 0) 128 q)))
       go false q = and-false (ltb greatest 128)
 
   pub greatest-still : at < length s → getD s at 0 ≤ greatest → Greatest s greatest (at + 1)
   greatest-still h g = record { upto = omega arith; rest = l .rest ∙ ap (λ (b : Bool). ltb greatest 128 && b) (opened-at h) ∙ go (ltb greatest 128) refl }
     where
-      go : (b : Bool) → ltb greatest 128 ≡ b → (b && (ltb (getD s at 0) 128 && ascii (drop (at + 1) s))) ≡ (b && ascii (drop (at + 1) s))
+      go : (b : Bool) → ltb greatest 128 ≡ b → (b && (ltb (getD s at 0) 128 && isAscii (drop (at + 1) s))) ≡ (b && isAscii (drop (at + 1) s))
       go true q = rw (lt-ltb (getD s at 0) 128 (omega (arith, g, ltb-true greatest 128 q)))
       go false q = refl
 
-  pub greatest-of-all : length s ≤ at → ltb greatest 128 ≡ ascii s
-  unfolding ascii
+  pub greatest-of-all : length s ≤ at → ltb greatest 128 ≡ isAscii s
+  unfolding isAscii
   greatest-of-all h = sym (l .rest ∙ rw (drop-of-length-le s h) (and-true (ltb greatest 128)))

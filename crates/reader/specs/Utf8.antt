@@ -39,9 +39,9 @@ utf8 never [] = false
 utf8 never (c ∷ s) = false
 
 -- every byte a scalar value by itself
-unfoldable pub ascii : Bytes → Bool
-ascii [] = true
-ascii (c ∷ s) = ltb c 128 && ascii s
+unfoldable pub isAscii : Bytes → Bool
+isAscii [] = true
+isAscii (c ∷ s) = ltb c 128 && isAscii s
 
 -- the UTF-8 bytes of a scalar value
 unfoldable pub encode : ℕ → Bytes

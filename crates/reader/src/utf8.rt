@@ -1,6 +1,6 @@
 // UTF-8 (RFC 3629), in a pass of its own.
 ghost use mathlib.Core.Path.{_≡_};
-ghost use Rattle.reader.specs.Utf8.{ascii, scalar, utf8};
+ghost use Rattle.reader.specs.Utf8.{isAscii, scalar, utf8};
 ghost use Rattle.reader.specs.Answers.{Leads, Follows};
 
 // What may come next: `left` bytes more of a scalar value, the first of them from `low` to `high`.
@@ -74,8 +74,8 @@ fn next(e: Expect, c: u8) -> Expect
 }
 
 // Whether every byte is below 128. The greatest one tells: its loop has no way out but its end, so the compiler takes many bytes at once.
-fn ascii(s: &[u8]) -> bool
-    ensures { λ r. ⌜ r ≡ ascii (now (s .entry)) ⌝ }
+fn is_ascii(s: &[u8]) -> bool
+    ensures { λ r. ⌜ r ≡ isAscii (now (s .entry)) ⌝ }
 {
     let mut greatest = 0;
     let mut at = 0;
@@ -92,7 +92,7 @@ fn ascii(s: &[u8]) -> bool
 pub fn utf8(s: &[u8]) -> bool
     ensures { λ r. ⌜ r ≡ utf8 scalar (now (s .entry)) ⌝ }
 {
-    if ascii(s) {
+    if is_ascii(s) {
         return true;
     }
     let mut e = tail(128, 191, 0);

@@ -15,11 +15,11 @@ Inv-loop s e₀ at₀ e at = Checking s e at
 abbrev μ-loop : tie.MeasureT-loop
 μ-loop s e₀ at₀ e at = length s - at
 
-ascii-requires : tie.Need-ascii-requires Inv-loop μ-loop
-ascii-requires c κs = search needs
+is-ascii-requires : tie.Need-is-ascii-requires Inv-loop μ-loop
+is-ascii-requires c κs = search needs
 
 returns : tie.Need-returns Inv-loop μ-loop
-returns c = sym (ascii-utf8 (c .before .before .before .args .s .now) (sym (c .before .ascii .ensures) ∙ c .if1 .taken))
+returns c = sym (ascii-utf8 (c .before .before .before .args .s .now) (sym (c .before .is-ascii .ensures) ∙ c .if1 .taken))
 
 tail-requires : tie.Need-tail-requires Inv-loop μ-loop
 tail-requires c κs = search needs
@@ -51,7 +51,7 @@ utf8-spec =
     (tie.spec
     Inv-loop
     μ-loop
-    ascii-requires
+    is-ascii-requires
     returns
     tail-requires
     loop-holds

@@ -1,12 +1,12 @@
--- `reader::utf8::ascii` meets its contract: the greatest byte so far and what is left decide the whole.
+-- `reader::utf8::is_ascii` meets its contract: the greatest byte so far and what is left decide the whole.
 -- Assumes nothing.
 use mathlib.Core.Logic.{⊎-elim}
 use Prim.Native.Nat.{_-_}
 use lib.ListN.{length}
 use native.Mathlib.Omega.{arith}
 use Rattle.reader.proofs.Encoding.{Greatest, greatest-new, greatest-none, greatest-of-all, greatest-still}
-use Rattle.reader.proofs.utf8.ascii.Statement.{statement}
-use Rattle.reader.proofs.utf8.ascii.Tie as tie
+use Rattle.reader.proofs.utf8.is_ascii.Statement.{statement}
+use Rattle.reader.proofs.utf8.is_ascii.Tie as tie
 
 abbrev Inv-loop : tie.InvT-loop
 Inv-loop s greatest₀ at₀ greatest at = Greatest s greatest at
@@ -35,7 +35,7 @@ loop-again c =
 returns : tie.Need-returns Inv-loop μ-loop
 returns c = greatest-of-all (c .before .loop .inv) (c .loop-test .left)
 
-pub ascii-spec : {M : Type 1} → statement M
-ascii-spec =
+pub is-ascii-spec : {M : Type 1} → statement M
+is-ascii-spec =
     tie.close
     (tie.spec Inv-loop μ-loop loop-holds shared-slice-read-c add-at loop-less loop-again returns)
