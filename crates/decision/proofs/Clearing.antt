@@ -11,6 +11,7 @@ use lib.Dec.{T, leb, leb→le}
 use lib.ListN.{drop, getD, length, length-replicate, replicate, set}
 use lib.Seq.{drop-at, getD-set-other, set-getD, sets, sets-eq}
 use borrow.Author.Tests.{leb-false, lt-leb}
+use Rattle.line.proofs.Laying.{sets-front}
 use Rattle.reader.proofs.Laws.{leb-true}
 use Rattle.reader.specs.Table.{afterAt}
 use Rattle.decision.specs.Entry.{workAfter, workWords, zeros}
@@ -21,9 +22,6 @@ sets-snoc [] l i x = rw add-zero
 sets-snoc (v ∷ vs) l i x =
     let e : suc i + length vs ≡ i + suc (length vs) = omega arith in
     sets-snoc vs (set l i v) (suc i) x ∙ ap (λ (k : ℕ). set (sets (set l i v) (suc i) vs) k x) e
-
-sets-front : (vs l : List ℕ) → length vs ≤ length l → sets l 0 vs ≡ vs ++ drop (length vs) l
-sets-front vs l h = sets-eq vs l 0 (rw zero-add h) ∙ rw zero-add
 
 zeros-suc : (n : ℕ) → zeros (n + 1) ≡ zeros n ++ (0 ∷ [])
 unfolding zeros

@@ -31,7 +31,7 @@ use Rattle.decision.proofs.Calls.{Answers, of-verdict}
 use Rattle.decision.proofs.Clearing.{same-left}
 use Rattle.decision.proofs.Opening.{sheet-opened}
 use Rattle.operands.proofs.Words.{same-row-word}
-use Rattle.line.proofs.Bounds.{line-fits, line-short, number-small}
+use Rattle.line.proofs.Bounds.{line-short, no-line, number-small}
 use Rattle.reader.proofs.Complete.{read-exactly}
 use Rattle.reader.specs.Json.{Value}
 use Rattle.reader.specs.Reader.{json}
@@ -61,8 +61,8 @@ read-short s sheet e = go (json s) refl
 pub call-small : (f : Sheet Condition → Result Verdict) (s : Bytes) (words size : ℕ) → call f s words size .number ≤ 23
 call-small f s words size = rw call-opened (number-small size (opening words s >>= f))
 
-pub call-fits : (f : Sheet Condition → Result Verdict) (s : Bytes) (words size : ℕ) → lineSize (call f s words size) ≤ size
-call-fits f s words size = rw call-opened (line-fits size (opening words s >>= f))
+pub call-no-line : (f : Sheet Condition → Result Verdict) (s : Bytes) (words size : ℕ) → lineSize (call f s words size) ≡ 0 → call f s words size .line ≡ none
+call-no-line f s words size = rw call-opened (no-line size (opening words s >>= f))
 
 -- the same, of each call
 call-of-opened : (x : Call) (s : Bytes) (words size : ℕ) → callOf x s words size ≡ reply size (opening words s >>= verdictOf x)

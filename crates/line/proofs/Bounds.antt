@@ -126,6 +126,23 @@ unfolding reply
 number-small n (ok v) = fitted-small n 0 (some (verdictLine v)) (omega arith)
 number-small n (refused r) = fitted-small n (refusalNumber r) (refusalLine r) (refusal-small r)
 
+-- no line is empty: where the size is 0 there is none
+abbrev NoneEmpty : Reply → Type 0
+NoneEmpty r = lineSize r ≡ 0 → r .line ≡ none
+
+fitted-none : (n m : ℕ) (f : Option Bytes) → NoneEmpty (fitted n m (eachLine f))
+fitted-none n m none e = refl
+fitted-none n m (some l) e = go (leb (length (endLine l)) n) e
+  where
+    go : (b : Bool) → NoneEmpty (elim b [ true ↦ record { number = m; line = some (endLine l) } | false ↦ record { number = refusalNumber lineTooLong; line = none } ])
+    go true z = absurd (omega (arith, z, length-append l (10 ∷ [])))
+    go false z = refl
+
+pub no-line : (n : ℕ) (x : Result Verdict) → lineSize (reply n x) ≡ 0 → reply n x .line ≡ none
+unfolding reply
+no-line n (ok v) = fitted-none n 0 (some (verdictForm v))
+no-line n (refused r) = fitted-none n (refusalNumber r) (refusalForm r)
+
 -- a line that is given back fits the output
 fitted-fits : (n m : ℕ) (f : Option Bytes) → lineSize (fitted n m f) ≤ n
 fitted-fits n m none = omega arith

@@ -1,17 +1,17 @@
 -- Laws of bytes laid: what was laid first and then the rest is the whole, in bytes and in place, also where the room ends.
 -- Assumes nothing.
 use mathlib.Core.Bool.{Bool, false, true}
-use mathlib.Core.List.{[], _++_, _∷_}
+use mathlib.Core.List.{List, [], _++_, _∷_}
 use mathlib.Core.Path.{ap, refl, sym, _∙_, _≡_}
 use Prim.Native.Nat.{min, suc, ℕ, _+_, _<_, _≤_}
-use native.Mathlib.Nat.{add-zero}
+use native.Mathlib.Nat.{add-zero, zero-add}
 use native.Mathlib.Numerals.{add-one}
 use native.Mathlib.Omega.{arith}
 use borrow.Author.Tests.{leb-false, leb-true}
 use lib.Dec.{leb}
 use lib.ListN.{drop, getD, length, length-append, set}
-use lib.Seq.{drop-cons, length-sets, set-out, sets}
-use Rattle.line.specs.Laid.{Laid, Room}
+use lib.Seq.{drop-cons, length-sets, set-out, sets, sets-eq}
+use Rattle.line.specs.Laid.{Laid, Room, Shown}
 use Rattle.reader.specs.Bytes.{Bytes}
 
 -- past the end nothing is laid
@@ -65,6 +65,13 @@ ends {here} g = record { bytes = sym (g .bytes); place = omega (arith, g .place,
 
 pub ends-with : {limit at here r : ℕ} {o₀ whole o rest o₁ : Bytes} → Going limit o₀ at whole o here rest → Laid limit o here rest o₁ r → Laid limit o₀ at whole o₁ r
 ends-with g l = record { bytes = l .bytes ∙ sym (g .bytes); place = l .place ∙ sym (g .place); room = l .room }
+
+-- a whole text that has room at the start
+pub sets-front : (vs l : List ℕ) → length vs ≤ length l → sets l 0 vs ≡ vs ++ drop (length vs) l
+sets-front vs l h = sets-eq vs l 0 (rw zero-add h) ∙ rw zero-add
+
+pub shown : {limit r : ℕ} {o text o₁ : Bytes} → length text ≤ length o → Laid limit o 0 text o₁ r → Shown text o o₁ r
+shown {o} {text} h l = record { size = omega (arith, h, l .place, l .room .size, same-size l); bytes = l .bytes ∙ sets-front text o h }
 
 -- the same bytes by another name
 pub told : {limit at r : ℕ} {o bs o₁ : Bytes} {cs : Bytes} → bs ≡ cs → Laid limit o at bs o₁ r → Laid limit o at cs o₁ r

@@ -7,7 +7,7 @@ use Prim.Native.Nat.{Ordering, Ordering·eq, Ordering·gt, Ordering·lt, suc, ze
 use native.Mathlib.Omega.{arith}
 use lib.Dec.{eqb, ltb}
 use lib.ListN.{drop, length, length-append, length-drop}
-use Rattle.line.specs.Line.{hexOf, digitsOf, eachQuoted, form, listed, names, quotedByte, quotedBytes, spaced}
+use Rattle.line.specs.Line.{hexOf, decimalDigits, digitsOf, eachQuoted, form, listed, names, numberLine, quotedByte, quotedBytes, spaced}
 use Rattle.semantics.specs.Names.{Names, ascending, insertName}
 use Rattle.reader.specs.Bytes.{Bytes, ascii, between, choose, orderBytes}
 use Rattle.reader.specs.Marks.{isMarked, marked, markedFrom}
@@ -62,6 +62,11 @@ spaced-short (w ∷ v ∷ ws) = simp length-append (omega (arith, spaced-short (
 
 pub form-short : (ws : List Bytes) → length (form ws) ≤ total ws + 2
 form-short ws = simp length-append (omega (arith, spaced-short ws))
+
+pub number-short : (n : ℕ) → length (numberLine n) ≤ 32
+number-short n =
+    let ws : List Bytes = ascii "refused" ∷ decimalDigits n ∷ [] in
+    omega (arith, length-append (form ws) (10 ∷ []), form-short ws, digits-short 20 n [])
 
 abbrev weight : List Bytes → ℕ
 weight [] = 0

@@ -1,8 +1,9 @@
 -- Bytes laid into an output. The same function measures and writes: over an empty part of the output it only counts.
 -- Assumes nothing.
+use mathlib.Core.List.{_++_}
 use mathlib.Core.Path.{_≡_}
 use Prim.Native.Nat.{min, ℕ, _+_, _≤_}
-use lib.ListN.{length}
+use lib.ListN.{drop, length}
 use lib.Seq.{sets}
 use Rattle.reader.specs.Bytes.{Bytes}
 
@@ -17,3 +18,8 @@ pub record Laid (limit : ℕ) (o : Bytes) (at : ℕ) (bs o′ : Bytes) (r : ℕ)
   pub bytes : o′ ≡ sets o at bs
   pub place : r ≡ min (at + length bs) limit
   pub room : Room limit o′ r
+
+-- a whole text at the start of the output, the rest as it was
+pub record Shown (text o o′ : Bytes) (r : ℕ) : Type 0 where
+  pub size : r ≡ length text
+  pub bytes : o′ ≡ text ++ drop (length text) o

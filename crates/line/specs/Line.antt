@@ -161,3 +161,7 @@ eachLine (some f) = some (endLine f)
 unfoldable pub refusalLine : Refusal → Option Bytes
 unfolding refusalForm
 refusalLine r = eachLine (refusalForm r)
+
+-- a number by itself, where there is no line
+abbrev pub numberLine : ℕ → Bytes
+numberLine n = endLine (refusedForm n [])

@@ -4,6 +4,7 @@ use crate::form::false_number;
 use crate::form::guard_unknown;
 use crate::form::kept;
 use crate::form::not_a_source;
+use crate::form::refused;
 use crate::form::refused_text;
 use crate::form::rule_false;
 use crate::form::rule_unknown;
@@ -12,9 +13,11 @@ use crate::form::unknown_number;
 use crate::lay::bytes;
 ghost use mathlib.Core.List.{List};
 ghost use mathlib.Core.Path.{_≡_};
-ghost use Prim.Native.Nat.{ℕ};
+ghost use Prim.Native.Nat.{ℕ, _≤_};
+ghost use lib.ListN.{length};
 ghost use Rattle.reader.specs.Bytes.{Bytes};
-ghost use Rattle.line.specs.Laid.{Laid, Room};
+ghost use Rattle.line.specs.Laid.{Laid, Room, Shown};
+ghost use Rattle.line.specs.Line.{numberLine};
 ghost use Rattle.line.specs.Meaning.{Emitted, Held, meaning};
 ghost use Rattle.line.specs.Reply.{formOf, numberOf, orEmpty};
 
@@ -100,4 +103,14 @@ pub fn emit(s: &[u8], work: &[u32], out: &mut [u8], a: Answer) -> Sent
         number: n,
         size: end + 1,
     }
+}
+
+// The line of a number by itself, for a program that shows one where a call has written none.
+pub fn number_line(out: &mut [u8], n: usize) -> usize
+    requires { ⌜ 32 ≤ length (now out) ⌝ }
+    ensures { λ r. ⌜ Shown (numberLine n) (now (out .entry)) (now (out .exit)) r ⌝ }
+{
+    let limit = out.len();
+    let here = refused(out, limit, 0, n);
+    bytes(out, limit, here, b")\n")
 }

@@ -76,7 +76,7 @@ pub fn kept(out: &mut [u8], limit: usize, at: usize, s: &[u8], word: &[u8], o: O
 }
 
 // The start of a refusal.
-fn refused(out: &mut [u8], limit: usize, at: usize, n: usize) -> usize
+pub fn refused(out: &mut [u8], limit: usize, at: usize, n: usize) -> usize
     requires { ⌜ Room limit (now out) at ⌝ }
     ensures { λ r. ⌜ Laid limit (now (out .entry)) at (opened (ascii "refused" ∷ decimalDigits n ∷ [])) (now (out .exit)) r ⌝ }
 {

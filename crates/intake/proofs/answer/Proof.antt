@@ -1,53 +1,46 @@
--- `intake::answer` is safe and ends: the line is no longer than the output.
+-- `intake::answer` meets its contract: the line that Decide has written, or the number where it has written none.
 -- Assumes nothing.
-use lib.ListN.{length-take}
-use native.Mathlib.Omega.{arith}
-use Rattle.intake.proofs.Fitting.{decide-fits, size-fits}
+use mathlib.Core.Path.{refl, sym, _∙_}
+use Rattle.intake.proofs.Printing.{as-intake, decide-no-line, with-line, with-number}
 use borrow.Author.Needs.{needs}
 use Rattle.intake.proofs.answer.Statement.{statement}
 use Rattle.intake.proofs.answer.Tie as tie
 
-large-buffer-requires : tie.Need-large-buffer-requires
-large-buffer-requires c κs = search needs
-
 slice-aggregate-decide : tie.Need-slice-aggregate-decide
 slice-aggregate-decide c = search needs
-
-slice-aggregate-decide-2 : tie.Need-slice-aggregate-decide-2
-slice-aggregate-decide-2 c = search needs
 
 decide-requires : tie.Need-decide-requires
 decide-requires c κs = search needs
 
-refuse-requires : tie.Need-refuse-requires
-refuse-requires c κs = search needs
+number-line-requires : tie.Need-number-line-requires
+number-line-requires c κs = search needs
+
+same-length : tie.Need-same-length
+same-length c = search needs
 
 returns : tie.Need-returns
-returns c = search needs
+returns c =
+    let start = c .before .before .before .before .before .before .before .before .before .before .before .before .before in
+    let called = c .before .before .before .before .before .before .before .before .decide .ensures in
+    let none = decide-no-line _ _ _ (sym (called .isSize) ∙ c .before .before .before .before .if1 .taken) in
+    as-intake (start .args .sheet .now) refl (start .pre) (with-number called none (c .before .before .number-line .ensures))
 
-array-share-prefix-out : tie.Need-array-share-prefix-out
-array-share-prefix-out c = let called = c .before .before .before in size-fits (decide-fits _ _ _) (called .decide .ensures) (called .decide .kept .1 .1 .0)
-
-slice-aggregate-write-all : tie.Need-slice-aggregate-write-all
-slice-aggregate-write-all c = let called = c .before .before .before .before in simp length-take (omega (arith, size-fits (decide-fits _ _ _) (called .decide .ensures) (called .decide .kept .1 .1 .0)))
-
-write-all-requires : tie.Need-write-all-requires
-write-all-requires c κs = search needs
+same-length-2 : tie.Need-same-length-2
+same-length-2 c = search needs
 
 returns-2 : tie.Need-returns-2
-returns-2 c = search needs
+returns-2 c =
+    let start = c .before .before .before .before .before .before .before .before .before in
+    as-intake (start .args .sheet .now) refl (start .pre) (with-line (c .before .before .before .before .decide .ensures) (c .if1 .left))
 
 pub answer-spec : {M : Type 1} → statement M
 answer-spec =
     tie.close
     (tie.spec
-    large-buffer-requires
     slice-aggregate-decide
-    slice-aggregate-decide-2
     decide-requires
-    refuse-requires
+    number-line-requires
+    same-length
     returns
-    array-share-prefix-out
-    slice-aggregate-write-all
-    write-all-requires
+    same-length-2
     returns-2)
