@@ -24,7 +24,7 @@ passed-over s i o os p why f =
     record {
       before = o ∷ f .before;
       behind = f .behind;
-      split = ap {B = List (Outcome Condition)} (λ r. o ∷ r) (f .split);
+      parts = ap {B = List (Outcome Condition)} (λ r. o ∷ r) (f .parts);
       place = f .place ∙ omega arith;
       isEligible = f .isEligible;
       isTrue = f .isTrue;
@@ -47,7 +47,7 @@ selected-is-first s i [] p e = never (select s i []) p noOutcome e (select-none 
 selected-is-first s i (o ∷ os) p e = by (λ h. selected-is-first s (i + 1) os p h) (eligible (s .state) o) refl
   where
     here : eligible (s .state) o ≡ true → (a : Answer) → guard s (o .when) ≡ ok a → a .truth ≡ True → FirstTrue s i (o ∷ os) (record { place = i; outcome = o })
-    here b a g t = record { before = []; behind = os; split = refl; place = omega arith; isEligible = b; isTrue = (a, g, t); areFalse = λ x m. elim m [ ] }
+    here b a g t = record { before = []; behind = os; parts = refl; place = omega arith; isEligible = b; isTrue = (a, g, t); areFalse = λ x m. elim m [ ] }
 
     truly : (select s (i + 1) os ≡ ok p → FirstTrue s (i + 1) os p) → eligible (s .state) o ≡ true → (a : Answer) → guard s (o .when) ≡ ok a → (t : Truth) → a .truth ≡ t → FirstTrue s i (o ∷ os) p
     truly below b a g True t = subst (λ (x : Placed). FirstTrue s i (o ∷ os) x) (ok-injective (sym (select-true s i o os a b g t) ∙ e)) (here b a g t)
@@ -76,4 +76,4 @@ first-of s i (x ∷ before) behind o e a h = by (h x (List·Memᴰ·head refl)) 
         over true q = select-false s i x (before ++ (o ∷ behind)) (f .0) q (f .1) (f .2)
 
 pub first-is-selected : (s : Sheet Condition) (i : ℕ) (os : List (Outcome Condition)) (p : Placed) → FirstTrue s i os p → select s i os ≡ ok p
-first-is-selected s i os p f = let q = f .split in let r = f .place in let e = first-of s i (f .before) (f .behind) (p .outcome) (f .isEligible) (f .isTrue) (f .areFalse) in ap (select s i) q ∙ e ∙ ap (λ (k : ℕ). ok (record { place = k; outcome = p .outcome })) (sym r)
+first-is-selected s i os p f = let q = f .parts in let r = f .place in let e = first-of s i (f .before) (f .behind) (p .outcome) (f .isEligible) (f .isTrue) (f .areFalse) in ap (select s i) q ∙ e ∙ ap (λ (k : ℕ). ok (record { place = k; outcome = p .outcome })) (sym r)

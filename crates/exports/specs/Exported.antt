@@ -8,11 +8,11 @@ use Rattle.line.specs.Reply.{lineSize}
 use Rattle.reader.specs.Bytes.{Bytes}
 
 -- the number in the upper 32 bits of a word, the length in the lower ones
-abbrev pub packed : ℕ → ℕ → ℕ
-packed number size = number * 4294967296 + size
+abbrev pub wordOf : ℕ → ℕ → ℕ
+wordOf number size = number * 4294967296 + size
 
 pub record Exported (answer : Reply) (w w′ : List ℕ) (o o′ : Bytes) (r : ℕ) : Type 0 where
-  pub word : r ≡ packed (answer .number) (lineSize answer)
+  pub word : r ≡ wordOf (answer .number) (lineSize answer)
   pub short : lineSize answer < 4294967296
   pub output : o′ ≡ outputAfter answer o
   pub work : w′ ≡ workAfter w

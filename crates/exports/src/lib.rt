@@ -10,12 +10,12 @@ ghost use mathlib.Core.Path.{_≡_};
 ghost use Prim.Native.Nat.{_<_, _≤_};
 ghost use lib.ListN.{length};
 ghost use Rattle.decision.specs.Entry.{admit, checkInvariants, checkPreconditions, decide, evaluate, select};
-ghost use Rattle.exports.specs.Exported.{Exported, packed};
+ghost use Rattle.exports.specs.Exported.{Exported, wordOf};
 
 // The number of an answer and the bytes of its line in one word.
-fn pack(sent: Sent) -> u64
+fn word_of(sent: Sent) -> u64
     requires { ⌜ (sent .number ≤ 23) × (sent .size < 4294967296) ⌝ }
-    ensures { λ r. ⌜ r ≡ packed (sent .number) (sent .size) ⌝ }
+    ensures { λ r. ⌜ r ≡ wordOf (sent .number) (sent .size) ⌝ }
 {
     let number = sent.number as u64;
     let size = sent.size as u64;
@@ -27,7 +27,7 @@ fn pack(sent: Sent) -> u64
 pub extern "C" fn intake_evaluate(sheet: &[u8], work: &mut [u32], out: &mut [u8]) -> u64
     ensures { λ r. ⌜ Exported (evaluate (now (sheet .entry)) (length (now (work .entry))) (length (now (out .entry)))) (now (work .entry)) (now (work .exit)) (now (out .entry)) (now (out .exit)) r ⌝ }
 {
-    pack(evaluate(sheet, work, out))
+    word_of(evaluate(sheet, work, out))
 }
 
 // Whether the preconditions hold.
@@ -35,7 +35,7 @@ pub extern "C" fn intake_evaluate(sheet: &[u8], work: &mut [u32], out: &mut [u8]
 pub extern "C" fn intake_preconditions(sheet: &[u8], work: &mut [u32], out: &mut [u8]) -> u64
     ensures { λ r. ⌜ Exported (checkPreconditions (now (sheet .entry)) (length (now (work .entry))) (length (now (out .entry)))) (now (work .entry)) (now (work .exit)) (now (out .entry)) (now (out .exit)) r ⌝ }
 {
-    pack(check_preconditions(sheet, work, out))
+    word_of(check_preconditions(sheet, work, out))
 }
 
 // Whether the invariants hold.
@@ -43,7 +43,7 @@ pub extern "C" fn intake_preconditions(sheet: &[u8], work: &mut [u32], out: &mut
 pub extern "C" fn intake_invariants(sheet: &[u8], work: &mut [u32], out: &mut [u8]) -> u64
     ensures { λ r. ⌜ Exported (checkInvariants (now (sheet .entry)) (length (now (work .entry))) (length (now (out .entry)))) (now (work .entry)) (now (work .exit)) (now (out .entry)) (now (out .exit)) r ⌝ }
 {
-    pack(check_invariants(sheet, work, out))
+    word_of(check_invariants(sheet, work, out))
 }
 
 // The first eligible outcome whose guard holds.
@@ -51,7 +51,7 @@ pub extern "C" fn intake_invariants(sheet: &[u8], work: &mut [u32], out: &mut [u
 pub extern "C" fn intake_select(sheet: &[u8], work: &mut [u32], out: &mut [u8]) -> u64
     ensures { λ r. ⌜ Exported (select (now (sheet .entry)) (length (now (work .entry))) (length (now (out .entry)))) (now (work .entry)) (now (work .exit)) (now (out .entry)) (now (out .exit)) r ⌝ }
 {
-    pack(select_outcome(sheet, work, out))
+    word_of(select_outcome(sheet, work, out))
 }
 
 // Whether the outcome at a place is kept in the sheet's state.
@@ -59,7 +59,7 @@ pub extern "C" fn intake_select(sheet: &[u8], work: &mut [u32], out: &mut [u8]) 
 pub extern "C" fn intake_admit(place: u64, sheet: &[u8], work: &mut [u32], out: &mut [u8]) -> u64
     ensures { λ r. ⌜ Exported (admit place (now (sheet .entry)) (length (now (work .entry))) (length (now (out .entry)))) (now (work .entry)) (now (work .exit)) (now (out .entry)) (now (out .exit)) r ⌝ }
 {
-    pack(admit_state(sheet, work, out, place as usize))
+    word_of(admit_state(sheet, work, out, place as usize))
 }
 
 // The whole decision: preconditions, selection, admission.
@@ -67,5 +67,5 @@ pub extern "C" fn intake_admit(place: u64, sheet: &[u8], work: &mut [u32], out: 
 pub extern "C" fn intake_decide(sheet: &[u8], work: &mut [u32], out: &mut [u8]) -> u64
     ensures { λ r. ⌜ Exported (decide (now (sheet .entry)) (length (now (work .entry))) (length (now (out .entry)))) (now (work .entry)) (now (work .exit)) (now (out .entry)) (now (out .exit)) r ⌝ }
 {
-    pack(decide(sheet, work, out))
+    word_of(decide(sheet, work, out))
 }

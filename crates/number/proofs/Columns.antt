@@ -18,11 +18,11 @@ use Rattle.reader.proofs.Laws.{eqb-no, eqb-true}
 use Rattle.reader.specs.Bytes.{Bytes, natural}
 
 -- what the digits below a place and those above it stand for
-value-split : (i : ℕ) (ds : List ℕ) → value ds ≡ value (take i ds) + 10 ^ i * value (drop i ds)
+value-parts : (i : ℕ) (ds : List ℕ) → value ds ≡ value (take i ds) + 10 ^ i * value (drop i ds)
 unfolding value
-value-split zero ds = omega arith
-value-split (suc i) [] = omega arith
-value-split (suc i) (d ∷ ds) = rw (pow-suc 10 i) (omega (arith, value-split i ds))
+value-parts zero ds = omega arith
+value-parts (suc i) [] = omega arith
+value-parts (suc i) (d ∷ ds) = rw (pow-suc 10 i) (omega (arith, value-parts i ds))
 
 value-snoc : (xs : List ℕ) (x : ℕ) → value (xs ++ (x ∷ [])) ≡ value xs + 10 ^ length xs * x
 unfolding value
@@ -46,7 +46,7 @@ module _ (ds : List ℕ) (n : ℕ) (clear : (i : ℕ) → n ≤ i → getD ds i 
   above-clear i h = value-zero (drop i ds) (λ k. getD-drop i ds k 0 ∙ clear (i + k) (omega (arith, h)))
 
   pub below-clear : (i : ℕ) → n ≤ i → value (take i ds) ≡ value ds
-  below-clear i h = omega (arith, value-split i ds, ap (λ (z : ℕ). 10 ^ i * z) (above-clear i h))
+  below-clear i h = omega (arith, value-parts i ds, ap (λ (z : ℕ). 10 ^ i * z) (above-clear i h))
 
 -- one digit more
 module _ (ds : List ℕ) (i : ℕ) (h : i < length ds) where

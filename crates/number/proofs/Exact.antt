@@ -84,14 +84,14 @@ abbrev pub AreDigits : Bytes → Type 0
 AreDigits [] = Unit {0}
 AreDigits (c ∷ s) = ((48 ≤ c) × (c ≤ 57)) × AreDigits s
 
-natural-split : (n : ℕ) (s : Bytes) → natural n s ≡ n * 10 ^ length s + natural 0 s
+natural-parts : (n : ℕ) (s : Bytes) → natural n s ≡ n * 10 ^ length s + natural 0 s
 unfolding natural
-natural-split n [] = omega arith
-natural-split n (c ∷ s) = rw (pow-suc 10 (length s)) (omega (arith, natural-split (n * 10 + (c - 48)) s, natural-split (0 * 10 + (c - 48)) s))
+natural-parts n [] = omega arith
+natural-parts n (c ∷ s) = rw (pow-suc 10 (length s)) (omega (arith, natural-parts (n * 10 + (c - 48)) s, natural-parts (0 * 10 + (c - 48)) s))
 
 pub natural-cons : (c : ℕ) (s : Bytes) → natural 0 (c ∷ s) ≡ (c - 48) * 10 ^ length s + natural 0 s
 unfolding natural
-natural-cons c s = natural-split (0 * 10 + (c - 48)) s ∙ ap (λ (k : ℕ). k * 10 ^ length s + natural 0 s) (omega arith)
+natural-cons c s = natural-parts (0 * 10 + (c - 48)) s ∙ ap (λ (k : ℕ). k * 10 ^ length s + natural 0 s) (omega arith)
 
 pub natural-nil : (n : ℕ) → natural n [] ≡ n
 unfolding natural
@@ -142,7 +142,7 @@ trim-digits (c ∷ s) h = go (trim-digits s (h .1)) (isZero c) refl
 -- zeros at the end
 pub record Ending (s : Bytes) : Type 0 where
   pub zeros : ℕ
-  pub split : s ≡ trimEnd s ++ replicate zeros 48
+  pub parts : s ≡ trimEnd s ++ replicate zeros 48
 
 abbrev pub Put : ℕ → Bytes → Bytes → Type 0
 Put c t u = ((t ≡ []) × (c ≡ 48) × (u ≡ [])) ⊎ ((u ≡ c ∷ t) × ((t ≢ []) ⊎ (c ≢ 48)))
@@ -164,12 +164,12 @@ unfolding trimEnd
 trimEnd-nil = refl
 
 pub ending : (s : Bytes) → Ending s
-ending [] = record { zeros = 0; split = cc (trimEnd-nil) }
+ending [] = record { zeros = 0; parts = cc (trimEnd-nil) }
 ending (c ∷ s) = go (ending s) (trimEnd-cons c s)
   where
     go : Ending s → Put c (trimEnd s) (trimEnd (c ∷ s)) → Ending (c ∷ s)
-    go t (inl e) = record { zeros = suc (t .zeros); split = cc (t .split, e .0, e .1, e .2) }
-    go t (inr e) = record { zeros = t .zeros; split = cc (t .split, e .0) }
+    go t (inl e) = record { zeros = suc (t .zeros); parts = cc (t .parts, e .0, e .1, e .2) }
+    go t (inr e) = record { zeros = t .zeros; parts = cc (t .parts, e .0) }
 
 -- every part at the end of a digit string is more than nothing
 abbrev pub Tight : Bytes → Type 0
@@ -221,8 +221,8 @@ core : (raw : Bytes) → AreDigits raw → Core raw
 core raw h =
     record {
       zeros = e .zeros;
-      total = sym (trim-natural raw) ∙ ap (natural 0) (e .split) ∙ natural-append 0 (trimEnd (trim raw)) (replicate (e .zeros) 48) ∙ natural-zeros (natural 0 (trimEnd (trim raw))) (e .zeros);
-      size = omega (arith, trim-length raw, ap length (e .split), length-append (trimEnd (trim raw)) (replicate (e .zeros) 48), length-replicate {A = ℕ} (e .zeros) 48);
+      total = sym (trim-natural raw) ∙ ap (natural 0) (e .parts) ∙ natural-append 0 (trimEnd (trim raw)) (replicate (e .zeros) 48) ∙ natural-zeros (natural 0 (trimEnd (trim raw))) (e .zeros);
+      size = omega (arith, trim-length raw, ap length (e .parts), length-append (trimEnd (trim raw)) (replicate (e .zeros) 48), length-replicate {A = ℕ} (e .zeros) 48);
       tight = k .0;
       areDigits = k .1;
       leads = leads (trim-first raw);

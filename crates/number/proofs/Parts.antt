@@ -290,7 +290,7 @@ part-prefix : (p : ℕ → Bool) (x : Bytes) → take (length (trimEnd (before p
 part-prefix p x =
     let e = ending (before p x) in
     let t = trimEnd (before p x) in
-    ap (take (length t)) (ahead p x ∙ ap (λ (u : Bytes). u ++ drop (length (before p x)) x) (e .split) ∙ append-assoc t (replicate (e .zeros) 48) (drop (length (before p x)) x)) ∙ take-append-seam t (replicate (e .zeros) 48 ++ drop (length (before p x)) x)
+    ap (take (length t)) (ahead p x ∙ ap (λ (u : Bytes). u ++ drop (length (before p x)) x) (e .parts) ∙ append-assoc t (replicate (e .zeros) 48) (drop (length (before p x)) x)) ∙ take-append-seam t (replicate (e .zeros) 48 ++ drop (length (before p x)) x)
 
 -- no point among them
 abbrev Plain : Bytes → Type 0
@@ -531,7 +531,7 @@ module _ (s : Bytes) where
   exponent-is = exponent-unsigned s
 
   trimEnd-shorter : (a : Bytes) → length (trimEnd a) ≤ length a
-  trimEnd-shorter a = let e = ending a in omega (arith, ap length (e .split), length-append (trimEnd a) (replicate (e .zeros) 48))
+  trimEnd-shorter a = let e = ending a in omega (arith, ap length (e .parts), length-append (trimEnd a) (replicate (e .zeros) 48))
 
   last-upto : (from known : ℕ) (pointed : Bool) (r : Ends) → EndsTold s from known pointed r → known ≤ length s → r .last ≤ length s
   last-upto from known pointed r e h = rw (e .last) (go (trimEnd (Left s pointed from)) (trimEnd-shorter (Left s pointed from)))
@@ -569,11 +569,11 @@ module _ (s : Bytes) where
       found false q f =
           let r = raw-unpointed (drop zero s) (rw (sym behind-whole) q) in
           (rw (r .0, ap (λ (k : Ends). k .last) f, w .last) (reach-whole zero (drop zero s)), b .rest ∙ ap (λ (k : Ends). tail (drop (k .end) s)) f ∙ ap tail behind-whole ∙ sym (r .1), rw f (last-upto zero zero false whole w (z .upto)))
-      found true q f = split (drop (whole .end) s) refl q
+      found true q f = at-point (drop (whole .end) s) refl q
         where
-          split : (t : Bytes) → drop (whole .end) s ≡ t → startsPoint t ≡ true → Found
-          split [] k h = absurd (true≢false (sym h))
-          split (d ∷ y) k h =
+          at-point : (t : Bytes) → drop (whole .end) s ≡ t → startsPoint t ≡ true → Found
+          at-point [] k h = absurd (true≢false (sym h))
+          at-point (d ∷ y) k h =
               let r = raw-pointed (drop zero s) y d (sym behind-whole ∙ k) h in
               let after : drop (whole .end + 1) s ≡ y = dropped (whole .end) 1 (d ∷ y) k in
               let el : ends .last ≡ lastOf (zero + length (Left s false zero) + 1) (lastOf zero zero (trimEnd (Left s false zero))) (trimEnd (before isE y)) = f .last ∙ rw (after, w .end, w .last) refl in
@@ -606,11 +606,11 @@ module _ (s : Bytes) where
     module _ (first : ℕ) (some : startsPoint (drop zero s) ≡ true) (k : ZerosTold s (zero + 1) first) (ends : Ends) (w : EndsTold s first first true ends) (e : ℕ) (b : BehindTold s (ends .end) e) where
       pub parsed-fraction : (negative : Bool) → negative ≡ minus s → Parsed s (record { negative = negative; digits = record { at = first; end = ends .last; pointed = true }; whole = zero - start; leading = first - start - 1; exponent = e })
       unfolding digitsAt
-      parsed-fraction negative n = split (drop zero s) refl some
+      parsed-fraction negative n = at-point (drop zero s) refl some
         where
-          split : (t : Bytes) → drop zero s ≡ t → startsPoint t ≡ true → Parsed s (record { negative = negative; digits = record { at = first; end = ends .last; pointed = true }; whole = zero - start; leading = first - start - 1; exponent = e })
-          split [] p h = absurd (true≢false (sym h))
-          split (d ∷ y) p h =
+          at-point : (t : Bytes) → drop zero s ≡ t → startsPoint t ≡ true → Parsed s (record { negative = negative; digits = record { at = first; end = ends .last; pointed = true }; whole = zero - start; leading = first - start - 1; exponent = e })
+          at-point [] p h = absurd (true≢false (sym h))
+          at-point (d ∷ y) p h =
               let after : drop (zero + 1) s ≡ y = dropped zero 1 (d ∷ y) p in
               let from : FromFraction u y = from-fraction u y d (sym zero-rest ∙ p) h in
               let x : drop first s ≡ trim y = k .rest ∙ ap trim after in

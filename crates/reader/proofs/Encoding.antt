@@ -73,19 +73,19 @@ module _ (e : Expected) (c : ℕ) (r : Expected) where
   follows-first z l t = ap (λ (n : ℕ). utf8 (expecting (e .low) (e .high) n) (c ∷ t)) z ∙ l t
 
   module _ (nz : e .left ≡ 0 → ⊥) where
-    split : (t : Bytes) → utf8 (expectOf e) (c ∷ t) ≡ elim (leb (e .low) c && leb c (e .high)) [ true ↦ utf8 (after (e .left - 1)) t | false ↦ false ]
+    further : (t : Bytes) → utf8 (expectOf e) (c ∷ t) ≡ elim (leb (e .low) c && leb c (e .high)) [ true ↦ utf8 (after (e .left - 1)) t | false ↦ false ]
     unfolding utf8
-    split t = go (e .left) nz
+    further t = go (e .left) nz
       where
         go : (n : ℕ) → (n ≡ 0 → ⊥) → utf8 (expecting (e .low) (e .high) n) (c ∷ t) ≡ elim (leb (e .low) c && leb c (e .high)) [ true ↦ utf8 (after (n - 1)) t | false ↦ false ]
         go zero f = absurd (f refl)
         go (suc n) f = let q : n ≡ suc n - 1 = omega arith in ap {B = Bool} (λ (m : ℕ). elim (leb (e .low) c && leb c (e .high)) [ true ↦ utf8 (after m) t | false ↦ false ]) q
 
     pub follows-out : (e .low ≤ c → c ≤ e .high → ⊥) → r ≡ record { low = 255; high = 0; left = 1 } → Follows e c r
-    follows-out f q t = split t ∙ rw (between-out (e .low) (e .high) c f) (sym (ap (λ (k : Expected). utf8 (expectOf k) t) q ∙ empty-range t))
+    follows-out f q t = further t ∙ rw (between-out (e .low) (e .high) c f) (sym (ap (λ (k : Expected). utf8 (expectOf k) t) q ∙ empty-range t))
 
     pub follows-in : e .low ≤ c → c ≤ e .high → r ≡ record { low = 128; high = 191; left = e .left - 1 } → Follows e c r
-    follows-in p k q t = split t ∙ rw (between-of (e .low) (e .high) c p k) (ap (λ (x : Expect). utf8 x t) (go (e .left - 1)) ∙ sym (ap (λ (x : Expected). utf8 (expectOf x) t) q))
+    follows-in p k q t = further t ∙ rw (between-of (e .low) (e .high) c p k) (ap (λ (x : Expect). utf8 x t) (go (e .left - 1)) ∙ sym (ap (λ (x : Expected). utf8 (expectOf x) t) q))
       where
         go : (n : ℕ) → after n ≡ expecting 128 191 n
         go zero = refl

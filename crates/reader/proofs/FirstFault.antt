@@ -105,7 +105,7 @@ four s e = go (parse-local s)
         record {
           good = s;
           rest = [];
-          split = sym (append-nil s);
+          parts = sym (append-nil s);
           continues = g .0;
           decoded = λ d. more-utf8 s (g .0 .more) d (g .2);
           dead = λ c t h. absurd (omega (arith, ap length h));
@@ -119,7 +119,7 @@ four s e = go (parse-local s)
             record {
               good = good;
               rest = c ∷ x;
-              split = i;
+              parts = i;
               continues = g .0;
               decoded = λ d. more-utf8 good (g .0 .more) (cut-utf8 good c x (subst (λ (b : Bytes). utf8 scalar b ≡ true) i d) edge) (g .2);
               dead = λ d t j. subst (λ (b : ℕ). ¬ Continues (good ++ (b ∷ []))) (ap head j) (not-continued good c stays);
@@ -156,7 +156,7 @@ five-to-eight s q l e = go (parse-local s)
               good = good;
               byte = c;
               rest = x;
-              split = i;
+              parts = i;
               stands = n;
               continues = k .0;
               decoded = λ d. ap (utf8 scalar) (append-assoc good (c ∷ []) (k .0 .more)) ∙ more-utf8 good (c ∷ k .0 .more) (whole d) (ascii-behind (k .0 .more) (stands-ascii n) (k .2));
@@ -214,7 +214,7 @@ not-read s n v t = go (n .rest) refl
   where
     go : (r : Bytes) → n .rest ≡ r → ⊥
     go [] e = n .over e v t
-    go (c ∷ r) e = n .dead c r e (record { more = r; tree = v; isJson = subst (λ (x : Bytes). JsonText v x) (n .split ∙ ap (λ (x : Bytes). n .good ++ x) e ∙ sym (append-assoc (n .good) (c ∷ []) r)) t })
+    go (c ∷ r) e = n .dead c r e (record { more = r; tree = v; isJson = subst (λ (x : Bytes). JsonText v x) (n .parts ∙ ap (λ (x : Bytes). n .good ++ x) e ∙ sym (append-assoc (n .good) (c ∷ []) r)) t })
 
 answered : (s : Bytes) (q : Refusal) → FirstFault s q → json s ≡ refused q
 unfolding json
@@ -229,7 +229,7 @@ answered s q (Fault.unspelled l u n) = json-is s l u ∙ go (parse s) refl
         by : (r ≡ notJson) ⊎ Limit r → parse s ≡ refused notJson
         by (inl h) = e ∙ ap refused h
         by (inr m) = absurd (n .none-before s [] r (sym (append-nil s)) m e)
-answered s q (Fault.past l u n) = json-is s l u ∙ ap parse (n .split) ∙ n .whatever (n .rest)
+answered s q (Fault.past l u n) = json-is s l u ∙ ap parse (n .parts) ∙ n .whatever (n .rest)
 
 -- A text is refused with a number exactly where that number is its first fault.
 pub first-fault : (s : Bytes) (q : Refusal) → (json s ≡ refused q) ↔ FirstFault s q

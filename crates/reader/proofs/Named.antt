@@ -74,15 +74,15 @@ node-local {mk} {P} {G} {T} c n s Q h quiet begins g w o = go (ltb n Limits.maxN
     go false e = stopped tooManyNodes c s (λ x. h x ∙ rw (e, Reader.oneNode) refl) quiet g (past (Fault.begins begins) w)
 
 -- a name: where it repeats another, it is refused at its closing quote
-tail-split : {s r : Bytes} → Tail s r → (pre : Bytes) × (s ≡ pre ++ r)
-tail-split whole = ([], refl)
-tail-split (later {c} t) = let k = tail-split t in (c ∷ k .0, ap {B = Bytes} (λ x. c ∷ x) (k .1))
+tail-parts : {s r : Bytes} → Tail s r → (pre : Bytes) × (s ≡ pre ++ r)
+tail-parts whole = ([], refl)
+tail-parts (later {c} t) = let k = tail-parts t in (c ∷ k .0, ap {B = Bytes} (λ x. c ∷ x) (k .1))
 
 chars-last : {x s r : Bytes} → Chars x s r → (body : Bytes) × (s ≡ body ++ (34 ∷ r))
 chars-last (Grammar.close {r = r} e) = ([], ap (λ (c : ℕ). c ∷ r) e)
 chars-last (Grammar.unescaped {c} e k) = let b = chars-last k in (c ∷ b .0, ap {B = Bytes} (λ x. c ∷ x) (b .1))
 chars-last (Chars.escape {c} {t = t} {r = r} e y k q) =
-    let p = tail-split (escape-tail y) in
+    let p = tail-parts (escape-tail y) in
     let b = chars-last k in
     (c ∷ (p .0 ++ b .0), ap {B = Bytes} (λ x. c ∷ x) (p .1 ∙ ap (λ (x : Bytes). p .0 ++ x) (b .1) ∙ sym (append-assoc (p .0) (b .0) (34 ∷ r))))
 
@@ -118,19 +118,19 @@ new-name names rest k x false e = rw (e, Reader.newName) refl
 
 module _ {A B : Type 0} {mk : B → Bytes → A} {G : Bool → Bytes → Type 0} {T : B → Bytes → Type 0} (names : List Bytes) (rest : Bytes → Bytes → Result A) (s : Bytes) where
   repeated : (k used r : Bytes) → s ≡ used ++ r → Takes Chars k used → isOneOf k names ≡ true → G false used → ((g : Bytes) → LongChars g → G true g) → Outcome mk (nameThen names rest) G T s
-  repeated k used r e t q g opens = fault repeatedName (body .0) 34 r (e ∙ ap (λ (x : Bytes). x ++ r) split ∙ append-assoc (body .0) (34 ∷ []) r) refuses (quiet-at (bind-refused _ (unclosed .0)) early) (opens (body .0) (unclosed .1)) (past (Fault.quote refl) (subst (λ x. G false x) split g)) (λ i. absurd (true≢false i))
+  repeated k used r e t q g opens = fault repeatedName (body .0) 34 r (e ∙ ap (λ (x : Bytes). x ++ r) closed ∙ append-assoc (body .0) (34 ∷ []) r) refuses (quiet-at (bind-refused _ (unclosed .0)) early) (opens (body .0) (unclosed .1)) (past (Fault.quote refl) (subst (λ x. G false x) closed g)) (λ i. absurd (true≢false i))
     where
       body : (x : Bytes) × (used ++ [] ≡ x ++ (34 ∷ []))
       body = chars-last (t [])
 
-      split : used ≡ body .0 ++ (34 ∷ [])
-      split = sym (append-nil used) ∙ body .1
+      closed : used ≡ body .0 ++ (34 ∷ [])
+      closed = sym (append-nil used) ∙ body .1
 
       unclosed : (charsOf (body .0) ≡ refused notJson) × LongChars (body .0)
-      unclosed = chars-unclosed k (body .0) (subst (λ (x : Bytes). Chars k x []) (append-nil used ∙ split) (t []))
+      unclosed = chars-unclosed k (body .0) (subst (λ (x : Bytes). Chars k x []) (append-nil used ∙ closed) (t []))
 
       refuses : (x : Bytes) → nameThen names rest (body .0 ++ (34 ∷ x)) ≡ refused repeatedName
-      refuses x = ap (nameThen names rest) (sym (ap (λ (y : Bytes). y ++ x) split ∙ append-assoc (body .0) (34 ∷ []) x)) ∙ bind-ok _ (chars-complete (length (used ++ x)) (omega arith) (t x)) ∙ new-name names rest k x true q
+      refuses x = ap (nameThen names rest) (sym (ap (λ (y : Bytes). y ++ x) closed ∙ append-assoc (body .0) (34 ∷ []) x)) ∙ bind-ok _ (chars-complete (length (used ++ x)) (omega arith) (t x)) ∙ new-name names rest k x true q
 
   name-local : ((i : Bool) (g : Bytes) → LongChars g → G i g) → ((k used : Bytes) → Takes Chars k used → G false used) → ((k used r : Bytes) → isOneOf k names ≡ false → Takes Chars k used → Outcome mk (rest k) (λ i g. G i (used ++ g)) (λ b u. T b (used ++ u)) r) → Outcome mk (nameThen names rest) G T s
   name-local opens named follow = go (chars-local s)

@@ -71,7 +71,7 @@ pub data Answered (v : Value) : Result Value → Type 0 where
 pub record NotJson (s : Bytes) : Type 0 where
   pub good : Bytes
   pub rest : Bytes
-  pub split : s ≡ good ++ rest
+  pub parts : s ≡ good ++ rest
   pub continues : Continues good
   pub decoded : utf8 scalar s ≡ true → utf8 scalar (good ++ continues .more) ≡ true
   pub dead : (c : ℕ) (t : Bytes) → rest ≡ c ∷ t → ¬ Continues (good ++ (c ∷ []))
@@ -83,7 +83,7 @@ pub record Past (q : Refusal) (s : Bytes) : Type 0 where
   pub good : Bytes
   pub byte : ℕ
   pub rest : Bytes
-  pub split : s ≡ good ++ (byte ∷ rest)
+  pub parts : s ≡ good ++ (byte ∷ rest)
   pub stands : StandsAt q byte
   pub continues : Continues (good ++ (byte ∷ []))
   pub decoded : utf8 scalar s ≡ true → utf8 scalar (good ++ (byte ∷ []) ++ continues .more) ≡ true

@@ -23,7 +23,7 @@ Answers s w t = (a : Answer) × (guard s w ≡ ok a) × (a .truth ≡ t)
 pub record FirstTrue (s : Sheet Condition) (i : ℕ) (os : List (Outcome Condition)) (p : Placed) : Type 0 where
   pub before : List (Outcome Condition)
   pub behind : List (Outcome Condition)
-  pub split : os ≡ before ++ (p .outcome ∷ behind)
+  pub parts : os ≡ before ++ (p .outcome ∷ behind)
   pub place : p .place ≡ i + length before
   pub isEligible : eligible (s .state) (p .outcome) ≡ true
   pub isTrue : Answers s (p .outcome .when) True

@@ -19,7 +19,7 @@ use Rattle.reader.specs.Cursor.{OnText, Took, before}
 use Rattle.reader.specs.Spans.{textAt}
 use Rattle.reader.specs.declared.text.Cursor.{Cursor}
 use Rattle.reader.specs.declared.text.Taken.{Taken}
-use Rattle.sheet.specs.Words.{position, split, words}
+use Rattle.sheet.specs.Words.{position, wordsFrom, words}
 
 pub here : (l : Bytes) (i : ℕ) → i < length l → drop i l ≡ getD l i 0 ∷ drop (i + 1) l
 here l i h = rw add-one (drop-cons l i 0 h)
@@ -102,20 +102,20 @@ pub record Listing (k names : Bytes) (n from i : ℕ) : Type 0 where
   pub order : from ≤ i
   pub upto : i ≤ length names
   pub few : n ≤ i
-  pub rest : position 0 k (words names) ≡ position n k (split (take (i - from) (drop from names)) (drop i names))
+  pub rest : position 0 k (words names) ≡ position n k (wordsFrom (take (i - from) (drop from names)) (drop i names))
 
 pub listing : (k names : Bytes) → Listing k names 0 0 0
 listing k names = record { order = omega arith; upto = omega arith; few = omega arith; rest = refl }
 
 module _ {k names : Bytes} {n from i : ℕ} (l : Listing k names n from i) where
   pub list-ended : length names ≤ i → position 0 k (words names) ≡ none
-  unfolding position split
+  unfolding position wordsFrom
   list-ended h = l .rest ∙ rw (drop-of-length-le names h)
 
   module _ (h : i < length names) where
-    split-comma : getD names i 0 ≡ 44 → position 0 k (words names) ≡ position n k (take (i - from) (drop from names) ∷ split [] (drop (i + 1) names))
-    unfolding split
-    split-comma e = l .rest ∙ rw (here names i h, eq-eqb (getD names i 0) 44 e, split)
+    at-comma : getD names i 0 ≡ 44 → position 0 k (words names) ≡ position n k (take (i - from) (drop from names) ∷ wordsFrom [] (drop (i + 1) names))
+    unfolding wordsFrom
+    at-comma e = l .rest ∙ rw (here names i h, eq-eqb (getD names i 0) 44 e, wordsFrom)
 
     -- a word that does not begin as the text does: where the word is empty, a comma stands there
     pub other-word : getD names i 0 ≡ 44 → (getD names from 0 ≡ getD k 0 44 → ⊥) → false ≡ sameBytes k (take (i - from) (drop from names))
@@ -132,11 +132,11 @@ module _ {k names : Bytes} {n from i : ℕ} (l : Listing k names n from i) where
 
     pub listed : getD names i 0 ≡ 44 → true ≡ sameBytes k (take (i - from) (drop from names)) → position 0 k (words names) ≡ some n
     unfolding position
-    listed e q = split-comma e ∙ rw (sym q, position)
+    listed e q = at-comma e ∙ rw (sym q, position)
 
     pub next-word : getD names i 0 ≡ 44 → false ≡ sameBytes k (take (i - from) (drop from names)) → Listing k names (n + 1) (i + 1) (i + 1)
     unfolding position
-    next-word e q = record { order = omega arith; upto = omega arith; few = omega (arith, l .few); rest = split-comma e ∙ rw (sym q, position) (ap (λ (m : ℕ). position (n + 1) k (split (take m (drop (i + 1) names)) (drop (i + 1) names))) z) }
+    next-word e q = record { order = omega arith; upto = omega arith; few = omega (arith, l .few); rest = at-comma e ∙ rw (sym q, position) (ap (λ (m : ℕ). position (n + 1) k (wordsFrom (take m (drop (i + 1) names)) (drop (i + 1) names))) z) }
       where
         z : 0 ≡ i + 1 - (i + 1)
         z = omega arith
@@ -149,8 +149,8 @@ module _ {k names : Bytes} {n from i : ℕ} (l : Listing k names n from i) where
         sym (ap (λ (m : ℕ). take m (drop from names)) a ∙ take-suc (drop from names) (i - from) 0 r ∙ ap (λ (x : ℕ). take (i - from) (drop from names) ++ x ∷ []) (getD-drop from names (i - from) 0 ∙ ap (λ (m : ℕ). getD names m 0) b))
 
     pub same-word : (getD names i 0 ≡ 44 → ⊥) → Listing k names n from (i + 1)
-    unfolding split
-    same-word f = record { order = omega (arith, l .order); upto = omega arith; few = omega (arith, l .few); rest = l .rest ∙ rw (here names i h, ne-eqb (getD names i 0) 44 f, split) (ap (λ (w : Bytes). position n k (split w (drop (i + 1) names))) longer) }
+    unfolding wordsFrom
+    same-word f = record { order = omega (arith, l .order); upto = omega arith; few = omega (arith, l .few); rest = l .rest ∙ rw (here names i h, ne-eqb (getD names i 0) 44 f, wordsFrom) (ap (λ (w : Bytes). position n k (wordsFrom w (drop (i + 1) names))) longer) }
 
 pub listing-at : {k names : Bytes} {n from n′ from′ i : ℕ} → n ≡ n′ → from ≡ from′ → Listing k names n′ from′ i → Listing k names n from i
 listing-at p q l = rw (p, q) l

@@ -8,12 +8,12 @@ use lib.Dec.{eqb}
 use Rattle.reader.specs.Bytes.{Bytes, sameBytes}
 
 -- the words from here on, the first of which begins with the bytes given
-unfoldable pub split : Bytes → Bytes → List Bytes
-split w [] = []
-split w (c ∷ s) = elim (eqb c 44) [ true ↦ w ∷ split [] s | false ↦ split (w ++ c ∷ []) s ]
+unfoldable pub wordsFrom : Bytes → Bytes → List Bytes
+wordsFrom w [] = []
+wordsFrom w (c ∷ s) = elim (eqb c 44) [ true ↦ w ∷ wordsFrom [] s | false ↦ wordsFrom (w ++ c ∷ []) s ]
 
 abbrev pub words : Bytes → List Bytes
-words s = split [] s
+words s = wordsFrom [] s
 
 -- the place of the first word that is the text, counted from n
 unfoldable pub position : ℕ → Bytes → List Bytes → Option ℕ

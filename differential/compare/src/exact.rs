@@ -4,7 +4,7 @@
 use crate::damage::text;
 use crate::sheets::{questions, shape, Question, Room};
 use crate::Options;
-use intake::{unpacked, WORK};
+use intake::{parts_of, WORK};
 use std::alloc::{alloc, dealloc, handle_alloc_error, Layout};
 
 /// So many elements that hold no value.
@@ -38,7 +38,7 @@ fn asked(text: &[u8], question: &Question) -> u64 {
     let (work, out, sheet) = (Raw::<u32>::new(question.words), Raw::<u8>::new(bytes), text.to_vec().into_boxed_slice());
     // SAFETY: each pointer is that of so many elements; no call reads a value of the two that it may write before it has written it.
     let word = unsafe { question.call.word(&sheet, work.at, question.words, out.at, bytes) };
-    let (number, length) = unpacked(word);
+    let (number, length) = parts_of(word);
     let used = if number == 1 { 0 } else { WORK };
     // SAFETY: the call has written these.
     let (work, line) = unsafe { (std::slice::from_raw_parts(work.at, used), std::slice::from_raw_parts(out.at, length)) };

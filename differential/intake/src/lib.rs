@@ -64,7 +64,7 @@ impl Call {
 }
 
 /// Number and length of the line in a word that a call gave back.
-pub fn unpacked(word: u64) -> (u32, usize) {
+pub fn parts_of(word: u64) -> (u32, usize) {
     ((word >> 32) as u32, word as u32 as usize)
 }
 
@@ -104,7 +104,7 @@ impl Lent {
         work.fill(word);
         out.fill(byte);
         // SAFETY: the pointers are those of slices of these lengths, borrowed for the call.
-        let (number, length) = unpacked(unsafe { call.word(sheet, work.as_mut_ptr(), words, out.as_mut_ptr(), bytes) });
+        let (number, length) = parts_of(unsafe { call.word(sheet, work.as_mut_ptr(), words, out.as_mut_ptr(), bytes) });
         held(number <= LAST, &format!("{number} is not among the numbers"))?;
         let (used, spare) = work.split_at(if number == 1 { 0 } else { WORK.min(words) });
         held(spare.iter().all(|found| *found == word), "words that were not to be touched changed")?;

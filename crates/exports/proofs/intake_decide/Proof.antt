@@ -1,6 +1,6 @@
 -- `exports::intake_decide` meets its contract: the entry's number and size, in one word.
 -- Assumes nothing.
-use Rattle.exports.proofs.Packing.{decide-small, exported, fits}
+use Rattle.exports.proofs.Words.{decide-small, exported, fits}
 use borrow.Author.Needs.{needs}
 use Rattle.exports.proofs.intake_decide.Statement.{statement}
 use Rattle.exports.proofs.intake_decide.Tie as tie
@@ -8,8 +8,8 @@ use Rattle.exports.proofs.intake_decide.Tie as tie
 decide-requires : tie.Need-decide-requires
 decide-requires c κs = search needs
 
-pack-requires : tie.Need-pack-requires
-pack-requires c κs = fits (decide-small _ _ _) (c .before .before .before .before .decide .ensures)
+word-of-requires : tie.Need-word-of-requires
+word-of-requires c κs = fits (decide-small _ _ _) (c .before .before .before .before .decide .ensures)
 
 same-length : tie.Need-same-length
 same-length c = search needs
@@ -18,7 +18,7 @@ same-length-2 : tie.Need-same-length-2
 same-length-2 c = search needs
 
 returns : tie.Need-returns
-returns c = exported (c .before .before .before .before .before .decide .ensures) (c .pack .ensures)
+returns c = exported (c .before .before .before .before .before .decide .ensures) (c .word-of .ensures)
 
 pub intake-decide-spec : {M : Type 1} → statement M
-intake-decide-spec = tie.close (tie.spec decide-requires pack-requires same-length same-length-2 returns)
+intake-decide-spec = tie.close (tie.spec decide-requires word-of-requires same-length same-length-2 returns)

@@ -1,6 +1,6 @@
 -- `exports::intake_select` meets its contract: the entry's number and size, in one word.
 -- Assumes nothing.
-use Rattle.exports.proofs.Packing.{exported, fits, select-small}
+use Rattle.exports.proofs.Words.{exported, fits, select-small}
 use borrow.Author.Needs.{needs}
 use Rattle.exports.proofs.intake_select.Statement.{statement}
 use Rattle.exports.proofs.intake_select.Tie as tie
@@ -8,8 +8,8 @@ use Rattle.exports.proofs.intake_select.Tie as tie
 select-outcome-requires : tie.Need-select-outcome-requires
 select-outcome-requires c κs = search needs
 
-pack-requires : tie.Need-pack-requires
-pack-requires c κs = fits (select-small _ _ _) (c .before .before .before .before .select-outcome .ensures)
+word-of-requires : tie.Need-word-of-requires
+word-of-requires c κs = fits (select-small _ _ _) (c .before .before .before .before .select-outcome .ensures)
 
 same-length : tie.Need-same-length
 same-length c = search needs
@@ -18,7 +18,7 @@ same-length-2 : tie.Need-same-length-2
 same-length-2 c = search needs
 
 returns : tie.Need-returns
-returns c = exported (c .before .before .before .before .before .select-outcome .ensures) (c .pack .ensures)
+returns c = exported (c .before .before .before .before .before .select-outcome .ensures) (c .word-of .ensures)
 
 pub intake-select-spec : {M : Type 1} → statement M
-intake-select-spec = tie.close (tie.spec select-outcome-requires pack-requires same-length same-length-2 returns)
+intake-select-spec = tie.close (tie.spec select-outcome-requires word-of-requires same-length same-length-2 returns)

@@ -5,7 +5,7 @@ use borrow.Author.Tests.{not-false, not-true}
 use Rattle.sheet.proofs.Rules.{a-word, effect-further, effect-moves, effect-nowhere, no-word, not-effect, object-members, on-text}
 use Rattle.sheet.proofs.Walks.{room}
 use Rattle.sheet.proofs.Wanted.{found-node}
-use Rattle.sheet.specs.Words.{split}
+use Rattle.sheet.specs.Words.{wordsFrom}
 use borrow.Author.Needs.{needs}
 use Rattle.sheet.proofs.outcome.is_effect.Statement.{statement}
 use Rattle.sheet.proofs.outcome.is_effect.Tie as tie
@@ -29,11 +29,11 @@ enum-known--n : tie.Need-enum-known--n
 enum-known--n c = search needs
 
 returns : tie.Need-returns
-unfolding split
+unfolding wordsFrom
 returns c = no-word (c .before .before .before .before .before .before .before .before .before .pre) _ (c .before .before .before .before .before .before .kind-at .ensures) (c .before .before .before .before .before .if1 .taken) _ (c .before .before .before .before .start-at .ensures) _ (c .before .before .which .ensures) (c .enum-told .given .1)
 
 returns-2 : tie.Need-returns-2
-unfolding split
+unfolding wordsFrom
 returns-2 c = a-word (c .before .before .before .before .before .before .before .before .before .before .pre) _ (c .before .before .before .before .before .before .before .kind-at .ensures) (c .before .before .before .before .before .before .if1 .taken) _ (c .before .before .before .before .before .start-at .ensures) _ (c .before .before .before .which .ensures) (c .before .-n .given .0 .0) (c .before .-n .given .1)
 
 returns-3 : tie.Need-returns-3
@@ -52,7 +52,7 @@ only-requires : tie.Need-only-requires
 only-requires c κs = object-members (c .before .before .before .before .before .before .before .pre) _ (c .before .before .before .before .kind-at .ensures) (c .before .before .if2 .left) _ (c .before .after-at .ensures)
 
 returns-4 : tie.Need-returns-4
-unfolding split
+unfolding wordsFrom
 returns-4 c = effect-further (c .before .before .before .before .before .before .before .before .before .pre) _ (c .before .before .before .before .before .before .kind-at .ensures) (c .before .before .before .before .if2 .left) _ (c .before .before .before .after-at .ensures) (sym (not-true _ (c .if3 .taken)) ∙ c .before .only .ensures)
 
 slice-aggregate-named : tie.Need-slice-aggregate-named
@@ -71,11 +71,11 @@ is-move-requires : tie.Need-is-move-requires
 is-move-requires c κs = found-node (c .before .n .given .0 .0) (c .before .n .given .1) (c .before .before .before .named .ensures .told .bounds)
 
 returns-5 : tie.Need-returns-5
-unfolding split
+unfolding wordsFrom
 returns-5 c = effect-nowhere (c .before .before .before .before .before .before .before .before .before .before .before .before .before .pre) _ (c .before .before .before .before .before .before .before .before .before .before .kind-at .ensures) (c .before .before .before .before .before .before .before .before .if2 .left) _ (c .before .before .before .before .before .before .before .after-at .ensures) (sym (not-false _ (c .before .before .before .before .if3 .left)) ∙ c .before .before .before .before .before .only .ensures) _ (c .before .before .named .ensures .told .answers) (c .enum-told2 .given .1)
 
 returns-6 : tie.Need-returns-6
-unfolding split
+unfolding wordsFrom
 returns-6 c = effect-moves (c .before .before .before .before .before .before .before .before .before .before .before .before .before .before .before .pre) _ (c .before .before .before .before .before .before .before .before .before .before .before .before .kind-at .ensures) (c .before .before .before .before .before .before .before .before .before .before .if2 .left) _ (c .before .before .before .before .before .before .before .before .before .after-at .ensures) (sym (not-false _ (c .before .before .before .before .before .before .if3 .left)) ∙ c .before .before .before .before .before .before .before .only .ensures) _ (c .before .before .before .before .named .ensures .told .answers) (c .before .before .n .given .0 .0) _ (c .before .before .n .given .1) (c .is-move .ensures)
 
 pub is-effect-spec : {M : Type 1} → statement M

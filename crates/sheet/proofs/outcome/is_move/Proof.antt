@@ -2,7 +2,7 @@
 -- Assumes nothing.
 use Rattle.sheet.proofs.Rules.{is-move, not-move, object-members}
 use Rattle.sheet.proofs.Walks.{room}
-use Rattle.sheet.specs.Words.{split}
+use Rattle.sheet.specs.Words.{wordsFrom}
 use borrow.Author.Needs.{needs}
 use Rattle.sheet.proofs.outcome.is_move.Statement.{statement}
 use Rattle.sheet.proofs.outcome.is_move.Tie as tie
@@ -35,7 +35,7 @@ needs-requires-2 : tie.Need-needs-requires-2
 needs-requires-2 c κs = search needs
 
 returns-2 : tie.Need-returns-2
-unfolding split
+unfolding wordsFrom
 returns-2 c = is-move (c .before .before .before .before .before .before .before .before .before .before .pre) _ (c .before .before .before .before .before .before .before .kind-at .ensures) (c .before .before .before .before .before .before .if1 .left) _ (c .before .before .before .before .before .after-at .ensures) _ (c .before .before .before .before .move-members .ensures) _ _ _ (c .before .before .only .ensures) (c .before .needs .ensures) (c .needs2 .ensures)
 
 pub is-move-spec : {M : Type 1} → statement M

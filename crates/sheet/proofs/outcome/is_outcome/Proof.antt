@@ -2,7 +2,7 @@
 -- Assumes nothing.
 use Rattle.sheet.proofs.Rules.{is-outcome, not-outcome, object-members}
 use Rattle.sheet.proofs.Walks.{room}
-use Rattle.sheet.specs.Words.{split}
+use Rattle.sheet.specs.Words.{wordsFrom}
 use borrow.Author.Needs.{needs}
 use Rattle.sheet.proofs.outcome.is_outcome.Statement.{statement}
 use Rattle.sheet.proofs.outcome.is_outcome.Tie as tie
@@ -44,7 +44,7 @@ allows-effect-requires : tie.Need-allows-effect-requires
 allows-effect-requires c κs = search needs
 
 returns-2 : tie.Need-returns-2
-unfolding split
+unfolding wordsFrom
 returns-2 c = is-outcome (c .before .before .before .before .before .before .before .before .before .before .before .before .before .pre) _ (c .before .before .before .before .before .before .before .before .before .before .kind-at .ensures) (c .before .before .before .before .before .before .before .before .before .if1 .left) _ (c .before .before .before .before .before .before .before .before .after-at .ensures) _ (c .before .before .before .before .before .before .before .members .ensures) _ _ _ _ _ _ (c .before .before .before .before .before .only .ensures) (c .before .before .before .before .needs .ensures) (c .before .before .before .allows .ensures) (c .before .before .allows2 .ensures) (c .before .allows3 .ensures) (c .allows-effect .ensures)
 
 pub is-outcome-spec : {M : Type 1} → statement M

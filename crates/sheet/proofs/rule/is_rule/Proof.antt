@@ -2,7 +2,7 @@
 -- Assumes nothing.
 use Rattle.sheet.proofs.Rules.{is-rule, not-rule, object-members}
 use Rattle.sheet.proofs.Walks.{room}
-use Rattle.sheet.specs.Words.{split}
+use Rattle.sheet.specs.Words.{wordsFrom}
 use borrow.Author.Needs.{needs}
 use Rattle.sheet.proofs.rule.is_rule.Statement.{statement}
 use Rattle.sheet.proofs.rule.is_rule.Tie as tie
@@ -38,7 +38,7 @@ allows-requires-2 : tie.Need-allows-requires-2
 allows-requires-2 c κs = search needs
 
 returns-2 : tie.Need-returns-2
-unfolding split
+unfolding wordsFrom
 returns-2 c = is-rule (c .before .before .before .before .before .before .before .before .before .before .before .pre) _ (c .before .before .before .before .before .before .before .before .kind-at .ensures) (c .before .before .before .before .before .before .before .if1 .left) _ (c .before .before .before .before .before .before .after-at .ensures) _ (c .before .before .before .before .before .members .ensures) _ _ _ _ (c .before .before .before .only .ensures) (c .before .before .needs .ensures) (c .before .allows .ensures) (c .allows2 .ensures)
 
 pub is-rule-spec : {M : Type 1} → statement M

@@ -1,7 +1,7 @@
 -- `sheet::sheet::are_sheet` meets its contract: its names are known and each member is what it must be.
 -- Assumes nothing.
 use Rattle.sheet.proofs.Sheets.{is-sheet}
-use Rattle.sheet.specs.Words.{split}
+use Rattle.sheet.specs.Words.{wordsFrom}
 use Rattle.sheet.proofs.sheet.are_sheet.Statement.{statement}
 use Rattle.sheet.proofs.sheet.are_sheet.Tie as tie
 
@@ -51,7 +51,7 @@ needs-array-requires-3 : tie.Need-needs-array-requires-3
 needs-array-requires-3 c κs = c .before .before .before .before .before .before .before .before .before .before .before .before .before .before .before .before .before .before .pre .1 .outcomes .bounds
 
 returns : tie.Need-returns
-unfolding split
+unfolding wordsFrom
 returns c = is-sheet _ _ (c .before .before .before .before .before .before .before .before .before .before .before .before .before .before .before .before .before .before .before .pre .1) _ _ _ _ _ _ _ _ _ _ _ _ _ _ _ (c .before .before .before .before .before .before .before .before .before .before .before .before .before .before .only .ensures) (c .before .before .before .before .before .before .before .before .before .before .before .before .before .allows .ensures) (c .before .before .before .before .before .before .before .before .before .before .before .before .needs .ensures) (c .before .before .before .before .before .before .before .before .before .before .before .needs2 .ensures) (c .before .before .before .before .before .before .before .before .before .before .needs3 .ensures) (c .before .before .before .before .before .before .before .before .before .needs4 .ensures) (c .before .before .before .before .before .before .before .before .needs5 .ensures) (c .before .before .before .before .before .before .before .allows2 .ensures) (c .before .before .before .before .before .before .needs6 .ensures) (c .before .before .before .before .before .allows3 .ensures) (c .before .before .before .before .needs7 .ensures) (c .before .before .before .allows4 .ensures) (c .before .before .needs-array .ensures) (c .before .needs-array2 .ensures) (c .needs-array3 .ensures)
 
 pub are-sheet-spec : {M : Type 1} → statement M

@@ -4,7 +4,7 @@ use native.Mathlib.Omega.{arith}
 use Rattle.sheet.proofs.Operators.{past}
 use Rattle.sheet.proofs.Soundness.{held-1, held-2, held-3, held-itself, held-nothing}
 use Rattle.sheet.specs.Answers.{faultIs}
-use Rattle.sheet.specs.Words.{split}
+use Rattle.sheet.specs.Words.{wordsFrom}
 use borrow.Author.Needs.{needs}
 use Rattle.sheet.proofs.written.held.Statement.{statement}
 use Rattle.sheet.proofs.written.held.Tie as tie
@@ -22,7 +22,7 @@ enum-told : tie.Need-enum-told
 enum-told c = search needs
 
 returns : tie.Need-returns
-unfolding split faultIs
+unfolding wordsFrom faultIs
 returns c = held-nothing _ _ _ (c .before .before .which .ensures) (c .enum-told .given .1)
 
 condition-requires : tie.Need-condition-requires
@@ -47,19 +47,19 @@ under-each-requires-3 : tie.Need-under-each-requires-3
 under-each-requires-3 c κs = search needs
 
 returns-2 : tie.Need-returns-2
-unfolding split
+unfolding wordsFrom
 returns-2 c = held-itself _ _ _ (c .before .before .before .before .before .which .ensures) _ (c .before .before .before .n .given .1) (c .before .match2 .keys1) (c .condition .ensures)
 
 returns-3 : tie.Need-returns-3
-unfolding split
+unfolding wordsFrom
 returns-3 c = held-1 _ _ _ (c .before .before .before .before .before .before .which .ensures) _ (c .before .before .before .before .n .given .1) (c .before .before .match2 .keys2) (c .under-each .ensures)
 
 returns-4 : tie.Need-returns-4
-unfolding split
+unfolding wordsFrom
 returns-4 c = held-2 _ _ _ (c .before .before .before .before .before .before .which .ensures) _ (c .before .before .before .before .n .given .1) (c .before .before .match2 .keys3) (c .under-each2 .ensures)
 
 returns-5 : tie.Need-returns-5
-unfolding split
+unfolding wordsFrom
 returns-5 c = held-3 _ _ _ (c .before .before .before .before .before .before .which .ensures) _ (c .before .before .before .before .n .given .1) (past 2 (past 1 (past 0 (omega arith) (c .before .before .match2 .rest .0 .0 .1)) (c .before .before .match2 .rest .0 .1)) (c .before .before .match2 .rest .1)) (c .under-each3 .ensures)
 
 pub held-spec : {M : Type 1} → statement M

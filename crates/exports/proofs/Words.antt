@@ -11,7 +11,7 @@ use Rattle.decision.specs.Entry.{Reply, admit, checkInvariants, checkPreconditi
 use Rattle.line.specs.Reply.{lineSize}
 use Rattle.line.specs.declared.emit.Sent.{Sent}
 use Rattle.reader.specs.Bytes.{Bytes}
-use Rattle.exports.specs.Exported.{Exported, packed}
+use Rattle.exports.specs.Exported.{Exported, wordOf}
 
 -- number and length fit a word
 pub fits : {answer : Reply} {w w′ : List ℕ} {o o′ : Bytes} {r : Sent} → answer .number ≤ 23 → Called answer w w′ o o′ r → (r .number ≤ 23) × (r .size < 4294967296)
@@ -41,9 +41,9 @@ pub decide-small : (s : Bytes) (words size : ℕ) → decide s words size .numbe
 unfolding decide
 decide-small s words size = call-small decideCall s words size
 
-pub exported : {answer : Reply} {w w′ : List ℕ} {o o′ : Bytes} {r : Sent} {n : ℕ} → Called answer w w′ o o′ r → n ≡ packed (r .number) (r .size) → Exported answer w w′ o o′ n
+pub exported : {answer : Reply} {w w′ : List ℕ} {o o′ : Bytes} {r : Sent} {n : ℕ} → Called answer w w′ o o′ r → n ≡ wordOf (r .number) (r .size) → Exported answer w w′ o o′ n
 exported c e = record { word = rw (← c .isNumber, ← c .isSize) e; short = rw (← c .isSize) (c .short); output = c .output; work = c .work }
 
 -- what a caller reads off the word
-pub unpacked : {answer : Reply} {w w′ : List ℕ} {o o′ : Bytes} {r : ℕ} → Exported answer w w′ o o′ r → (r / 4294967296 ≡ answer .number) × (r % 4294967296 ≡ lineSize answer)
-unpacked x = (omega arith, omega arith)
+pub word-parts : {answer : Reply} {w w′ : List ℕ} {o o′ : Bytes} {r : ℕ} → Exported answer w w′ o o′ r → (r / 4294967296 ≡ answer .number) × (r % 4294967296 ≡ lineSize answer)
+word-parts x = (omega arith, omega arith)
