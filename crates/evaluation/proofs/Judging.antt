@@ -18,7 +18,7 @@ use Rattle.operands.specs.Lazy.{operand}
 use Rattle.operands.specs.Marks.{Heard, ResolvedAs, heard, resolvedOf}
 use Rattle.semantics.specs.Names.{Names}
 use Rattle.semantics.specs.Operand.{Resolved, missing, present}
-use Rattle.operands.specs.Stored.{Fits, HasKind, operandOf, table}
+use Rattle.operands.specs.Stored.{HasKind, OperandAt, operandOf, table}
 use Rattle.evaluation.specs.declared.comparison.Outcome.{Outcome}
 use Rattle.evaluation.specs.declared.comparison.Outcome.the-variants as outcomes
 use Rattle.operands.specs.declared.operand.Operand.{Operand}
@@ -30,7 +30,7 @@ use Rattle.operands.proofs.Stands.{impossible}
 
 -- what an operand was found to be
 module _ {quiet : Bool} {s : Bytes} {w w′ : List ℕ} {r : code.Resolved} {m : Result (Resolved lazy.Operand)} (a : ResolvedAs quiet s w w′ r m) where
-  pub is-present : (o : Operand) → r ≡ answers.Present o → (m ≡ ok (present (operandOf s (table w) o))) × Fits s (table w) (o .node) (o .kind) × (a .met ≡ [])
+  pub is-present : (o : Operand) → r ≡ answers.Present o → (m ≡ ok (present (operandOf s (table w) o))) × OperandAt s (table w) o × (a .met ≡ [])
   is-present o e = let h = subst (Heard quiet s (table w) (a .names) (a .met)) e (a .hears) in (sym (a .means) ∙ ap (resolvedOf s (table w) (a .names)) e, h .0, h .1)
 
   pub is-missing : r ≡ answers.Missing → (m ≡ ok (missing (a .names))) × (a .met ≡ heard quiet (a .names))

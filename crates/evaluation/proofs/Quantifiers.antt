@@ -51,7 +51,7 @@ use Rattle.operands.specs.Marks.{Left, ResolvedAs}
 use Rattle.operands.specs.Matched.{Holds}
 use Rattle.operands.specs.Ready.{Ready}
 use Rattle.operands.specs.Shape.{Shape, collected, digits, fields, items, nothing, seconds, truth, words}
-use Rattle.operands.specs.Stack.{Named, held}
+use Rattle.operands.specs.Stack.{Named, Small, held}
 use Rattle.operands.specs.Stored.{Bound, HasKind, Means, OperandAt, framed, framesOf, operandOf, table, tree}
 use Rattle.operands.specs.declared.children.Child.{Child}
 use Rattle.operands.specs.declared.children.Child.the-variants as child
@@ -185,8 +185,8 @@ module _ (s : Bytes) (t : List ℕ) (o : Operand) {k : ℕ} (isClass : k ≡ cla
   each-holds f = go (eqb k 6) refl
     where
       go : (b : Bool) → eqb k 6 ≡ b → Holds s t b (o .node)
-      go true q = object-kind s t (o .node) (o .kind) f (is-object q)
-      go false q = array-kind s t (o .node) (o .kind) f (is-array q)
+      go true q = object-kind s t (o .node) (o .kind) (f .fits) (is-object q)
+      go false q = array-kind s t (o .node) (o .kind) (f .fits) (is-array q)
 
 -- an answer for each of the parts that an operand has
 abbrev Over : Mode → (lazy.Operand → Result Answer) → Option (List lazy.Operand) → Result Answer
@@ -382,6 +382,10 @@ each-falls l e = omega arith
 
 pub quantify-falls : (l : ℕ) {t : ℕ} → 3 * l + 2 ≡ t → 3 * (l - 1) + 1 < t
 quantify-falls l e = omega arith
+
+-- a part under its name fits a slot
+pub part-small : {s : Bytes} {t : List ℕ} {name : ℕ} {p : Operand} → length s ≤ 32768 → OnText s name 0 → OperandAt s t p → Small (record { name = name; operand = p })
+part-small short n p = record { name = omega (arith, n .text .order, n .text .upto); node = omega arith; depth = omega arith }
 
 -- frames with one more
 pub pushed : {s : Bytes} {w : List ℕ} {roots : Roots} {f g : Frames} {name : ℕ} {p : Operand} → Ready s w roots f → f .depth + 1 ≤ 32 → OnText s name 0 → OperandAt s (table w) p → g .depth ≡ f .depth + 1 → held g ≡ record { name = name; operand = p } ∷ held f → Ready s w roots g

@@ -21,7 +21,7 @@ use Rattle.operands.specs.Layered.{LeavesAlike, alikeNodes, classOf, eac
 use Rattle.operands.specs.Lazy as lazy
 use Rattle.operands.specs.Matched.{Holds, Paired}
 use Rattle.operands.specs.Shape.{alikeIn, alikeOf, alikeShapes}
-use Rattle.operands.specs.Stored.{Fits, Room, operandOf, table}
+use Rattle.operands.specs.Stored.{OperandAt, Room, operandOf, table}
 use Rattle.operands.specs.declared.children.Child.the-variants as child
 use Rattle.operands.specs.declared.children.Children.{Children}
 use Rattle.operands.specs.declared.operand.Operand.{Operand}
@@ -166,12 +166,12 @@ module _ (sheet : Sheet Condition) (s : Bytes) (t : List ℕ) (fs : lazy.Frames)
         is-array : eqb ca 6 ≡ false → ca ≡ 5
         is-array q = let k = class-small (a .kind) in let n = eqb-false ca 6 q in omega arith
 
-        pub equal-paired : Fits s t (a .node) (a .kind) → Fits s t (b .node) (b .kind) → Paired s t (eqb ca 6) a b
+        pub equal-paired : OperandAt s t a → OperandAt s t b → Paired s t (eqb ca 6) a b
         equal-paired h k = go (eqb ca 6) refl
           where
             go : (x : Bool) → eqb ca 6 ≡ x → Paired s t x a b
-            go true q = let e = eqb-true ca 6 q in record { first = object-kind s t (a .node) (a .kind) h (sym isA ∙ e); second = object-kind s t (b .node) (b .kind) k (sym isB ∙ sym same ∙ e) }
-            go false q = let e = is-array q in record { first = array-kind s t (a .node) (a .kind) h (sym isA ∙ e); second = array-kind s t (b .node) (b .kind) k (sym isB ∙ sym same ∙ e) }
+            go true q = let e = eqb-true ca 6 q in record { first = object-kind s t (a .node) (a .kind) (h .fits) (sym isA ∙ e); second = object-kind s t (b .node) (b .kind) (k .fits) (sym isB ∙ sym same ∙ e) }
+            go false q = let e = is-array q in record { first = array-kind s t (a .node) (a .kind) (h .fits) (sym isA ∙ e); second = array-kind s t (b .node) (b .kind) (k .fits) (sym isB ∙ sym same ∙ e) }
 
         pub equal-whole : {r : Bool} → r ≡ alikeNodes s t (alike sheet (left - 1) fs) (eqb ca 6) (partAt sheet s t fs a) (partAt sheet s t fs b) (kids s t (a .node) (eqb ca 6)) (kids s t (b .node) (eqb ca 6)) → r ≡ alike sheet left fs (operandOf s t a) (operandOf s t b)
         unfolding alikeShapes

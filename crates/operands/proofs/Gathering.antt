@@ -6,6 +6,7 @@ use mathlib.Core.Logic.{inl, inr}
 use mathlib.Core.Option.{some}
 use mathlib.Core.Path.{ap, refl, subst, _∙_, _≡_}
 use Prim.Native.Nat.{ℕ, _-_, _<_, _≤_}
+use native.Mathlib.Omega.{arith}
 use denote.Enum.Declared.{tagOf}
 use lib.ListN.{length}
 use types.Run.{OneOf, miss}
@@ -35,11 +36,11 @@ use Rattle.operands.specs.declared.resolve.Resolved as code
 use Rattle.operands.specs.declared.resolve.Resolved.the-variants as answers
 use Rattle.operands.proofs.Marking.{left-missed, left-none}
 use Rattle.operands.proofs.Stands.{impossible}
-use Rattle.operands.proofs.Trees.{Layer, aFalse, aNull, aNumber, aText, aTrue, anArray, anObject, layer, text-row}
+use Rattle.operands.proofs.Trees.{Layer, aFalse, aNull, aNumber, aText, aTrue, anArray, anObject, layer, operand-at, text-row}
 use Rattle.operands.proofs.operand.Kind as KindT
 
 -- an operand that is present leaves no mark
-pub present-as : (quiet : Bool) {s : Bytes} {w : List ℕ} {o : Operand} {m : Result (Resolved lazy.Operand)} → Fits s (table w) (o .node) (o .kind) → ok (present (stored.operandOf s (table w) o)) ≡ m → ResolvedAs quiet s w w (answers.Present o) m
+pub present-as : (quiet : Bool) {s : Bytes} {w : List ℕ} {o : Operand} {m : Result (Resolved lazy.Operand)} → stored.OperandAt s (table w) o → ok (present (stored.operandOf s (table w) o)) ≡ m → ResolvedAs quiet s w w (answers.Present o) m
 present-as quiet {s} {w} f e = record { names = []; met = []; means = e; left = left-none s w; hears = (f, refl) }
 
 -- any but a text or a whole
@@ -48,10 +49,10 @@ unfolding operand meant Fits
 plain-value quiet sheet fs {s} {w} {n} {c} {x} h e u v z q = rw q (go (layer s (table w) n h))
   where
     go : Layer s (table w) n → ResolvedAs quiet s w w (answers.Present (record { node = n; depth = 0; kind = valueKind c })) (operand sheet fs (tree s (table w) n))
-    go (aNull k l) = rw (e, k, l) (present-as quiet tt refl)
-    go (aTrue k l) = rw (e, k, l) (present-as quiet tt refl)
-    go (aFalse k l) = rw (e, k, l) (present-as quiet tt refl)
-    go (aNumber k l i) = rw (e, k, l) (present-as quiet (record { node = h; kind = k }) refl)
+    go (aNull k l) = rw (e, k, l) (present-as quiet (operand-at h (omega arith) tt) refl)
+    go (aTrue k l) = rw (e, k, l) (present-as quiet (operand-at h (omega arith) tt) refl)
+    go (aFalse k l) = rw (e, k, l) (present-as quiet (operand-at h (omega arith) tt) refl)
+    go (aNumber k l i) = rw (e, k, l) (present-as quiet (operand-at h (omega arith) (record { node = h; kind = k })) refl)
     go (aText k l i) = absurd (u (e ∙ k))
     go (anArray k l i) = absurd (v (e ∙ k))
     go (anObject k l i) = absurd (z (e ∙ k))
@@ -67,11 +68,11 @@ module _ (quiet : Bool) (sheet : Sheet Condition) (fs : lazy.Frames) (s : Bytes)
 
   pub text-plain : readText (textAt s (startAt (table w) n)) ≡ plain → ResolvedAs quiet s w w (answers.Present (record { node = n; depth = 0; kind = kinds.Text })) (operand sheet fs (tree s (table w) n))
   unfolding operandText meant Fits
-  text-plain e = rw (opened, e, operandText) (present-as quiet row refl)
+  text-plain e = rw (opened, e, operandText) (present-as quiet (operand-at (row .node) (omega arith) row) refl)
 
   pub text-escaped : {p : ℕ} → (readText (textAt s (startAt (table w) n)) ≡ escaped (textAt s p)) × Behind s (startAt (table w) n) p → ResolvedAs quiet s w w (answers.Present (record { node = n; depth = 0; kind = kinds.Less })) (operand sheet fs (tree s (table w) n))
   unfolding operandText meant Fits
-  text-escaped {p} (e, b) = rw (opened, e, operandText) (present-as quiet (row, (textAt s p, b .dollar)) (ap (λ (x : Bytes). ok (present (given (text (lessOne x))))) (b .dollar)))
+  text-escaped {p} (e, b) = rw (opened, e, operandText) (present-as quiet (operand-at (row .node) (omega arith) (row, (textAt s p, b .dollar))) (ap (λ (x : Bytes). ok (present (given (text (lessOne x))))) (b .dollar)))
 
   module _ {e : Bytes} {d : ℕ} {r : Looked} (q : readText (textAt s (startAt (table w) n)) ≡ expression e) (dollar : textAt s (startAt (table w) n) ≡ 36 ∷ e) (deep : length fs ≡ d) (l : LookedAs s (table w) e r (look sheet (touch sheet d) fs e)) where
     looked : operand sheet fs (tree s (table w) n) ≡ (lookedOf s (table w) e r >>= λ g. ok (observe e g))

@@ -33,7 +33,7 @@ use Rattle.operands.specs.Lazy.{given, outer, partOf, touch}
 use Rattle.semantics.specs.Semantics.{isSame}
 use Rattle.operands.specs.Shape as layers
 use Rattle.operands.specs.Shape.{Shape, alikeShapes, digits, fields, items, nothing, partsIn, partsOf, truth, words}
-use Rattle.operands.specs.Stored.{Fits, HasKind, Means, lessOne, meant, operandOf, tree}
+use Rattle.operands.specs.Stored.{Fits, HasKind, Means, OperandAt, lessOne, meant, operandOf, tree}
 use Rattle.operands.specs.Told.{UnitIs}
 use Rattle.operands.specs.declared.operand.Kind.{Kind}
 use Rattle.operands.specs.declared.operand.Kind.the-variants as kinds
@@ -229,7 +229,7 @@ module _ (s : Bytes) (t : List ℕ) (n : ℕ) where
   number-kind kinds.Listed h e = absurd (omega arith)
   number-kind kinds.Named h e = absurd (omega arith)
 
-  pub text-kind : (x : Kind) → Fits s t n x → classOf x ≡ 4 → HasKind s t n 4
+  text-kind : (x : Kind) → Fits s t n x → classOf x ≡ 4 → HasKind s t n 4
   unfolding Fits
   text-kind kinds.Null h e = absurd (omega arith)
   text-kind kinds.False h e = absurd (omega arith)
@@ -272,9 +272,9 @@ abbrev pub notLess : List ℕ
 notLess = 0 ∷ 1 ∷ 2 ∷ 3 ∷ 4 ∷ 6 ∷ 7 ∷ 8 ∷ 9 ∷ []
 
 -- the place of a text
-module _ (s : Bytes) (t : List ℕ) (o : Operand) (h : Fits s t (o .node) (o .kind)) (c : classOf (o .kind) ≡ 4) {a : ℕ} (q : a ≡ startAt t (o .node)) where
+module _ (s : Bytes) (t : List ℕ) (o : Operand) (h : OperandAt s t o) (c : classOf (o .kind) ≡ 4) {a : ℕ} (q : a ≡ startAt t (o .node)) where
   pub at-start : OnText s a 0
-  at-start = subst (λ (x : ℕ). OnText s x 0) (sym q) (text-row (text-kind s t (o .node) (o .kind) h c) .onText)
+  at-start = subst (λ (x : ℕ). OnText s x 0) (sym q) (text-row (text-kind s t (o .node) (o .kind) (h .fits) c) .onText)
 
   pub place-whole : OneOf notLess (tagOf KindT.the-type (o .kind)) → TextPlace s t o a
   unfolding wordsOf
@@ -294,7 +294,7 @@ module _ (s : Bytes) (t : List ℕ) (o : Operand) (h : Fits s t (o .node) (o .ki
 
   less-text : o .kind ≡ kinds.Less → (r : Bytes) × (textAt s a ≡ 36 ∷ r)
   unfolding Fits
-  less-text e = let f : Fits s t (o .node) kinds.Less = subst (Fits s t (o .node)) e h in (f .1 .0, ap (textAt s) q ∙ f .1 .1)
+  less-text e = let f : Fits s t (o .node) kinds.Less = subst (Fits s t (o .node)) e (h .fits) in (f .1 .0, ap (textAt s) q ∙ f .1 .1)
 
   pub place-none : {A : Type 0} → o .kind ≡ kinds.Less → textAt s a ≡ [] → A
   place-none e z = let r = less-text e in absurd (impossible (let y : 36 ∷ r .0 ≡ [] = sym (r .1) ∙ z in cc))

@@ -4,7 +4,7 @@ use mathlib.Core.Bool.{false, true}
 use mathlib.Core.List.{List, [], _∷_}
 use mathlib.Core.Option.{Option, none, some}
 use mathlib.Core.Path.{ap, refl, subst, sym, _∙_, _≡_}
-use Prim.Native.Nat.{suc, zero, ℕ, _-_}
+use Prim.Native.Nat.{suc, zero, ℕ, _-_, _≤_}
 use native.Mathlib.Omega.{arith}
 use denote.Enum.Declared.{tagOf}
 use lib.ListN.{length}
@@ -26,7 +26,7 @@ use Rattle.operands.specs.Path.{further, part}
 use Rattle.operands.specs.Reached.{BoundAs, BoundFits, FoundNode, LookedAs, LookedFits, MemberTold, NullTold, boundOf, foundAs, foundTree, lookedOf, writtenKind}
 use Rattle.operands.specs.Rooted.{baseGives, baseMembers, rootGives, rootOf}
 use Rattle.semantics.specs.Semantics.{kernel, memberStep}
-use Rattle.operands.specs.Stored.{Fits, HasKind, Means, fieldsOf, lessOne, meant, operandOf, tree}
+use Rattle.operands.specs.Stored.{Fits, HasKind, Means, OperandAt, fieldsOf, lessOne, meant, operandOf, tree}
 use Rattle.operands.specs.Told.{Behind}
 use Rattle.operands.specs.declared.operand.Bound.{Bound}
 use Rattle.operands.specs.declared.operand.Bound.the-variants as bounds
@@ -36,7 +36,7 @@ use Rattle.operands.specs.declared.operand.Looked.{Looked}
 use Rattle.operands.specs.declared.operand.Looked.the-variants as lookeds
 use Rattle.operands.specs.declared.operand.Operand.{Operand}
 use Rattle.operands.proofs.Stands.{impossible}
-use Rattle.operands.proofs.Trees.{Layer, aFalse, aNull, aNumber, aText, aTrue, anArray, anObject, layer, text-row}
+use Rattle.operands.proofs.Trees.{Layer, aFalse, aNull, aNumber, aText, aTrue, anArray, anObject, layer, operand-at, text-row}
 use Rattle.operands.proofs.Unbound.{base-whole, root-whole}
 use Rattle.operands.proofs.Units.{parts-by, partsAfter}
 use Rattle.operands.proofs.operand.Kind as KindT
@@ -45,9 +45,14 @@ pub null-at : {r : Looked} {o : Operand} → r ≡ lookeds.At o → NullTold r o
 unfolding orNull lookedOf LookedFits
 null-at {r} {o} q s t e h = rw q (record { means = refl; fits = subst (LookedFits s t) q h })
 
+-- null
+nothing-at : (s : Bytes) (t : List ℕ) → OperandAt s t (record { node = 0; depth = 0; kind = kinds.Null })
+unfolding Fits
+nothing-at s t = record { node = omega arith; depth = omega arith; fits = tt }
+
 pub null-none : {r x : Looked} {o : Operand} → r ≡ x → o ≡ record { node = 0; depth = 0; kind = kinds.Null } → ((s : Bytes) (t : List ℕ) (e : Bytes) → orNull (lookedOf s t e x) ≡ given null) → NullTold r o
-unfolding meant Fits
-null-none q p z s t e h = rw (q, p) (record { means = sym (z s t e); fits = tt })
+unfolding meant
+null-none q p z s t e h = rw (q, p) (record { means = sym (z s t e); fits = nothing-at s t })
 
 -- what was bound or found
 module _ {s : Bytes} {t : List ℕ} {b : Bound} {m : Option lazy.Operand} (h : BoundAs s t b m) where
@@ -55,7 +60,7 @@ module _ {s : Bytes} {t : List ℕ} {b : Bound} {m : Option lazy.Operand} (h : B
   unfolding boundOf
   bound-is o q = sym (h .means) ∙ ap (boundOf s t) q
 
-  pub bound-fits : (o : Operand) → b ≡ bounds.At o → Fits s t (o .node) (o .kind)
+  pub bound-fits : (o : Operand) → b ≡ bounds.At o → OperandAt s t o
   unfolding BoundFits
   bound-fits o q = subst (BoundFits s t) q (h .fits)
 
@@ -245,31 +250,31 @@ once-more sheet fs left v more = let q : left ≡ suc (left - 1) = omega arith i
 
 module _ (sheet : Sheet Condition) {s : Bytes} {t : List ℕ} (fs : lazy.Frames) (n : ℕ) where
   pub touch-none : (left : ℕ) {o : Operand} → left ≡ 0 → o ≡ record { node = 0; depth = 0; kind = kinds.Null } → Means s t o (touch sheet left fs (tree s t n))
-  unfolding touch meant Fits
-  touch-none left e q = rw (e, q) (record { means = refl; fits = tt })
+  unfolding touch meant
+  touch-none left e q = rw (e, q) (record { means = refl; fits = nothing-at s t })
 
   module _ (left : ℕ) (more : left ≡ 0 → ⊥) where
-    pub touch-written : HasNode s t n → (c : ℕ) → c ≡ kindAt t n → (c ≡ 4 → ⊥) → {x : Kind} → x ≡ writtenKind c → {d : ℕ} → d ≡ length fs → Means s t (record { node = n; depth = d; kind = x }) (touch sheet left fs (tree s t n))
+    pub touch-written : HasNode s t n → (c : ℕ) → c ≡ kindAt t n → (c ≡ 4 → ⊥) → {x : Kind} → x ≡ writtenKind c → {d : ℕ} → d ≡ length fs → d ≤ 32 → Means s t (record { node = n; depth = d; kind = x }) (touch sheet left fs (tree s t n))
     unfolding readPart meant Fits
-    touch-written h c e u {x} p {d} l = rw (once-more sheet fs left (tree s t n) more, p, l) (go (layer s t n h))
+    touch-written h c e u {x} p {d} l few = rw (once-more sheet fs left (tree s t n) more, p) (go (layer s t n h))
       where
-        go : Layer s t n → Means s t (record { node = n; depth = length fs; kind = writtenKind c }) (readPart sheet (touch sheet (left - 1)) fs (tree s t n))
-        go (aNull q v) = rw (e, q, v) (record { means = refl; fits = tt })
-        go (aTrue q v) = rw (e, q, v) (record { means = refl; fits = tt })
-        go (aFalse q v) = rw (e, q, v) (record { means = refl; fits = tt })
-        go (aNumber q v i) = rw (e, q, v) (record { means = refl; fits = record { node = h; kind = q } })
+        go : Layer s t n → Means s t (record { node = n; depth = d; kind = writtenKind c }) (readPart sheet (touch sheet (left - 1)) fs (tree s t n))
+        go (aNull q v) = rw (e, q, v) (record { means = refl; fits = operand-at h few tt })
+        go (aTrue q v) = rw (e, q, v) (record { means = refl; fits = operand-at h few tt })
+        go (aFalse q v) = rw (e, q, v) (record { means = refl; fits = operand-at h few tt })
+        go (aNumber q v i) = rw (e, q, v) (record { means = refl; fits = operand-at h few (record { node = h; kind = q }) })
         go (aText q v i) = absurd (u (e ∙ q))
-        go (anArray q v i) = rw (e, q, v) (record { means = refl; fits = record { node = h; kind = q } })
-        go (anObject q v i) = rw (e, q, v) (record { means = refl; fits = record { node = h; kind = q } })
+        go (anArray q v i) = rw (e, q, v) (record { means = rw l; fits = operand-at h few (record { node = h; kind = q }) })
+        go (anObject q v i) = rw (e, q, v) (record { means = rw l; fits = operand-at h few (record { node = h; kind = q }) })
 
     module _ (row : HasKind s t n 4) where
       pub touch-plain : readText (textAt s (startAt t n)) ≡ plain → Means s t (record { node = n; depth = 0; kind = kinds.Text }) (touch sheet left fs (tree s t n))
       unfolding readPart meant Fits
-      touch-plain e = rw (once-more sheet fs left (tree s t n) more, text-row row .value, e, readPart) (record { means = refl; fits = row })
+      touch-plain e = rw (once-more sheet fs left (tree s t n) more, text-row row .value, e, readPart) (record { means = refl; fits = operand-at (row .node) (omega arith) row })
 
       pub touch-less : {p : ℕ} → readText (textAt s (startAt t n)) ≡ escaped (textAt s p) → Behind s (startAt t n) p → Means s t (record { node = n; depth = 0; kind = kinds.Less }) (touch sheet left fs (tree s t n))
       unfolding readPart meant Fits
-      touch-less {p} e b = rw (once-more sheet fs left (tree s t n) more, text-row row .value, e, readPart) (record { means = ap (λ (x : Bytes). given (text (lessOne x))) (b .dollar); fits = (row, (textAt s p, b .dollar)) })
+      touch-less {p} e b = rw (once-more sheet fs left (tree s t n) more, text-row row .value, e, readPart) (record { means = ap (λ (x : Bytes). given (text (lessOne x))) (b .dollar); fits = operand-at (row .node) (omega arith) (row, (textAt s p, b .dollar)) })
 
       pub touch-looked : {e : Bytes} {r : Looked} {o : Operand} → readText (textAt s (startAt t n)) ≡ expression e → LookedAs s t e r (look sheet (touch sheet (left - 1)) fs e) → NullTold r o → Means s t o (touch sheet left fs (tree s t n))
       unfolding readPart

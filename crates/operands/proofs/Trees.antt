@@ -24,9 +24,11 @@ use Rattle.reader.specs.Table.{afterAt, code, endAt, kindAt, startAt, valueAt, 
 use Rattle.operands.specs.Children.{EachAt, Named, begun, childrenBy, childrenOf}
 use Rattle.operands.specs.Layered.{kids}
 use Rattle.operands.specs.Matched.{Holds}
-use Rattle.operands.specs.Stored.{Fits, HasKind, HasNodes, Means, fieldsOf, itemsOf, meant, tree}
+use Rattle.operands.specs.Stored.{Fits, HasKind, HasNodes, Means, OperandAt, fieldsOf, itemsOf, meant, tree}
 use Rattle.operands.specs.Lazy.{given}
 use Rattle.operands.specs.Reached.{valueKind}
+use Rattle.operands.specs.declared.operand.Operand.{Operand}
+use Rattle.operands.proofs.Ordered.{node-below}
 
 -- one layer of the value at a node
 pub data Layer (s : Bytes) (t : List ℕ) (n : ℕ) : Type 0 where
@@ -228,16 +230,20 @@ module _ (s : Bytes) (t : List ℕ) where
   begun-kids l false h = refl
   begun-kids l true {n} h = linked-are (afterAt t n - (n + 1)) (linkAt t n) (afterAt t n) ∙ l .links n (h .node) (h .kind)
 
+-- an operand at a node
+pub operand-at : {s : Bytes} {t : List ℕ} {o : Operand} → HasNode s t (o .node) → o .depth ≤ 32 → Fits s t (o .node) (o .kind) → OperandAt s t o
+operand-at {s} {t} h d f = record { node = node-below s t h; depth = d; fits = f }
+
 -- the value at a node as an operand
 pub value-means : (s : Bytes) (t : List ℕ) (n k : ℕ) → k ≡ kindAt t n → HasNode s t n → Means s t (record { node = n; depth = 0; kind = valueKind k }) (given (tree s t n))
 unfolding meant Fits
 value-means s t n k e h = go (layer s t n h)
   where
     go : Layer s t n → Means s t (record { node = n; depth = 0; kind = valueKind k }) (given (tree s t n))
-    go (aNull q v) = rw (e, q) (record { means = ap given (sym v); fits = tt })
-    go (aTrue q v) = rw (e, q) (record { means = ap given (sym v); fits = tt })
-    go (aFalse q v) = rw (e, q) (record { means = ap given (sym v); fits = tt })
-    go (aNumber q v l) = rw (e, q) (record { means = ap given (sym v); fits = record { node = h; kind = q } })
-    go (aText q v l) = rw (e, q) (record { means = ap given (sym v); fits = record { node = h; kind = q } })
-    go (anArray q v l) = rw (e, q) (record { means = ap given (sym v); fits = record { node = h; kind = q } })
-    go (anObject q v l) = rw (e, q) (record { means = ap given (sym v); fits = record { node = h; kind = q } })
+    go (aNull q v) = rw (e, q) (record { means = ap given (sym v); fits = operand-at h (omega arith) tt })
+    go (aTrue q v) = rw (e, q) (record { means = ap given (sym v); fits = operand-at h (omega arith) tt })
+    go (aFalse q v) = rw (e, q) (record { means = ap given (sym v); fits = operand-at h (omega arith) tt })
+    go (aNumber q v l) = rw (e, q) (record { means = ap given (sym v); fits = operand-at h (omega arith) (record { node = h; kind = q }) })
+    go (aText q v l) = rw (e, q) (record { means = ap given (sym v); fits = operand-at h (omega arith) (record { node = h; kind = q }) })
+    go (anArray q v l) = rw (e, q) (record { means = ap given (sym v); fits = operand-at h (omega arith) (record { node = h; kind = q }) })
+    go (anObject q v l) = rw (e, q) (record { means = ap given (sym v); fits = operand-at h (omega arith) (record { node = h; kind = q }) })

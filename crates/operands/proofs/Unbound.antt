@@ -25,6 +25,7 @@ use Rattle.operands.specs.declared.roots.Root.{Root}
 use Rattle.operands.specs.declared.roots.Root.the-variants as root
 use Rattle.operands.specs.declared.roots.Roots.{Roots}
 use Rattle.operands.proofs.Stands.{impossible}
+use Rattle.operands.proofs.Trees.{operand-at}
 
 -- the definition's tables, by roots
 module _ (sheet : Sheet Condition) (e k : Bytes) where
@@ -85,19 +86,19 @@ module _ (sheet : Sheet Condition) (k : Bytes) where
 module _ {s : Bytes} {t : List ℕ} (e : Bytes) (n : ℕ) where
   pub looked-text : {b : Bytes} → IsText s t n b → LookedAs s t e (textLooked n) (ok (some (given (text b))))
   unfolding lookedOf LookedFits meant Fits
-  looked-text h = record { means = rw (h .is); fits = h .row }
+  looked-text h = record { means = rw (h .is); fits = operand-at (h .row .node) (omega arith) (h .row) }
 
   pub looked-number : {b : Bytes} → IsNumber s t n b → LookedAs s t e (lookeds.At (record { node = n; depth = 0; kind = kinds.Number })) (ok (some (given (number b))))
   unfolding lookedOf LookedFits meant Fits
-  looked-number h = record { means = rw (h .is); fits = h .row }
+  looked-number h = record { means = rw (h .is); fits = operand-at (h .row .node) (omega arith) (h .row) }
 
   pub looked-object : {ms : Members} → IsObject s t n ms → LookedAs s t e (lookeds.At (objectOperand n)) (ok (some (given (object ms))))
   unfolding lookedOf LookedFits meant Fits
-  looked-object h = record { means = rw (h .is); fits = h .row }
+  looked-object h = record { means = rw (h .is); fits = operand-at (h .row .node) (omega arith) (h .row) }
 
 pub bound-object : {s : Bytes} {t : List ℕ} (n : ℕ) {ms : Members} → IsObject s t n ms → BoundAs s t (bounds.At (objectOperand n)) (some (given (object ms)))
 unfolding boundOf BoundFits meant Fits
-bound-object n h = record { means = rw (h .is); fits = h .row }
+bound-object n h = record { means = rw (h .is); fits = operand-at (h .row .node) (omega arith) (h .row) }
 
 no-text : (s : Bytes) (t : List ℕ) (n : ℕ) {o : Option Bytes} → n ≡ 0 → MayBeText s t n o → o ≡ none
 unfolding MayBeText

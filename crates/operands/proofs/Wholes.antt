@@ -32,7 +32,7 @@ use Rattle.operands.specs.declared.resolve.Resolved.the-variants as answ
 use Rattle.operands.proofs.Alike.{walk-begins, walk-kids, walk-named}
 use Rattle.operands.proofs.Marking.{heard-none, heard-then, left-none, left-then}
 use Rattle.operands.proofs.Stands.{impossible}
-use Rattle.operands.proofs.Trees.{array-row, fields-are, fromNames, fromNodes, items-are, object-row}
+use Rattle.operands.proofs.Trees.{array-row, fields-are, fromNames, fromNodes, items-are, object-row, operand-at}
 
 -- the parts at these children, in order
 unfoldable pub partsAt : Sheet Condition → Bytes → List ℕ → lazy.Frames → Bool → List ℕ → Result (Resolved (Unit {0}))
@@ -180,12 +180,12 @@ pub record Gathering (quiet : Bool) (s : Bytes) (w₀ : List ℕ) (sheet : Sheet
   pub shallow : Shallow s (table w₀) named l (childrenOf (table w₀) c)
   pub rest : m ≡ (partsAt sheet s (table w₀) fs named (childrenOf (table w₀) c) >>= λ rs. ok (same (λ _. stored.operandOf s (table w₀) (holder n d named)) (join (soFar whole names) rs)))
 
-finish : (quiet : Bool) {s : Bytes} {w₀ w : List ℕ} (b y : Bool) (ns : Names) (n d : ℕ) → Holds s (table w₀) y n → (b ≡ true → ns ≡ []) → Left s w₀ w (heard quiet ns) → ResolvedAs quiet s w₀ w (gatheredOf n d y b) (ok (same (λ _. stored.operandOf s (table w₀) (holder n d y)) (soFar b ns)))
+finish : (quiet : Bool) {s : Bytes} {w₀ w : List ℕ} (b y : Bool) (ns : Names) (n d : ℕ) → Holds s (table w₀) y n → d ≤ 32 → (b ≡ true → ns ≡ []) → Left s w₀ w (heard quiet ns) → ResolvedAs quiet s w₀ w (gatheredOf n d y b) (ok (same (λ _. stored.operandOf s (table w₀) (holder n d y)) (soFar b ns)))
 unfolding Fits
-finish quiet true true ns n d h p l = record { names = ns; met = heard quiet ns; means = refl; left = l; hears = (h, ap (heard quiet) (p refl) ∙ heard-none quiet) }
-finish quiet true false ns n d h p l = record { names = ns; met = heard quiet ns; means = refl; left = l; hears = (h, ap (heard quiet) (p refl) ∙ heard-none quiet) }
-finish quiet false true ns n d h p l = record { names = ns; met = heard quiet ns; means = refl; left = l; hears = refl }
-finish quiet false false ns n d h p l = record { names = ns; met = heard quiet ns; means = refl; left = l; hears = refl }
+finish quiet true true ns n d h few p l = record { names = ns; met = heard quiet ns; means = refl; left = l; hears = (operand-at (h .node) few h, ap (heard quiet) (p refl) ∙ heard-none quiet) }
+finish quiet true false ns n d h few p l = record { names = ns; met = heard quiet ns; means = refl; left = l; hears = (operand-at (h .node) few h, ap (heard quiet) (p refl) ∙ heard-none quiet) }
+finish quiet false true ns n d h few p l = record { names = ns; met = heard quiet ns; means = refl; left = l; hears = refl }
+finish quiet false false ns n d h few p l = record { names = ns; met = heard quiet ns; means = refl; left = l; hears = refl }
 
 bind-through : {A B : Type 0} (x : Result A) (f g : A → Result B) → ((a : A) → f a ≡ g a) → (x >>= f) ≡ (x >>= g)
 bind-through (ok a) f g h = h a
@@ -193,9 +193,9 @@ bind-through (refused r) f g h = refl
 
 module _ {quiet : Bool} {s : Bytes} {w₀ : List ℕ} {sheet : Sheet Condition} {fs : lazy.Frames} {n d : ℕ} {named : Bool} {l : ℕ} {m : Result (Resolved lazy.Operand)} {w : List ℕ} {whole : Bool} {c : Children} (g : Gathering quiet s w₀ sheet fs n d named l m w whole c) where
   -- no part is left
-  pub gather-end : Holds s (table w₀) named n → childrenOf (table w₀) c ≡ [] → {r : code.Resolved} → r ≡ gatheredOf n d named whole → ResolvedAs quiet s w₀ w r m
+  pub gather-end : Holds s (table w₀) named n → d ≤ 32 → childrenOf (table w₀) c ≡ [] → {r : code.Resolved} → r ≡ gatheredOf n d named whole → ResolvedAs quiet s w₀ w r m
   unfolding partsAt
-  gather-end h e q = rw (q, g .rest, e, join-none (soFar whole (g .names))) (finish quiet whole named (g .names) n d h (g .none) (g .left))
+  gather-end h few e q = rw (q, g .rest, e, join-none (soFar whole (g .names))) (finish quiet whole named (g .names) n d h few (g .none) (g .left))
 
   -- one part more
   module _ {k : ℕ} {c′ : Children} (x : Given s (table w₀) c k c′) where

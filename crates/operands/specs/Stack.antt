@@ -2,25 +2,36 @@
 -- Assumes nothing.
 use mathlib.Core.Bool.{cond}
 use mathlib.Core.List.{List, [], _∷_}
-use Prim.Native.Nat.{suc, zero, ℕ}
+use Prim.Native.Nat.{suc, zero, ℕ, _<_}
 use lib.ListN.{getD}
 use Rattle.reader.specs.Bytes.{Bytes, sameBytes}
 use Rattle.reader.specs.Cursor.{OnText}
 use Rattle.reader.specs.Spans.{textAt}
 use Rattle.operands.specs.declared.frames.Frame.{Frame}
 use Rattle.operands.specs.declared.frames.Frames.{Frames}
+use Rattle.operands.specs.declared.frames.Slot.{Slot}
 use Rattle.operands.specs.declared.operand.Bound.{Bound}
 use Rattle.operands.specs.declared.operand.Bound.the-variants.{At, Nothing}
 use Rattle.operands.specs.declared.operand.Kind.the-variants.{Null}
 
--- what lies past the end of the slots
-abbrev pub noFrame : Frame
-noFrame = record { name = 0; operand = record { node = 0; depth = 0; kind = Null } }
+-- what a slot can hold
+pub record Small (f : Frame) : Type 0 where
+  pub name : f .name < 65536
+  pub node : f .operand .node < 65536
+  pub depth : f .operand .depth < 65536
 
--- the first n slots, the last of them first
-unfoldable pub top : ℕ → List Frame → List Frame
+-- the frame in a slot
+abbrev pub frameIn : Slot → Frame
+frameIn x = record { name = x .name; operand = record { node = x .node; depth = x .depth; kind = x .kind } }
+
+-- what lies past the end of the slots
+abbrev pub noSlot : Slot
+noSlot = record { name = 0; node = 0; depth = 0; kind = Null }
+
+-- the frames in the first n slots, the last of them first
+unfoldable pub top : ℕ → List Slot → List Frame
 top zero xs = []
-top (suc n) xs = getD xs n noFrame ∷ top n xs
+top (suc n) xs = frameIn (getD xs n noSlot) ∷ top n xs
 
 abbrev pub held : Frames → List Frame
 held f = top (f .depth) (f .slots)

@@ -88,8 +88,11 @@ Fits s t n kinds.Object = HasKind s t n 6
 Fits s t n kinds.Listed = HasKind s t n 5
 Fits s t n kinds.Named = HasKind s t n 6
 
-abbrev pub OperandAt : Bytes → List ℕ → Operand → Type 0
-OperandAt s t o = Fits s t (o .node) (o .kind)
+-- an operand whose row can be read so, and whose numbers are small
+pub record OperandAt (s : Bytes) (t : List ℕ) (o : Operand) : Type 0 where
+  pub node : o .node < maxNodes
+  pub depth : o .depth ≤ 32
+  pub fits : Fits s t (o .node) (o .kind)
 
 -- an operand that stands for another
 pub record Means (s : Bytes) (t : List ℕ) (o : Operand) (m : lazy.Operand) : Type 0 where
@@ -109,7 +112,6 @@ abbrev pub framesOf : Bytes → List ℕ → Frames → lazy.Frames
 framesOf s t f = framed s t (held f)
 
 unfoldable pub Bound : Bytes → List ℕ → List Frame → Type 0
-unfolding Fits
 Bound s t [] = Unit {0}
 Bound s t (f ∷ fs) = OperandAt s t (f .operand) × Bound s t fs
 

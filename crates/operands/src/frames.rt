@@ -9,7 +9,7 @@ ghost use Rattle.reader.specs.Cursor.{OnText};
 ghost use Rattle.reader.specs.Spans.{textAt};
 ghost use Rattle.operands.specs.Lazy.{outer};
 ghost use Rattle.operands.specs.Path.{part};
-ghost use Rattle.operands.specs.Stack.{Named, boundIn, held};
+ghost use Rattle.operands.specs.Stack.{Named, Small, boundIn, held};
 
 // A binder in force: the place of its name in the sheet, and what it stands for.
 pub struct Frame {
@@ -17,8 +17,16 @@ pub struct Frame {
     pub operand: Operand,
 }
 
+// A frame as it is kept, in eight bytes: frames are copied at each call.
+pub struct Slot {
+    pub name: u16,
+    pub node: u16,
+    pub depth: u16,
+    pub kind: Kind,
+}
+
 pub struct Frames {
-    pub slots: [Frame; 32],
+    pub slots: [Slot; 32],
     pub depth: usize,
 }
 
@@ -26,16 +34,13 @@ impl Frames {
     pub fn new() -> Frames
         ensures { λ r. ⌜ r .depth ≡ 0 ⌝ }
     {
-        let operand = Operand {
+        let slot = Slot {
+            name: 0,
             node: 0,
             depth: 0,
             kind: Kind::Null,
         };
-        let frame = Frame {
-            name: 0,
-            operand: operand,
-        };
-        let slots = [frame; 32];
+        let slots = [slot; 32];
         Frames {
             slots: slots,
             depth: 0,
@@ -43,12 +48,19 @@ impl Frames {
     }
 
     pub fn push(self, frame: Frame) -> Frames
-        requires { ⌜ self .depth < 32 ⌝ }
+        requires { ⌜ (self .depth < 32) × Small frame ⌝ }
         ensures { λ r. ⌜ (r .depth ≡ self .depth + 1) × (held r ≡ frame ∷ held self) ⌝ }
     {
         let at = self.depth;
+        let operand = frame.operand;
+        let kind = operand.kind;
         let mut slots = self.slots;
-        slots[at] = frame;
+        slots[at] = Slot {
+            name: frame.name as u16,
+            node: operand.node as u16,
+            depth: operand.depth as u16,
+            kind: kind,
+        };
         Frames {
             slots: slots,
             depth: at + 1,
@@ -83,9 +95,13 @@ impl Frames {
         while 0 < i {
             i -= 1;
             let f = slots[i];
-            if crate::path::part_is(path, s, f.name) {
-                let operand = f.operand;
-                return Bound::At(operand);
+            if crate::path::part_is(path, s, f.name as usize) {
+                let kind = f.kind;
+                return Bound::At(Operand {
+                    node: f.node as usize,
+                    depth: f.depth as usize,
+                    kind: kind,
+                });
             }
         }
         Bound::Nothing

@@ -47,7 +47,7 @@ use Rattle.operands.proofs.Trees.{text-row}
 use Rattle.operands.specs.Rooted.{sheetIn}
 use Rattle.operands.specs.Stored.{framesOf, table}
 use Rattle.evaluation.proofs.Junctions.{Collecting, a-junction, a-negation, a-pair, child, child-below, child-falls, child-shallow, collect-begin, collect-end, collect-less, collect-long, collect-no-id, collect-on, collect-one, collect-unknown, element-falls, inner-falls, inner-node, inner-shallow, judged-exists, judged-false, judged-junction, judged-negation, judged-pair, judged-quantifier, judged-true, known-quantifier, operands-shallow, the-member}
-use Rattle.evaluation.proofs.Quantifiers.{Turning, body-known, body-shallow, each-falls, each-holds, each-unknown, over-fits, pushed, quantify-each, quantify-falls, quantify-long, quantify-missing, quantify-no-id, quantify-unknown, turn-begin, turn-below, turn-end, turn-given, turn-gives, turn-long, turn-no-id, turn-node, turn-on, turn-settled, turn-unknown}
+use Rattle.evaluation.proofs.Quantifiers.{Turning, body-known, body-shallow, each-falls, each-holds, each-unknown, over-fits, part-small, pushed, quantify-each, quantify-falls, quantify-long, quantify-missing, quantify-no-id, quantify-unknown, turn-begin, turn-below, turn-end, turn-given, turn-gives, turn-long, turn-no-id, turn-node, turn-on, turn-settled, turn-unknown}
 
 abbrev μ-each : Measures 2 each-kinds.ps ℕ
 μ-each κs a = 3 * a .1 .1 .1 .1 .1 .1 .1 .1 .0 + 1
@@ -140,7 +140,7 @@ each-part-of-requires : (t : ℕ) → each-lts.Need-part-of-requires (each-claim
 each-part-of-requires t c κs = (ready-after (c .before .before .before .before .before .before .before .before .before .before .before .before .before .before .before .pre .1 .0) (c .before .before .before .before .before .before .before .loop .inv .left), turn-node (c .before .before .before .before .before .before .before .loop .inv) (turn-given (c .before .before .before .before .before .before .before .loop .inv) (c .before .before .before .before .before .next .ensures) (c .before .before .before .x .given .0 .0) (c .before .before .before .x .given .1)) (c .before .value-node .ensures))
 
 each-push-requires : (t : ℕ) → each-lts.Need-push-requires (each-claims t) (each-at t) each.Post each-Inv-loop each-μ-loop
-each-push-requires t c κs = omega (arith, c .before .before .before .before .before .before .before .before .before .before .before .before .before .before .before .before .pre .1 .1)
+each-push-requires t c κs = (omega (arith, c .before .before .before .before .before .before .before .before .before .before .before .before .before .before .before .before .pre .1 .1), part-small (c .before .before .before .before .before .before .before .before .before .before .before .before .before .before .before .before .pre .1 .0 .short) (c .before .before .before .before .before .before .before .before .before .before .before .before .before .before .before .before .pre .1 .3) (c .part-of .ensures .fits))
 
 each-evaluate-requires : (t : ℕ) → each-lts.Need-evaluate-requires (each-claims t) (each-at t) each.Post each-Inv-loop each-μ-loop
 each-evaluate-requires t c κs = (each-falls (c .before .before .before .before .before .before .before .before .before .before .before .before .before .before .before .before .before .before .args .left) (c .before .before .before .before .before .before .before .before .before .before .before .before .before .before .before .before .before .before .pre .0), (pushed (ready-after (c .before .before .before .before .before .before .before .before .before .before .before .before .before .before .before .before .before .before .pre .1 .0) (c .before .before .before .before .before .before .before .before .before .before .loop .inv .left)) (omega (arith, c .before .before .before .before .before .before .before .before .before .before .before .before .before .before .before .before .before .before .pre .1 .1)) (c .before .before .before .before .before .before .before .before .before .before .before .before .before .before .before .before .before .before .pre .1 .3) (c .before .before .part-of .ensures .fits) (c .before .push .ensures .0) (c .before .push .ensures .1), omega (arith, c .before .before .before .before .before .before .before .before .before .before .before .before .before .before .before .before .before .before .pre .1 .1, c .before .push .ensures .0), turn-gives (c .before .before .before .before .before .before .before .before .before .before .loop .inv), rw (c .before .before .before .before .before .before .before .before .before .before .loop .inv .left .rows) (c .before .before .before .before .before .before .before .before .before .before .before .before .before .before .before .before .before .before .pre .1 .5)))

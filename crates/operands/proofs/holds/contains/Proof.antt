@@ -25,7 +25,7 @@ nesting-requires : tie.Need-nesting-requires
 nesting-requires c κs = c .before .before .before .before .before .pre .0 .bound .within
 
 is-element-requires : tie.Need-is-element-requires
-is-element-requires c κs = (c .before .before .before .before .before .before .pre .0, c .before .before .before .before .before .before .pre .2, array-kind (c .before .before .before .before .before .before .args .s .now) (table (c .before .before .before .before .before .before .args .work .now)) (c .before .before .before .before .before .before .args .a .node) (c .before .before .before .before .before .before .args .a .kind) (c .before .before .before .before .before .before .pre .1) (sym (c .before .before .before .class-of .ensures) ∙ c .before .if2 .taken))
+is-element-requires c κs = (c .before .before .before .before .before .before .pre .0, c .before .before .before .before .before .before .pre .2, array-kind (c .before .before .before .before .before .before .args .s .now) (table (c .before .before .before .before .before .before .args .work .now)) (c .before .before .before .before .before .before .args .a .node) (c .before .before .before .before .before .before .args .a .kind) (c .before .before .before .before .before .before .pre .1 .fits) (sym (c .before .before .before .class-of .ensures) ∙ c .before .if2 .taken))
 
 returns-2 : tie.Need-returns-2
 returns-2 c = contains-element (sheetIn (c .before .before .before .before .before .before .before .args .s .now)) (c .before .before .before .before .before .before .before .args .s .now) (table (c .before .before .before .before .before .before .before .args .work .now)) (framesOf (c .before .before .before .before .before .before .before .args .s .now) (table (c .before .before .before .before .before .before .before .args .work .now)) (c .before .before .before .before .before .before .before .args .frames)) (c .before .before .before .before .before .before .before .args .a) (c .before .before .before .before .before .before .before .args .b) (sym (c .before .before .before .before .class-of .ensures) ∙ c .before .before .if2 .taken) (rw (c .before .nesting .ensures ∙ ap nesting (sym (frames-length (c .before .before .before .before .before .before .before .pre .0)))) at (c .is-element .ensures))
@@ -43,7 +43,7 @@ text-place-requires : tie.Need-text-place-requires
 text-place-requires c κs = (record { rows = c .before .before .before .before .before .before .before .before .pre .0 .rows; node = omega arith }, c .before .before .before .before .before .before .before .before .pre .2, sym (c .before .class-of2 .ensures) ∙ c .if4 .left)
 
 has-key-requires : tie.Need-has-key-requires
-has-key-requires c κs = (record { rows = c .before .before .before .before .before .before .before .before .before .pre .0 .rows; node = omega arith }, c .text-place .ensures .onText, object-kind (c .before .before .before .before .before .before .before .before .before .args .s .now) (table (c .before .before .before .before .before .before .before .before .before .args .work .now)) (c .before .before .before .before .before .before .before .before .before .args .a .node) (c .before .before .before .before .before .before .before .before .before .args .a .kind) (c .before .before .before .before .before .before .before .before .before .pre .1) (sym (c .before .before .before .before .before .before .class-of .ensures) ∙ c .before .before .before .if3 .left), c .before .before .before .before .before .before .before .before .before .pre .0 .linked)
+has-key-requires c κs = (record { rows = c .before .before .before .before .before .before .before .before .before .pre .0 .rows; node = omega arith }, c .text-place .ensures .onText, object-kind (c .before .before .before .before .before .before .before .before .before .args .s .now) (table (c .before .before .before .before .before .before .before .before .before .args .work .now)) (c .before .before .before .before .before .before .before .before .before .args .a .node) (c .before .before .before .before .before .before .before .before .before .args .a .kind) (c .before .before .before .before .before .before .before .before .before .pre .1 .fits) (sym (c .before .before .before .before .before .before .class-of .ensures) ∙ c .before .before .before .if3 .left), c .before .before .before .before .before .before .before .before .before .pre .0 .linked)
 
 returns-5 : tie.Need-returns-5
 returns-5 c = contains-key (sheetIn (c .before .before .before .before .before .before .before .before .before .before .args .s .now)) (c .before .before .before .before .before .before .before .before .before .before .args .s .now) (table (c .before .before .before .before .before .before .before .before .before .before .args .work .now)) (framesOf (c .before .before .before .before .before .before .before .before .before .before .args .s .now) (table (c .before .before .before .before .before .before .before .before .before .before .args .work .now)) (c .before .before .before .before .before .before .before .before .before .before .args .frames)) (c .before .before .before .before .before .before .before .before .before .before .args .a) (c .before .before .before .before .before .before .before .before .before .before .args .b) (sym (c .before .before .before .before .before .before .before .class-of .ensures) ∙ c .before .before .before .before .if3 .left) (sym (c .before .before .before .class-of2 .ensures) ∙ c .before .before .if4 .left) (c .before .text-place .ensures) (c .has-key .ensures)

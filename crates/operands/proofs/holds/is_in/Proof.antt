@@ -21,7 +21,7 @@ nesting-requires : tie.Need-nesting-requires
 nesting-requires c κs = c .before .before .before .before .pre .0 .bound .within
 
 is-element-requires : tie.Need-is-element-requires
-is-element-requires c κs = (c .before .before .before .before .before .pre .0, c .before .before .before .before .before .pre .1, array-kind (c .before .before .before .before .before .args .s .now) (table (c .before .before .before .before .before .args .work .now)) (c .before .before .before .before .before .args .b .node) (c .before .before .before .before .before .args .b .kind) (c .before .before .before .before .before .pre .2) (sym (c .before .before .class-of .ensures) ∙ c .before .if1 .left))
+is-element-requires c κs = (c .before .before .before .before .before .pre .0, c .before .before .before .before .before .pre .1, array-kind (c .before .before .before .before .before .args .s .now) (table (c .before .before .before .before .before .args .work .now)) (c .before .before .before .before .before .args .b .node) (c .before .before .before .before .before .args .b .kind) (c .before .before .before .before .before .pre .2 .fits) (sym (c .before .before .class-of .ensures) ∙ c .before .if1 .left))
 
 returns-2 : tie.Need-returns-2
 returns-2 c = in-some (sheetIn (c .before .before .before .before .before .before .args .s .now)) (c .before .before .before .before .before .before .args .s .now) (table (c .before .before .before .before .before .before .args .work .now)) (framesOf (c .before .before .before .before .before .before .args .s .now) (table (c .before .before .before .before .before .before .args .work .now)) (c .before .before .before .before .before .before .args .frames)) (c .before .before .before .before .before .before .args .a) (c .before .before .before .before .before .before .args .b) (sym (c .before .before .before .class-of .ensures) ∙ c .before .before .if1 .left) (rw (c .before .nesting .ensures ∙ ap nesting (sym (frames-length (c .before .before .before .before .before .before .pre .0)))) at (c .is-element .ensures))

@@ -24,7 +24,7 @@ returns-2 : tie.Need-returns-2
 returns-2 c = second-no-number (c .before .before .before .before .before .before .args .s .now) (table (c .before .before .before .before .before .before .args .work .now)) (c .before .before .before .before .before .before .args .a) (c .before .before .before .before .before .before .args .b) (inOrder (c .before .before .before .before .before .before .args .less) (c .before .before .before .before .before .before .args .same) (c .before .before .before .before .before .before .args .greater)) (c .before .class-of2 .ensures) (c .if2 .taken)
 
 number-order-requires : tie.Need-number-order-requires
-number-order-requires c κs = (c .before .before .before .before .before .before .pre .0, number-kind (c .before .before .before .before .before .before .args .s .now) (table (c .before .before .before .before .before .before .args .work .now)) (c .before .before .before .before .before .before .args .a .node) (c .before .before .before .before .before .before .args .a .kind) (c .before .before .before .before .before .before .pre .1) (sym (c .before .before .before .class-of .ensures) ∙ c .before .before .if1 .left), number-kind (c .before .before .before .before .before .before .args .s .now) (table (c .before .before .before .before .before .before .args .work .now)) (c .before .before .before .before .before .before .args .b .node) (c .before .before .before .before .before .before .args .b .kind) (c .before .before .before .before .before .before .pre .2) (sym (c .before .class-of2 .ensures) ∙ c .if2 .left))
+number-order-requires c κs = (c .before .before .before .before .before .before .pre .0, number-kind (c .before .before .before .before .before .before .args .s .now) (table (c .before .before .before .before .before .before .args .work .now)) (c .before .before .before .before .before .before .args .a .node) (c .before .before .before .before .before .before .args .a .kind) (c .before .before .before .before .before .before .pre .1 .fits) (sym (c .before .before .before .class-of .ensures) ∙ c .before .before .if1 .left), number-kind (c .before .before .before .before .before .before .args .s .now) (table (c .before .before .before .before .before .before .args .work .now)) (c .before .before .before .before .before .before .args .b .node) (c .before .before .before .before .before .before .args .b .kind) (c .before .before .before .before .before .before .pre .2 .fits) (sym (c .before .class-of2 .ensures) ∙ c .if2 .left))
 
 enum-told : tie.Need-enum-told
 enum-told c = search needs

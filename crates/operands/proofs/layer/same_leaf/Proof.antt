@@ -10,7 +10,7 @@ use Rattle.operands.specs.Stored.{table}
 use Rattle.number.specs.Compared.{orderOf}
 
 number-order-requires : tie.Need-number-order-requires
-number-order-requires c κs = (c .before .before .before .pre .0, number-kind (c .before .before .before .args .s .now) (table (c .before .before .before .args .work .now)) (c .before .before .before .args .a .node) (c .before .before .before .args .a .kind) (c .before .before .before .pre .1) (c .before .before .before .pre .4 ∙ c .if1 .taken), number-kind (c .before .before .before .args .s .now) (table (c .before .before .before .args .work .now)) (c .before .before .before .args .b .node) (c .before .before .before .args .b .kind) (c .before .before .before .pre .2) (c .before .before .before .pre .5 ∙ c .if1 .taken))
+number-order-requires c κs = (c .before .before .before .pre .0, number-kind (c .before .before .before .args .s .now) (table (c .before .before .before .args .work .now)) (c .before .before .before .args .a .node) (c .before .before .before .args .a .kind) (c .before .before .before .pre .1 .fits) (c .before .before .before .pre .4 ∙ c .if1 .taken), number-kind (c .before .before .before .args .s .now) (table (c .before .before .before .args .work .now)) (c .before .before .before .args .b .node) (c .before .before .before .args .b .kind) (c .before .before .before .pre .2 .fits) (c .before .before .before .pre .5 ∙ c .if1 .taken))
 
 enum-told : tie.Need-enum-told
 enum-told c = search needs

@@ -3,13 +3,12 @@
 use borrow.Author.Needs.{needs}
 use Rattle.operands.proofs.layer.text_place.Statement.{statement}
 use Rattle.operands.proofs.layer.text_place.Tie as tie
-use Rattle.operands.proofs.Layered.{at-start, place-less, place-none, place-whole, text-kind}
-use Rattle.operands.proofs.Ordered.{node-below}
+use Rattle.operands.proofs.Layered.{at-start, place-less, place-none, place-whole}
 use Rattle.operands.proofs.Units.{unit-ended, unit-was}
 use Rattle.operands.specs.Stored.{table}
 
 start-at-requires : tie.Need-start-at-requires
-start-at-requires c κs = record { rows = c .before .before .pre .0 .rows; node = node-below (c .before .before .args .s .now) (table (c .before .before .args .work .now)) (text-kind (c .before .before .args .s .now) (table (c .before .before .args .work .now)) (c .before .before .args .o .node) (c .before .before .args .o .kind) (c .before .before .pre .1) (c .before .before .pre .2) .node) }
+start-at-requires c κs = record { rows = c .before .before .pre .0 .rows; node = c .before .before .pre .1 .node }
 
 enum-told : tie.Need-enum-told
 enum-told c = search needs

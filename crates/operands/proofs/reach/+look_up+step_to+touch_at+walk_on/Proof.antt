@@ -210,7 +210,7 @@ step-to-enum-told t c = search needs
 
 step-to-member-of-requires : (t : ℕ) → step-to-lts.Need-member-of-requires (step-to-claims t) (step-to-at t) step-to.Post
 unfolding Fits
-step-to-member-of-requires t c κs = let k = fits-as (c .before .before .before .before .before .args .s .now) (table (c .before .before .before .before .before .args .work .now)) (c .before .before .before .before .before .args .o) kinds.Object (c .enum-told .given .1) (c .before .before .before .before .before .pre .1 .2) in (node-room (c .before .before .before .before .before .pre .1 .0) (k .node), k, c .before .before .before .before .before .pre .1 .1 .onText)
+step-to-member-of-requires t c κs = let k = fits-as (c .before .before .before .before .before .args .s .now) (table (c .before .before .before .before .before .args .work .now)) (c .before .before .before .before .before .args .o) kinds.Object (c .enum-told .given .1) (c .before .before .before .before .before .pre .1 .2 .fits) in (node-room (c .before .before .before .before .before .pre .1 .0) (k .node), k, c .before .before .before .before .before .pre .1 .1 .onText)
 
 step-to-returns : (t : ℕ) → step-to-lts.Need-returns (step-to-claims t) (step-to-at t) step-to.Post
 step-to-returns t c = object-none (sheetIn (c .before .before .before .before .before .before .before .args .s .now)) (touch (sheetIn (c .before .before .before .before .before .before .before .args .s .now)) (c .before .before .before .before .before .before .before .args .left)) (framesOf (c .before .before .before .before .before .before .before .args .s .now) (table (c .before .before .before .before .before .before .before .args .work .now)) (c .before .before .before .before .before .before .before .args .frames)) _ (c .before .before .before .before .before .before .before .args .o) (c .before .before .enum-told .given .1) (c .before .member-of .ensures) (c .if1 .taken)
@@ -223,7 +223,7 @@ step-to-enum-told-2 t c = search needs
 
 step-to-member-of-requires-2 : (t : ℕ) → step-to-lts.Need-member-of-requires-2 (step-to-claims t) (step-to-at t) step-to.Post
 unfolding Fits
-step-to-member-of-requires-2 t c κs = let k = fits-as (c .before .before .before .before .before .args .s .now) (table (c .before .before .before .before .before .args .work .now)) (c .before .before .before .before .before .args .o) kinds.Named (c .enum-told2 .given .1) (c .before .before .before .before .before .pre .1 .2) in (node-room (c .before .before .before .before .before .pre .1 .0) (k .node), k, c .before .before .before .before .before .pre .1 .1 .onText)
+step-to-member-of-requires-2 t c κs = let k = fits-as (c .before .before .before .before .before .args .s .now) (table (c .before .before .before .before .before .args .work .now)) (c .before .before .before .before .before .args .o) kinds.Named (c .enum-told2 .given .1) (c .before .before .before .before .before .pre .1 .2 .fits) in (node-room (c .before .before .before .before .before .pre .1 .0) (k .node), k, c .before .before .before .before .before .pre .1 .1 .onText)
 
 step-to-returns-2 : (t : ℕ) → step-to-lts.Need-returns-2 (step-to-claims t) (step-to-at t) step-to.Post
 step-to-returns-2 t c = named-none (sheetIn (c .before .before .before .before .before .before .before .args .s .now)) (touch (sheetIn (c .before .before .before .before .before .before .before .args .s .now)) (c .before .before .before .before .before .before .before .args .left)) (framesOf (c .before .before .before .before .before .before .before .args .s .now) (table (c .before .before .before .before .before .before .before .args .work .now)) (c .before .before .before .before .before .before .before .args .frames)) _ (c .before .before .before .before .before .before .before .args .o) (c .before .before .enum-told2 .given .1) (c .before .member-of2 .ensures) (c .if2 .taken)
@@ -302,7 +302,7 @@ touch-at-written-kind-requires : (t : ℕ) → touch-at-lts.Need-written-kind-re
 touch-at-written-kind-requires t c κs = search needs
 
 touch-at-returns-5 : (t : ℕ) → touch-at-lts.Need-returns-5 (touch-at-claims t) (touch-at-at t) touch-at.Post
-touch-at-returns-5 t c = touch-written (sheetIn (c .before .before .before .before .before .before .args .s .now)) (framesOf (c .before .before .before .before .before .before .args .s .now) (table (c .before .before .before .before .before .before .args .work .now)) (c .before .before .before .before .before .before .args .frames)) (c .before .before .before .before .before .before .args .node) (c .before .before .before .before .before .before .args .left) (c .before .before .before .if1 .left) (c .before .before .before .before .before .before .pre .1 .1) _ (c .before .before .kind-at .ensures) (c .before .if2 .left) (c .written-kind .ensures) (sym (frames-length (c .before .before .before .before .before .before .pre .1 .0)))
+touch-at-returns-5 t c = touch-written (sheetIn (c .before .before .before .before .before .before .args .s .now)) (framesOf (c .before .before .before .before .before .before .args .s .now) (table (c .before .before .before .before .before .before .args .work .now)) (c .before .before .before .before .before .before .args .frames)) (c .before .before .before .before .before .before .args .node) (c .before .before .before .before .before .before .args .left) (c .before .before .before .if1 .left) (c .before .before .before .before .before .before .pre .1 .1) _ (c .before .before .kind-at .ensures) (c .before .if2 .left) (c .written-kind .ensures) (sym (frames-length (c .before .before .before .before .before .before .pre .1 .0))) (c .before .before .before .before .before .before .pre .1 .0 .bound .within)
 
 walk-on-step-to-requires : (t : ℕ) → walk-on-lts.Need-step-to-requires (walk-on-claims t) (walk-on-at t) walk-on.Post
 walk-on-step-to-requires t c κs = (step-falls (c .before .before .before .args .left) (length (c .before .before .before .args .path .now)) (c .before .before .before .pre .0), (c .before .before .before .pre .1 .0, c .before .before .before .pre .1 .1, c .before .before .before .pre .1 .2))

@@ -128,7 +128,7 @@ resolve-parts-same-length : (t : ℕ) → resolve-parts-lts.Need-same-length (re
 resolve-parts-same-length t c = c .before .before .before .before .before .loop .inv .left .long
 
 resolve-parts-returns : (t : ℕ) → resolve-parts-lts.Need-returns (resolve-parts-claims t) (resolve-parts-at t) resolve-parts.Post resolve-parts-Inv-loop resolve-parts-μ-loop
-resolve-parts-returns t c = gather-end (c .before .before .before .before .before .loop .inv) (c .before .before .before .before .before .before .before .before .before .before .pre .1 .1) (child-end (c .before .before .before .before .before .loop .inv .walk) (rw (c .before .before .before .before .before .loop .inv .left .rows) at (c .before .before .before .next .ensures)) (c .before .enum-told .given .1)) (c .gathered .ensures)
+resolve-parts-returns t c = gather-end (c .before .before .before .before .before .loop .inv) (c .before .before .before .before .before .before .before .before .before .before .pre .1 .1) (c .before .before .before .before .before .before .before .before .before .before .pre .1 .0 .bound .within) (child-end (c .before .before .before .before .before .loop .inv .walk) (rw (c .before .before .before .before .before .loop .inv .left .rows) at (c .before .before .before .next .ensures)) (c .before .enum-told .given .1)) (c .gathered .ensures)
 
 resolve-parts-enum-known-x : (t : ℕ) → resolve-parts-lts.Need-enum-known-x (resolve-parts-claims t) (resolve-parts-at t) resolve-parts.Post resolve-parts-Inv-loop resolve-parts-μ-loop
 resolve-parts-enum-known-x t c = search needs

@@ -1,5 +1,6 @@
 -- `operands::frames::Frames::find` meets its contract: what is found among the frames left is the answer.
 -- Assumes nothing.
+use borrow.Author.Needs.{needs}
 use Rattle.operands.proofs.frames.Frames.find.Statement.{statement}
 use Rattle.operands.proofs.frames.Frames.find.Tie as tie
 use mathlib.Core.Path.{_≡_, refl, sym, _∙_}
@@ -28,17 +29,26 @@ mul-f c = omega arith
 array-copy-out-f : tie.Need-array-copy-out-f Inv-loop μ-loop
 array-copy-out-f c = omega arith
 
+cast-part-is : tie.Need-cast-part-is Inv-loop μ-loop
+cast-part-is c = search needs
+
 part-is-requires : tie.Need-part-is-requires Inv-loop μ-loop
-part-is-requires c κs = (c .before .before .before .before .before .before .pre .2, name-at (c .before .before .before .before .before .before .args .s .now) (c .before .before .before .before .before .before .args .self .depth) (c .before .before .loop .i - 1) (c .before .before .before .before .before .before .args .self .slots) (omega arith) (c .before .before .before .before .before .before .pre .1))
+part-is-requires c κs = (c .before .before .before .before .before .before .before .pre .2, name-at (c .before .before .before .before .before .before .before .args .s .now) (c .before .before .before .before .before .before .before .args .self .depth) (c .before .before .before .loop .i - 1) (c .before .before .before .before .before .before .before .args .self .slots) (omega arith) (c .before .before .before .before .before .before .before .pre .1))
+
+cast-t14 : tie.Need-cast-t14 Inv-loop μ-loop
+cast-t14 c = search needs
+
+cast-t15 : tie.Need-cast-t15 Inv-loop μ-loop
+cast-t15 c = search needs
 
 returns : tie.Need-returns Inv-loop μ-loop
-returns c = sym (c .before .before .before .before .before .loop .inv .1 ∙ bound-here (c .before .before .before .before .before .before .before .before .before .args .s .now) _ (c .before .before .before .before .before .before .before .before .before .args .self .slots) (c .before .before .before .before .before .loop .i) (omega arith) (sym (c .before .if1 .taken) ∙ c .before .before .part-is .ensures))
+returns c = sym (c .before .before .before .before .before .before .before .loop .inv .1 ∙ bound-here (c .before .before .before .before .before .before .before .before .before .before .before .args .s .now) _ (c .before .before .before .before .before .before .before .before .before .before .before .args .self .slots) (c .before .before .before .before .before .before .before .loop .i) (omega arith) (sym (c .before .before .if1 .taken) ∙ c .before .before .before .part-is .ensures))
 
 loop-less : tie.Need-loop-less Inv-loop μ-loop
 loop-less c = omega arith
 
 loop-again : tie.Need-loop-again Inv-loop μ-loop
-loop-again c = (omega arith, c .before .before .before .before .loop .inv .1 ∙ bound-on (c .before .before .before .before .before .before .before .before .args .s .now) _ (c .before .before .before .before .before .before .before .before .args .self .slots) (c .before .before .before .before .loop .i) (omega arith) (sym (c .if1 .left) ∙ c .before .part-is .ensures))
+loop-again c = (omega arith, c .before .before .before .before .before .loop .inv .1 ∙ bound-on (c .before .before .before .before .before .before .before .before .before .args .s .now) _ (c .before .before .before .before .before .before .before .before .before .args .self .slots) (c .before .before .before .before .before .loop .i) (omega arith) (sym (c .if1 .left) ∙ c .before .part-is .ensures))
 
 returns-2 : tie.Need-returns-2 Inv-loop μ-loop
 returns-2 c = sym (c .before .loop .inv .1 ∙ bound-none (c .before .before .before .before .before .args .s .now) _ (c .before .before .before .before .before .args .self .slots) (c .before .loop .i) (omega arith))
@@ -53,7 +63,10 @@ find-spec =
     sub-i
     mul-f
     array-copy-out-f
+    cast-part-is
     part-is-requires
+    cast-t14
+    cast-t15
     returns
     loop-less
     loop-again
