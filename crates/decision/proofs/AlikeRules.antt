@@ -2,7 +2,7 @@
 -- Assumes nothing.
 use mathlib.Core.Bool.{true}
 use mathlib.Core.Option.{Option, none, some}
-use mathlib.Core.Path.{ap, refl, subst, sym, _∙_, _≡_}
+use mathlib.Core.Path.{ap, subst, sym, _∙_, _≡_}
 use Rattle.decision.specs.Demand.{SameRules}
 use Rattle.reader.proofs.Alike.{alike-sorted}
 use Rattle.reader.proofs.Complete.{read-exactly}
@@ -16,7 +16,7 @@ use Rattle.reader.specs.Refusal.{Result, ok, orElse, wrongSheet, _>>=_}
 use Rattle.reader.specs.Sorted.{sorted, sortedOf}
 use Rattle.sheet.proofs.SortedMembers.{find-sorted, find-tidy, mapped}
 use Rattle.sheet.proofs.SortedSheet.{SheetParts, sheet-sorted}
-use Rattle.sheet.specs.Condition.{Condition, condition}
+use Rattle.sheet.specs.Condition.{Condition}
 use Rattle.sheet.specs.Kinds.{aText, notNull, optional, required}
 use Rattle.sheet.specs.Sheet.{Sheet, aSheet, checked, readSheet, sound, written}
 use Rattle.sheet.specs.Verdicts.{faultOf, isOk}

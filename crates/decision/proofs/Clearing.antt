@@ -9,7 +9,7 @@ use native.Mathlib.Numerals.{add-one}
 use native.Mathlib.Omega.{arith}
 use lib.Dec.{T, leb, leb→le}
 use lib.ListN.{drop, getD, length, length-replicate, replicate, set}
-use lib.Seq.{drop-at, getD-set-other, set-getD, sets, sets-eq}
+use lib.Seq.{drop-at, getD-set-other, set-getD, sets}
 use borrow.Author.Tests.{leb-false, lt-leb}
 use Rattle.line.proofs.Laying.{sets-front}
 use Rattle.reader.proofs.Laws.{leb-true}

@@ -1,6 +1,6 @@
 -- The case of a number: with a line's length, without, or the last.
 -- Assumes nothing.
-use mathlib.Core.Path.{refl, sym, _∙_, _≡_}
+use mathlib.Core.Path.{refl, sym, _≡_}
 use Prim.Native.Nat.{ℕ, _<_, _≤_}
 use native.Mathlib.Omega.{arith}
 use Rattle.decision.specs.Replies.{Told}

@@ -19,7 +19,7 @@ use Rattle.decision.specs.Called.{Replied}
 use Rattle.rules.specs.Decide.{decideCall}
 use Rattle.decision.specs.Demand.{Demand, Repeats}
 use Rattle.decision.specs.Entry.{Reply, call, decide, enough, fitted, outputAfter, reply}
-use Rattle.decision.specs.Replies.{numberOf, sizeOf}
+use Rattle.decision.specs.Replies.{sizeOf}
 use Rattle.decision.specs.declared.reply.Reply.{Reply as Case}
 use Rattle.decision.proofs.Clearing.{left-again}
 use Rattle.decision.proofs.Repeat.{demand}

@@ -66,9 +66,6 @@ module _ (sheet : Sheet Condition) (fs : lazy.Frames) (v : Value) where
 
 -- the pair forms
 module _ (sheet : Sheet Condition) (fs : lazy.Frames) (f : Form) (u v : Value) where
-  abbrev first : Resolved lazy.Operand → Result Answer
-  first x = operand sheet fs v >>= λ y. ok (comparedOf sheet fs f x y)
-
   pub pair-refused : (g : Refusal) → operand sheet fs u ≡ refused g → judge sheet fs (pair f u v) ≡ refused g
   unfolding judge
   pair-refused g e = ap (λ (x : Result (Resolved lazy.Operand)). x >>= λ y. operand sheet fs v >>= λ z. ok (comparedOf sheet fs f y z)) e

@@ -3,7 +3,7 @@
 use mathlib.Core.List.{List, _∷_}
 use mathlib.Core.Bool.{true}
 use mathlib.Core.Path.{_≡_}
-use Prim.Native.Nat.{ℕ, _+_, _<_}
+use Prim.Native.Nat.{ℕ, _<_}
 use Rattle.reader.specs.Bytes.{Bytes}
 use Rattle.reader.specs.Held.{HasNode, IsNode}
 use Rattle.reader.specs.Limits.{depth, maxNumber, tidy}

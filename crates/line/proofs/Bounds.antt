@@ -9,7 +9,7 @@ use native.Mathlib.Omega.{arith}
 use borrow.Author.Tests.{leb-true}
 use lib.Dec.{leb}
 use lib.ListN.{length, length-append}
-use Rattle.line.specs.Line.{eachLine, endLine, falseNumber, refusalForm, refusalLine, refusalNumber, unknownNumber, verdictForm, verdictLine, decimalDigits, form, listed, messageOr, nameOr, names, quoted, quotedOr}
+use Rattle.line.specs.Line.{eachLine, endLine, falseNumber, refusalForm, refusalLine, refusalNumber, unknownNumber, verdictForm, verdictLine, decimalDigits, listed, messageOr, nameOr, names, quoted, quotedOr}
 use Rattle.reader.specs.Bytes.{Bytes, ascii}
 use Rattle.reader.specs.Refusal.{Refusal, Result, guardUnknown, invariants, lineTooLong, noId, noInput, noOutcome, notASource, notCarried, notJson, notUtf8, numberTooLong, ok, preconditions, refused, repeatedName, ruleFalse, ruleUnknown, tooDeep, tooLong, tooManyNodes, unknownExpression, workTooSmall, wrongShape, wrongSheet, wrongState}
 use Rattle.reader.specs.Spans.{textAt}

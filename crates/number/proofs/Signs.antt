@@ -1,7 +1,7 @@
 -- Laws of integers held as digits and a sign: their order, and their sum.
 -- Assumes nothing.
 use mathlib.Core.Bool.{Bool, Bool·beq, false, false≢true, true, true≢false}
-use mathlib.Core.Path.{ap, refl, subst, sym, _∙_, _≡_}
+use mathlib.Core.Path.{refl, subst, sym, _∙_, _≡_}
 use Prim.Native.Nat.{Ordering, Ordering·eq, Ordering·gt, Ordering·lt, compare, ℕ, _+_, _<_}
 use native.Mathlib.Omega.{arith}
 use Rattle.number.proofs.Exact.{Cmp, cmp, cmp-is, less, more, same}

@@ -1,4 +1,4 @@
--- The exact value of a number's characters, its order, and the comparison that the code runs.
+-- The exact value of a number's characters, and its order.
 -- Assumes nothing.
 use mathlib.Core.Bool.{Bool, false, not, true, _&&_, _||_}
 use mathlib.Core.List.{[], _++_, _∷_}

@@ -1,7 +1,6 @@
 // A written text: itself, a text less one `$`, or an expression. A `$` may be written as an escape, so a text is read unit by unit.
 use reader::escape::Escaped;
 use reader::escape::Scalar;
-ghost use mathlib.Core.Path.{_≡_};
 ghost use Rattle.reader.specs.Cursor.{OnText};
 ghost use Rattle.operands.specs.Told.{UnitTold, WrittenTold};
 

@@ -125,10 +125,6 @@ pub rel-bind : {A B C D : Type 0} {R : A → B → Type 0} {S : C → D → Type
 rel-bind (both {a} {b} h) k = k a b h
 rel-bind (neitherOf r) k = neitherOf r
 
-pub rel-same : {A : Type 0} (x : Result A) → Rel A A (λ a b. a ≡ b) x x
-rel-same (ok a) = both refl
-rel-same (refused r) = neitherOf r
-
 -- ---- bytes, words, texts and numbers
 byte-agrees : (c : ℕ) (s : Bytes) (at : ℕ) (t : Bytes) → t ≡ drop at s → at ≤ length s → eqb c 0 ≡ false → Rel Bytes ℕ (λ r p. Behind s (at + 1) r p × (p ≡ at + 1)) (expect c t) (Placing.byteAt c s at)
 unfolding expect Placing.byteAt

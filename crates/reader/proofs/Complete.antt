@@ -23,7 +23,7 @@ use Rattle.reader.specs.Numerals.{Place, complete, digit, digits, isStop
 use Rattle.reader.specs.Reader
 use Rattle.reader.specs.Reader.{Parsed}
 use Rattle.reader.specs.Refusal.{Refusal, Result, notJson, numberTooLong, ok, refused, repeatedName, tooDeep, tooManyNodes, _>>=_}
-use Rattle.reader.specs.Scan.{Read, expect, isSpace, skip, word}
+use Rattle.reader.specs.Scan.{Read, expect, isSpace, skip}
 use Rattle.reader.specs.Strings.{char, chars, escape, hex, highHalf, highUnit, lowHalf, ofUnit, other, plainUnit, simpleEscape, unicode, unit16}
 use Rattle.reader.specs.Utf8.{encode}
 
@@ -100,11 +100,6 @@ string-length (Grammar.string e c) = omega (arith, chars-length c)
 expect-complete : (c : ℕ) (s : Bytes) → expect c (c ∷ s) ≡ ok s
 unfolding expect
 expect-complete c s = rw (eqb-same c, expect) refl
-
-word-complete : (w r : Bytes) → word w (w ++ r) ≡ ok r
-unfolding word
-word-complete [] r = refl
-word-complete (c ∷ w) r = rw (eqb-same c, word) (word-complete w r)
 
 pub hex-complete : {n u v : ℕ} {s r : Bytes} → Hex n u v s r → hex n u s ≡ ok (record { got = v; rest = r })
 unfolding hex

@@ -171,9 +171,6 @@ module _ (s : Bytes) (w : List ℕ) where
       go zero = rw (r .isKind, kind-code k, r .isStart, r .isEnd)
       go (suc l) = rw (r .isKind, kind-code k, r .isStart, r .isEnd)
 
-  less : {left n : ℕ} {t : Node} → NodeAt s w (suc left - 1) n t → NodeAt s w left n t
-  less {left} h = let q : suc left - 1 ≡ left = omega arith in rw q at h
-
   mutual
     unfolding erase size deep valuesBy membersBy
 

@@ -238,41 +238,17 @@ module _ {s : Bytes} {val : Placer Node} {at : ℕ} {whole : Result (Placed Node
       go zero k = absurd (omega arith)
       go (suc m) k = ap (closesOf at fs) (f m)
 
-  pub no-name : (getD s here 0 ≡ 34 → ⊥) → whole ≡ refused notJson
-  unfolding fieldsAt closesOf
-  no-name f = l .rest ∙ go (l .fuel)
-    where
-      go : (m : ℕ) → closesOf at fs (fieldsAt s val m (l .names) n here) ≡ refused notJson
-      go zero = refl
-      go (suc m) = ap (closesOf at fs) (bind-refused _ (byte-not 34 s here f))
-
   module _ (isQuote : getD s here 0 ≡ 34) (inside : here < length s) where
-    pub name-full : maxNodes ≤ n → whole ≡ refused tooManyNodes
-    unfolding fieldsAt closesOf
-    name-full h = by (refused tooManyNodes) inside λ m. bind-ok _ (byte-is 34 s here isQuote) ∙ bind-refused _ (none-left n h)
-
     module _ (room : n < maxNodes) where
       counted : oneNode n ≡ ok (n + 1)
       unfolding oneNode
       counted = rw (lt-ltb n maxNodes room, oneNode)
 
-      pub name-bad : (r : Refusal) → charsAt s (here + 1) ≡ refused r → whole ≡ refused r
-      unfolding fieldsAt closesOf
-      name-bad r e = by (refused r) inside λ m. bind-ok _ (byte-is 34 s here isQuote) ∙ bind-ok _ counted ∙ bind-refused _ e
-
       module _ (e : ℕ) (isText : charsAt s (here + 1) ≡ ok e) where
-        pub name-again : isOneOf (textAt s (here + 1)) (keys (eraseOf s fs)) ≡ true → whole ≡ refused repeatedName
-        unfolding fieldsAt closesOf
-        name-again h = by (refused repeatedName) inside λ m. bind-ok _ (byte-is 34 s here isQuote) ∙ bind-ok _ counted ∙ bind-ok _ isText ∙ bind-refused _ (not-new (textAt s (here + 1)) (l .names) (l .named (textAt s (here + 1)) ∙ h))
-
         module _ (isNew : isOneOf (textAt s (here + 1)) (keys (eraseOf s fs)) ≡ false) where
           fresh : newName (textAt s (here + 1)) (l .names) [] ≡ ok []
           unfolding newName
           fresh = rw (l .named (textAt s (here + 1)) ∙ isNew, newName)
-
-          pub no-colon : (getD s (skipAt s e) 0 ≡ 58 → ⊥) → whole ≡ refused notJson
-          unfolding fieldsAt closesOf
-          no-colon f = by (refused notJson) inside λ m. bind-ok _ (byte-is 34 s here isQuote) ∙ bind-ok _ counted ∙ bind-ok _ isText ∙ bind-ok _ fresh ∙ bind-refused _ (byte-not 58 s (skipAt s e) f)
 
           module _ (isColon : getD s (skipAt s e) 0 ≡ 58) where
             pub value-refused : (r : Refusal) → val (n + 1) (skipAt s (skipAt s e + 1)) ≡ refused r → whole ≡ refused r

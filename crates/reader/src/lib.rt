@@ -16,7 +16,7 @@ pub mod text;
 mod tree;
 mod utf8;
 
-// The sheet's tree in the table, or the first refusal of 1 to 8. One pass for UTF-8 and one for the rest, without a step back. Besides the
+// The sheet's tree in the table, or the first refusal of 1 to 8. UTF-8 is judged first, then one pass reads, without a step back. Besides the
 // lent table it takes stack: the marks of names, 32,749 bytes, and two calls for each of at most 64 brackets.
 pub fn read(sheet: &[u8], work: &mut [u32]) -> Read
     ensures { λ r. ⌜ ReadTold (now (sheet .entry)) (now (work .entry)) (now (work .exit)) r ⌝ }

@@ -1,4 +1,4 @@
-// UTF-8 (RFC 3629), in a pass of its own.
+// UTF-8 (RFC 3629), of the whole text before it is read.
 ghost use mathlib.Core.Path.{_≡_};
 ghost use Rattle.reader.specs.Utf8.{isAscii, scalar, utf8};
 ghost use Rattle.reader.specs.Answers.{Leads, Follows};

@@ -8,12 +8,12 @@ use mathlib.Core.Option.{Option, none, some}
 use mathlib.Core.Path.{refl, _∙_, _≡_}
 use Prim.Native.Nat.{Ordering}
 use Rattle.semantics.specs.Evaluate.{Answer, evaluate, evaluateAll}
-use Rattle.semantics.specs.Expression.{Env, gives}
+use Rattle.semantics.specs.Expression.{Env, gives, givesParts}
 use Rattle.semantics.specs.Forms.{holds, isGreater, isLess, numbers}
 use Rattle.semantics.specs.Operand.{present, resolve}
 use Rattle.semantics.specs.Semantics.{Semantics, isSame}
 use Rattle.reader.proofs.Laws.{bind-ok}
-use Rattle.reader.specs.Bytes.{Bytes, ascii}
+use Rattle.reader.specs.Bytes.{Bytes, ascii, find}
 use Rattle.reader.specs.Json.{Value, asNumber, null, text}
 use Rattle.reader.specs.Refusal.{Refusal, ok, refused, _>>=_}
 use Rattle.sheet.specs.Condition.{Condition, Conditions, Form, Mode, also, gt, gte, lt, lte}
@@ -25,9 +25,9 @@ module _ (sem : Semantics) {C : Type 0} (sheet : Sheet C) where
   unfolding evaluate
   later-refusal env m c cs a r e f = bind-ok _ e ∙ rw (f, _>>=_) refl
 
-  pub state-is-to-state : gives sem sheet [] (ascii "state") ≡ ok (some (text (sheet .toState)))
+  pub state-is-to-state : (env : Env) → find (ascii "state") env ≡ none → gives sem sheet env (ascii "state") ≡ ok (some (text (sheet .toState)))
   unfolding gives
-  state-is-to-state = refl
+  state-is-to-state env e = rw (e, givesParts) refl
 
   pub null-is-present : (env : Env) → resolve sem sheet env null ≡ ok (present null)
   unfolding resolve

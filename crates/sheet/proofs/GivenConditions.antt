@@ -348,8 +348,3 @@ module _ {s : Bytes} {w : List ℕ} {n : ℕ} {c : Condition} (g : OneMember s w
   pub given-known : r ≡ ops.Unknown → ⊥
   unfolding operatorOf
   given-known f = never wrongShape c (by ops.Unknown f)
-
-  -- a quantifier: what it goes over, its binder and its body, by the nodes that were found
-  pub given-quantified : (m : CodeMode) → r ≡ ops.Quantified m → ObjectHere s w (n + 1 + 1) × ((rIn rAs rThat : Found) → FoundTold s w (find (ascii "in") (entries (membersAt s w (n + 1 + 1 + 1) (afterAt w (n + 1 + 1))))) rIn → FoundTold s w (find (ascii "as") (entries (membersAt s w (n + 1 + 1 + 1) (afterAt w (n + 1 + 1))))) rAs → FoundTold s w (find (ascii "that") (entries (membersAt s w (n + 1 + 1 + 1) (afterAt w (n + 1 + 1))))) rThat → QuantifiedHere s w (modeOf m) rIn rAs rThat c)
-  unfolding operatorOf
-  given-quantified m f = quantified-here (g .inner) (g .isTidy) (modeOf m) c (by (ops.Quantified m) f)

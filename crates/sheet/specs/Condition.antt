@@ -1,4 +1,4 @@
--- A condition (document 01, "Condition"): true, false, or an object with exactly one member, which names its operator; and its refusals, 10 and 11.
+-- A condition (the paper's "Condition"): true, false, or an object with exactly one member, which names its operator; and its refusals, 10 and 11.
 -- Assumes nothing.
 use mathlib.Core.Bool.{Bool, false, true}
 use mathlib.Core.List.{List, [], _∷_}

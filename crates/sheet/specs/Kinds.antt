@@ -1,4 +1,4 @@
--- The kinds of members, and the refusal 9 (document 01, "Sheet"): a member missing, further, null or of the wrong kind. All of them refuse with 9, so their order makes no difference.
+-- The kinds of members, and the refusal 9 (the paper's "Sheet"): a member missing, further, null or of the wrong kind. All of them refuse with 9, so their order makes no difference.
 -- Assumes nothing.
 use mathlib.Core.Bool.{Bool, false, true, _&&_}
 use mathlib.Core.List.{List, [], _∷_}

@@ -1,4 +1,4 @@
--- An outcome and its effect (document 01, "Rule and outcome").
+-- An outcome and its effect (the paper's "Rule and outcome").
 -- Assumes nothing.
 use mathlib.Core.Bool.{Bool, false}
 use mathlib.Core.List.{List, [], _∷_}

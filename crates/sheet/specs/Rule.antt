@@ -1,4 +1,4 @@
--- A rule (document 01, "Rule and outcome"): `assert`, and the texts `name` and `message`, which may be missing.
+-- A rule (the paper's "Rule and outcome"): `assert`, and the texts `name` and `message`, which may be missing.
 -- Assumes nothing.
 use mathlib.Core.List.{[], _∷_}
 use mathlib.Core.Option.{Option}

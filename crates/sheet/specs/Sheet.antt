@@ -1,4 +1,4 @@
--- A sheet (document 01, "Sheet" and "Numbers by call"): its members, 9, then 10 and 11 for the condition at fault that begins first.
+-- A sheet (the paper's "Sheet" and "Numbers by call"): its members, 9, then 10 and 11 for the condition at fault that begins first.
 -- Assumes nothing.
 use mathlib.Core.Bool.{Bool, true}
 use mathlib.Core.List.{List, [], _++_, _∷_}
