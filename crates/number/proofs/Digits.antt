@@ -59,13 +59,13 @@ module _ (c : ℕ) (s : Bytes) where
   unfolding behind
   behind-here e = rw (e, behind) refl
 
-nothing-before : (p : ℕ → Bool) → before p [] ≡ []
+pub before-nil : (p : ℕ → Bool) → before p [] ≡ []
 unfolding before
-nothing-before p = refl
+before-nil p = refl
 
-nothing-behind : (p : ℕ → Bool) → behind p [] ≡ []
+pub behind-nil : (p : ℕ → Bool) → behind p [] ≡ []
 unfolding behind
-nothing-behind p = refl
+behind-nil p = refl
 
 abbrev Whole : Bytes → Bytes
 Whole x = before isPoint (before isE x)
@@ -95,7 +95,7 @@ stopped e = absurd (true≢false e)
 
 -- behind the point, everything before an `e` is a digit
 fraction-digits : (x r : Bytes) → From Place.fraction (x ++ r) r → AreDigits (before isE x)
-fraction-digits [] r h = rw (nothing-before isE) tt
+fraction-digits [] r h = rw (before-nil isE) tt
 fraction-digits (c ∷ x) r h = go (λ k. fraction-digits x r k) (digit c) (digit-view c) (o .0) (o .1)
   where
     o : (Numerals.isStop (onward Place.fraction (digit c)) ≡ false) × From (onward Place.fraction (digit c)) (x ++ r) r
@@ -111,7 +111,7 @@ fraction-digits (c ∷ x) r h = go (λ k. fraction-digits x r k) (digit c) (digi
     go rest k vOther n f = stopped n
 
 point-digits : (x r : Bytes) → From Place.point (x ++ r) r → AreDigits (before isE x)
-point-digits [] r h = rw (nothing-before isE) tt
+point-digits [] r h = rw (before-nil isE) tt
 point-digits (c ∷ x) r h = go (digit c) (digit-view c) (o .0) (o .1)
   where
     o : (Numerals.isStop (onward Place.point (digit c)) ≡ false) × From (onward Place.point (digit c)) (x ++ r) r
@@ -131,7 +131,7 @@ abbrev Parts : Bytes → Type 0
 Parts x = AreDigits (Whole x) × AreDigits (Fraction x)
 
 parts-nil : Parts []
-parts-nil = (rw (nothing-before isE, nothing-before isPoint) tt, rw (nothing-before isE, nothing-behind isPoint) tt)
+parts-nil = (rw (before-nil isE, before-nil isPoint) tt, rw (before-nil isE, behind-nil isPoint) tt)
 
 parts-digit : (c : ℕ) (x : Bytes) → (48 ≤ c) × (c ≤ 57) → Parts x → Parts (c ∷ x)
 parts-digit c x d h =
@@ -144,7 +144,7 @@ parts-point c x e h =
     (rw (before-plain c x (q .0), point-here c (before isE x) (q .1)) tt, rw (before-plain c x (q .0), behind-here c (before isE x) (q .1)) h)
 
 parts-e : (c : ℕ) (x : Bytes) → (c ≡ 69) ⊎ (c ≡ 101) → Parts (c ∷ x)
-parts-e c x e = (rw (before-e c x (is-e c e), nothing-before isPoint) tt, rw (before-e c x (is-e c e), nothing-behind isPoint) tt)
+parts-e c x e = (rw (before-e c x (is-e c e), before-nil isPoint) tt, rw (before-e c x (is-e c e), behind-nil isPoint) tt)
 
 zeroed-parts : (x r : Bytes) → From Place.zeroed (x ++ r) r → Parts x
 zeroed-parts [] r h = parts-nil

@@ -10,6 +10,7 @@ use native.Mathlib.Omega.{arith}
 use lib.Dec.{eqb}
 use lib.ListN.{drop, drop-of-length-le, getD, length, length-append, replicate, take}
 use lib.Seq.{drop-cons, drop-drop, take-append-add, take-append-seam}
+use Rattle.number.proofs.Digits.{before-nil, behind-nil}
 use Rattle.number.proofs.Exact.{Put, ending, trimEnd-cons, trimEnd-nil}
 use Rattle.number.specs.Compare.{isNothing, isZero, leading, put, trim, trimEnd}
 use Rattle.number.specs.Decimal.{before, behind, exponentPart, fractionPart, isE, isPoint, isSign, minus, unsigned, wholePart}
@@ -60,14 +61,6 @@ module _ (c : ℕ) (s : Bytes) where
   pub digits-on : (p : Bool) → opens p c ≡ false → digitsFrom p (c ∷ s) ≡ c ∷ digitsFrom p s
   unfolding digitsFrom
   digits-on p e = rw (e, digitsFrom) refl
-
-before-nil : (p : ℕ → Bool) → before p [] ≡ []
-unfolding before
-before-nil p = refl
-
-behind-nil : (p : ℕ → Bool) → behind p [] ≡ []
-unfolding behind
-behind-nil p = refl
 
 leading-nil : leading [] ≡ 0
 unfolding leading

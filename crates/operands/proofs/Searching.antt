@@ -4,6 +4,7 @@ use mathlib.Core.Bool.{false, true}
 use mathlib.Core.List.{[], _∷_}
 use mathlib.Core.Path.{subst, _≡_}
 use Prim.Native.Nat.{ℕ}
+use Rattle.reader.proofs.Leaves.{beforeOf}
 use Rattle.reader.specs.Bytes.{Bytes, begins, sameBytes}
 use Rattle.reader.specs.Cursor.{OnText, before}
 use Rattle.reader.specs.Spans.{textAt}
@@ -14,24 +15,21 @@ use Rattle.operands.specs.declared.search.Rests.{Rests}
 use Rattle.operands.specs.declared.search.Turn as turns
 use Rattle.operands.specs.declared.search.Turn.the-variants as turn
 
-abbrev pub ahead : Bytes → Cursor → Bytes
-ahead s c = before s (c .at) (c .unit) (c .left)
-
 -- a cursor at the start of a text
-pub start-ahead : (s : Bytes) (a : ℕ) {c : Cursor} → c ≡ record { at = a; unit = 0; left = 0 } → ahead s c ≡ textAt s a
+pub start-before : (s : Bytes) (a : ℕ) {c : Cursor} → c ≡ record { at = a; unit = 0; left = 0 } → beforeOf s c ≡ textAt s a
 unfolding before
-start-ahead s a e = rw e
+start-before s a e = rw e
 
 pub start-on : (s : Bytes) (a : ℕ) {c : Cursor} → c ≡ record { at = a; unit = 0; left = 0 } → OnText s a 0 → OnText s (c .at) (c .left)
 start-on s a e o = rw e o
 
 -- what a turn told
 module _ (s : Bytes) (p t : Cursor) {r : turns.Turn} (h : TurnTold s p t r) where
-  pub turn-ended : r ≡ turn.Ended → begins (ahead s p) (ahead s t) ≡ true
+  pub turn-ended : r ≡ turn.Ended → begins (beforeOf s p) (beforeOf s t) ≡ true
   unfolding TurnTold
   turn-ended e = subst (TurnTold s p t) e h
 
-  pub turn-apart : r ≡ turn.Apart → begins (ahead s p) (ahead s t) ≡ false
+  pub turn-apart : r ≡ turn.Apart → begins (beforeOf s p) (beforeOf s t) ≡ false
   unfolding TurnTold
   turn-apart e = subst (TurnTold s p t) e h
 

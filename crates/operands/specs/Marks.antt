@@ -6,6 +6,7 @@ use mathlib.Core.Logic.{_⊎_}
 use mathlib.Core.Path.{_≡_}
 use Prim.Native.Nat.{ℕ, _%_, _*_, _+_, _<_}
 use lib.ListN.{drop, getD, length, set}
+use Rattle.reader.specs.Marks.{firstMark}
 use Rattle.reader.specs.Bytes.{Bytes}
 use Rattle.reader.specs.Links.{linkAt}
 use Rattle.reader.specs.Refusal.{Result, noId, ok, refused, unknownExpression}
@@ -22,10 +23,6 @@ use Rattle.operands.specs.declared.resolve.Part.the-variants as part
 use Rattle.operands.specs.declared.resolve.Resolved.{Resolved}
 use Rattle.operands.specs.declared.resolve.Resolved.the-variants as resolved
 
--- the marks stand behind the rows
-abbrev pub marks : ℕ
-marks = 12288
-
 abbrev pub words : ℕ
 words = 16384
 
@@ -33,7 +30,7 @@ words = 16384
 pub record Marked (s : Bytes) (w : List ℕ) (x : Bytes) : Type 0 where
   pub node : ℕ
   pub small : node < 4096
-  pub mark : getD w (marks + node) 0 % 2 ≡ 1
+  pub mark : getD w (firstMark + node) 0 % 2 ≡ 1
   pub text : textAt s (startAt (table w) node) ≡ x
 
 -- rows and links stay, and words further on; marked is what was marked, and these names; a node newly marked is a text's
@@ -44,12 +41,12 @@ pub record Left (s : Bytes) (w w′ : List ℕ) (ns : Names) : Type 0 where
   pub only : (x : Bytes) → Marked s w′ x → Marked s w x ⊎ Named x ns
   pub still : (x : Bytes) → Marked s w x → Marked s w′ x
   pub added : (x : Bytes) → Named x ns → Marked s w′ x
-  pub texts : (n : ℕ) → n < 4096 → getD w′ (marks + n) 0 % 2 ≡ 1 → (getD w (marks + n) 0 % 2 ≡ 1) ⊎ HasKind s (table w) n 4
+  pub texts : (n : ℕ) → n < 4096 → getD w′ (firstMark + n) 0 % 2 ≡ 1 → (getD w (firstMark + n) 0 % 2 ≡ 1) ⊎ HasKind s (table w) n 4
 
 -- quietly nothing is marked
 abbrev pub missed : Bool → List ℕ → ℕ → List ℕ
 missed true w n = w
-missed false w n = set w (marks + n) (2 * linkAt w n + 1)
+missed false w n = set w (firstMark + n) (2 * linkAt w n + 1)
 
 abbrev pub heard : Bool → Names → Names
 heard true ns = noNames

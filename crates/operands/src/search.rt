@@ -1,6 +1,7 @@
 // Texts in texts, decoded as they are compared: at the start, anywhere, at the end.
 use reader::text::Cursor;
 use reader::text::Step;
+use reader::text::begin;
 ghost use mathlib.Core.Path.{_≡_};
 ghost use Rattle.reader.specs.Bytes.{begins, sameBytes};
 ghost use Rattle.reader.specs.Cursor.{OnText, before};
@@ -41,22 +42,12 @@ fn compare(s: &[u8], part: Cursor, text: Cursor) -> Turn
     }
 }
 
-fn start(at: usize) -> Cursor
-    ensures { λ r. ⌜ r ≡ record { at = at; unit = 0; left = 0 } ⌝ }
-{
-    Cursor {
-        at: at,
-        unit: 0,
-        left: 0,
-    }
-}
-
 pub fn starts_with(s: &[u8], text: usize, part: usize) -> bool
     requires { ⌜ OnText (now s) text 0 × OnText (now s) part 0 ⌝ }
     ensures { λ r. ⌜ r ≡ begins (textAt (now (s .entry)) part) (textAt (now (s .entry)) text) ⌝ }
 {
-    let mut y = start(part);
-    let mut z = start(text);
+    let mut y = begin(part);
+    let mut z = begin(text);
     loop {
         match compare(s, y, z) {
             Turn::Ended => {
@@ -78,9 +69,9 @@ pub fn has_part(s: &[u8], text: usize, part: usize) -> bool
     requires { ⌜ OnText (now s) text 0 × OnText (now s) part 0 ⌝ }
     ensures { λ r. ⌜ r ≡ isPart (textAt (now (s .entry)) part) (textAt (now (s .entry)) text) ⌝ }
 {
-    let mut x = start(text);
+    let mut x = begin(text);
     'search: loop {
-        let mut y = start(part);
+        let mut y = begin(part);
         let mut z = x;
         loop {
             match compare(s, y, z) {
@@ -139,8 +130,8 @@ pub fn ends_with(s: &[u8], text: usize, part: usize) -> bool
     requires { ⌜ OnText (now s) text 0 × OnText (now s) part 0 ⌝ }
     ensures { λ r. ⌜ r ≡ ends (textAt (now (s .entry)) part) (textAt (now (s .entry)) text) ⌝ }
 {
-    let y = start(part);
-    let mut x = start(text);
+    let y = begin(part);
+    let mut x = begin(text);
     loop {
         if same_from(s, y, x) {
             return true;

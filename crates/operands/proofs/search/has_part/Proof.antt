@@ -3,37 +3,37 @@
 use Rattle.operands.proofs.search.has_part.Statement.{statement}
 use Rattle.operands.proofs.search.has_part.Tie as tie
 use mathlib.Core.Path.{_≡_, sym, _∙_}
-use Rattle.reader.proofs.Leaves.{was-byte, was-end}
+use Rattle.reader.proofs.Leaves.{beforeOf, was-byte, was-end}
 use Rattle.reader.specs.Bytes.{begins}
 use Rattle.reader.specs.Cursor.{OnText, weight}
 use Rattle.reader.specs.Spans.{textAt}
 use Rattle.semantics.specs.Forms.{isPart}
-use Rattle.operands.proofs.Searching.{ahead, part-here, part-later, part-over, start-ahead, start-on, turn-apart, turn-ended, turn-on}
+use Rattle.operands.proofs.Searching.{part-here, part-later, part-over, start-before, start-on, turn-apart, turn-ended, turn-on}
 use borrow.Author.Needs.{needs}
 
 abbrev Inv-loop : tie.InvT-loop
-Inv-loop s text part x y₀ z₀ y z = OnText s (y .at) (y .left) × OnText s (z .at) (z .left) × (begins (textAt s part) (ahead s x) ≡ begins (ahead s y) (ahead s z))
+Inv-loop s text part x y₀ z₀ y z = OnText s (y .at) (y .left) × OnText s (z .at) (z .left) × (begins (textAt s part) (beforeOf s x) ≡ begins (beforeOf s y) (beforeOf s z))
 
 abbrev μ-loop : tie.MeasureT-loop
 μ-loop s text part x y₀ z₀ y z = weight s (y .at) (y .left)
 
 abbrev Inv-search : tie.InvT-search
-Inv-search s text part x₀ x = OnText s (x .at) (x .left) × (isPart (textAt s part) (textAt s text) ≡ isPart (textAt s part) (ahead s x))
+Inv-search s text part x₀ x = OnText s (x .at) (x .left) × (isPart (textAt s part) (textAt s text) ≡ isPart (textAt s part) (beforeOf s x))
 
 abbrev μ-search : tie.MeasureT-search
 μ-search s text part x₀ x = weight s (x .at) (x .left)
 
-start-requires : tie.Need-start-requires Inv-loop μ-loop Inv-search μ-search
-start-requires c κs = search needs
+begin-requires : tie.Need-begin-requires Inv-loop μ-loop Inv-search μ-search
+begin-requires c κs = search needs
 
 search-holds : tie.Need-search-holds Inv-loop μ-loop Inv-search μ-search
-search-holds c = (start-on (c .before .before .args .s .now) (c .before .before .args .text) (c .start .ensures) (c .before .before .pre .0), rw (start-ahead (c .before .before .args .s .now) (c .before .before .args .text) (c .start .ensures)))
+search-holds c = (start-on (c .before .before .args .s .now) (c .before .before .args .text) (c .begin .ensures) (c .before .before .pre .0), rw (start-before (c .before .before .args .s .now) (c .before .before .args .text) (c .begin .ensures)))
 
-start-requires-2 : tie.Need-start-requires-2 Inv-loop μ-loop Inv-search μ-search
-start-requires-2 c κs = search needs
+begin-requires-2 : tie.Need-begin-requires-2 Inv-loop μ-loop Inv-search μ-search
+begin-requires-2 c κs = search needs
 
 loop-holds : tie.Need-loop-holds Inv-loop μ-loop Inv-search μ-search
-loop-holds c = (start-on (c .before .before .before .before .args .s .now) (c .before .before .before .before .args .part) (c .start2 .ensures) (c .before .before .before .before .pre .1), c .before .search .inv .0, rw (start-ahead (c .before .before .before .before .args .s .now) (c .before .before .before .before .args .part) (c .start2 .ensures)))
+loop-holds c = (start-on (c .before .before .before .before .args .s .now) (c .before .before .before .before .args .part) (c .begin2 .ensures) (c .before .before .before .before .pre .1), c .before .search .inv .0, rw (start-before (c .before .before .before .before .args .s .now) (c .before .before .before .before .args .part) (c .begin2 .ensures)))
 
 compare-requires : tie.Need-compare-requires Inv-loop μ-loop Inv-search μ-search
 compare-requires c κs = (c .loop .inv .0, c .loop .inv .1)
@@ -82,9 +82,9 @@ has-part-spec =
     μ-loop
     Inv-search
     μ-search
-    start-requires
+    begin-requires
     search-holds
-    start-requires-2
+    begin-requires-2
     loop-holds
     compare-requires
     enum-told

@@ -4,14 +4,13 @@ use Rattle.operands.proofs.search.same_from.Statement.{statement}
 use Rattle.operands.proofs.search.same_from.Tie as tie
 use mathlib.Core.Path.{_≡_, refl, sym, _∙_}
 use Rattle.reader.proofs.Cursor.{same-apart, same-long, same-on}
-use Rattle.reader.proofs.Leaves.{was-byte, was-end}
+use Rattle.reader.proofs.Leaves.{beforeOf, was-byte, was-end}
 use Rattle.reader.specs.Bytes.{sameBytes}
 use Rattle.reader.specs.Cursor.{OnText, weight}
-use Rattle.operands.proofs.Searching.{ahead}
 use borrow.Author.Needs.{needs}
 
 abbrev Inv-loop : tie.InvT-loop
-Inv-loop s y₀ z₀ y z = OnText s (y .at) (y .left) × OnText s (z .at) (z .left) × (sameBytes (ahead s y₀) (ahead s z₀) ≡ sameBytes (ahead s y) (ahead s z))
+Inv-loop s y₀ z₀ y z = OnText s (y .at) (y .left) × OnText s (z .at) (z .left) × (sameBytes (beforeOf s y₀) (beforeOf s z₀) ≡ sameBytes (beforeOf s y) (beforeOf s z))
 
 abbrev μ-loop : tie.MeasureT-loop
 μ-loop s y₀ z₀ y z = weight s (y .at) (y .left)

@@ -1,28 +1,29 @@
 -- `operands::search::starts_with` meets its contract: what is left of the part and of the text answers as the whole.
 -- Assumes nothing.
+use Rattle.reader.proofs.Leaves.{beforeOf}
 use Rattle.operands.proofs.search.starts_with.Statement.{statement}
 use Rattle.operands.proofs.search.starts_with.Tie as tie
 use mathlib.Core.Path.{_≡_, sym, _∙_}
 use Rattle.reader.specs.Bytes.{begins}
 use Rattle.reader.specs.Cursor.{OnText, weight}
 use Rattle.reader.specs.Spans.{textAt}
-use Rattle.operands.proofs.Searching.{ahead, start-ahead, start-on, turn-apart, turn-ended, turn-on}
+use Rattle.operands.proofs.Searching.{start-before, start-on, turn-apart, turn-ended, turn-on}
 use borrow.Author.Needs.{needs}
 
 abbrev Inv-loop : tie.InvT-loop
-Inv-loop s text part y₀ z₀ y z = OnText s (y .at) (y .left) × OnText s (z .at) (z .left) × (begins (textAt s part) (textAt s text) ≡ begins (ahead s y) (ahead s z))
+Inv-loop s text part y₀ z₀ y z = OnText s (y .at) (y .left) × OnText s (z .at) (z .left) × (begins (textAt s part) (textAt s text) ≡ begins (beforeOf s y) (beforeOf s z))
 
 abbrev μ-loop : tie.MeasureT-loop
 μ-loop s text part y₀ z₀ y z = weight s (y .at) (y .left)
 
-start-requires : tie.Need-start-requires Inv-loop μ-loop
-start-requires c κs = search needs
+begin-requires : tie.Need-begin-requires Inv-loop μ-loop
+begin-requires c κs = search needs
 
-start-requires-2 : tie.Need-start-requires-2 Inv-loop μ-loop
-start-requires-2 c κs = search needs
+begin-requires-2 : tie.Need-begin-requires-2 Inv-loop μ-loop
+begin-requires-2 c κs = search needs
 
 loop-holds : tie.Need-loop-holds Inv-loop μ-loop
-loop-holds c = (start-on (c .before .before .before .args .s .now) (c .before .before .before .args .part) (c .before .start .ensures) (c .before .before .before .pre .1), start-on (c .before .before .before .args .s .now) (c .before .before .before .args .text) (c .start2 .ensures) (c .before .before .before .pre .0), rw (start-ahead (c .before .before .before .args .s .now) (c .before .before .before .args .part) (c .before .start .ensures), start-ahead (c .before .before .before .args .s .now) (c .before .before .before .args .text) (c .start2 .ensures)))
+loop-holds c = (start-on (c .before .before .before .args .s .now) (c .before .before .before .args .part) (c .before .begin .ensures) (c .before .before .before .pre .1), start-on (c .before .before .before .args .s .now) (c .before .before .before .args .text) (c .begin2 .ensures) (c .before .before .before .pre .0), rw (start-before (c .before .before .before .args .s .now) (c .before .before .before .args .part) (c .before .begin .ensures), start-before (c .before .before .before .args .s .now) (c .before .before .before .args .text) (c .begin2 .ensures)))
 
 compare-requires : tie.Need-compare-requires Inv-loop μ-loop
 compare-requires c κs = (c .loop .inv .0, c .loop .inv .1)
@@ -54,8 +55,8 @@ starts-with-spec =
     (tie.spec
     Inv-loop
     μ-loop
-    start-requires
-    start-requires-2
+    begin-requires
+    begin-requires-2
     loop-holds
     compare-requires
     enum-told
