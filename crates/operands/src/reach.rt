@@ -47,32 +47,27 @@ pub fn touch_at(
         return nothing();
     }
     let code = kind_at(work, node);
-    if code == 4 {
-        let start = start_at(work, node);
-        match classify(s, start) {
-            Written::Plain => {
-                return Operand {
-                    node: node,
-                    depth: 0,
-                    kind: Kind::Text,
-                };
-            }
-            Written::Escaped(_p) => {
-                return Operand {
-                    node: node,
-                    depth: 0,
-                    kind: Kind::Less,
-                };
-            }
-            Written::Expression(next) => {
-                return or_null(look_up(s, work, roots, frames, &s[next..], left - 1));
-            }
-        }
+    if code != 4 {
+        return Operand {
+            node: node,
+            depth: frames.depth,
+            kind: written_kind(code),
+        };
     }
-    Operand {
-        node: node,
-        depth: frames.depth,
-        kind: written_kind(code),
+    match classify(s, start_at(work, node)) {
+        Written::Plain => Operand {
+            node: node,
+            depth: 0,
+            kind: Kind::Text,
+        },
+        Written::Escaped(_p) => Operand {
+            node: node,
+            depth: 0,
+            kind: Kind::Less,
+        },
+        Written::Expression(next) => {
+            or_null(look_up(s, work, roots, frames, &s[next..], left - 1))
+        }
     }
 }
 

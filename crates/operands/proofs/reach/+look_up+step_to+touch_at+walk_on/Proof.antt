@@ -95,7 +95,7 @@ abbrev step-to-claims : ℕ → step-to-lts.Claims
 step-to-claims t = (member-of-reads.Asked, member-of-reads.Learnt, value-at-reads.Asked, value-at-reads.Learnt, outer-reads.Asked, outer-reads.Learnt, touch-at-below t, touch-at.Post)
 
 abbrev touch-at-claims : ℕ → touch-at-lts.Claims
-touch-at-claims t = (nothing-reads.Asked, nothing-reads.Learnt, kind-at-reads.Asked, kind-at-reads.Learnt, start-at-reads.Asked, start-at-reads.Learnt, classify-reads.Asked, classify-reads.Learnt, look-up-below t, look-up.Post, or-null-reads.Asked, or-null-reads.Learnt, written-kind-reads.Asked, written-kind-reads.Learnt)
+touch-at-claims t = (nothing-reads.Asked, nothing-reads.Learnt, kind-at-reads.Asked, kind-at-reads.Learnt, written-kind-reads.Asked, written-kind-reads.Learnt, start-at-reads.Asked, start-at-reads.Learnt, classify-reads.Asked, classify-reads.Learnt, look-up-below t, look-up.Post, or-null-reads.Asked, or-null-reads.Learnt)
 
 abbrev walk-on-claims : ℕ → walk-on-lts.Claims
 walk-on-claims t = (step-to-below t, step-to.Post, rest-at-reads.Asked, rest-at-reads.Learnt, walk-on-below t, walk-on.Post)
@@ -252,23 +252,23 @@ touch-at-returns t c = touch-none (sheetIn (c .before .before .before .before .a
 touch-at-kind-at-requires : (t : ℕ) → touch-at-lts.Need-kind-at-requires (touch-at-claims t) (touch-at-at t) touch-at.Post
 touch-at-kind-at-requires t c κs = node-room (c .before .before .before .pre .1 .0) (c .before .before .before .pre .1 .1)
 
+touch-at-written-kind-requires : (t : ℕ) → touch-at-lts.Need-written-kind-requires (touch-at-claims t) (touch-at-at t) touch-at.Post
+touch-at-written-kind-requires t c κs = search needs
+
+touch-at-returns-2 : (t : ℕ) → touch-at-lts.Need-returns-2 (touch-at-claims t) (touch-at-at t) touch-at.Post
+touch-at-returns-2 t c = touch-written (sheetIn (c .before .before .before .before .before .before .args .s .now)) (framesOf (c .before .before .before .before .before .before .args .s .now) (table (c .before .before .before .before .before .before .args .work .now)) (c .before .before .before .before .before .before .args .frames)) (c .before .before .before .before .before .before .args .node) (c .before .before .before .before .before .before .args .left) (c .before .before .before .if1 .left) (c .before .before .before .before .before .before .pre .1 .1) _ (c .before .before .kind-at .ensures) (c .before .if2 .taken) (c .written-kind .ensures) (sym (frames-length (c .before .before .before .before .before .before .pre .1 .0))) (c .before .before .before .before .before .before .pre .1 .0 .bound .within)
+
 touch-at-start-at-requires : (t : ℕ) → touch-at-lts.Need-start-at-requires (touch-at-claims t) (touch-at-at t) touch-at.Post
 touch-at-start-at-requires t c κs = node-room (c .before .before .before .before .before .pre .1 .0) (c .before .before .before .before .before .pre .1 .1)
 
 touch-at-classify-requires : (t : ℕ) → touch-at-lts.Need-classify-requires (touch-at-claims t) (touch-at-at t) touch-at.Post
-touch-at-classify-requires t c κs = subst (λ (x : ℕ). OnText (c .before .before .before .before .before .before .args .s .now) x 0) (sym (c .start-at .ensures)) (text-row (record { node = c .before .before .before .before .before .before .pre .1 .1; kind = sym (c .before .before .kind-at .ensures) ∙ c .before .if2 .taken }) .onText)
+touch-at-classify-requires t c κs = subst (λ (x : ℕ). OnText (c .before .before .before .before .before .before .args .s .now) x 0) (sym (c .start-at .ensures)) (text-row (record { node = c .before .before .before .before .before .before .pre .1 .1; kind = sym (c .before .before .kind-at .ensures) ∙ c .before .if2 .left }) .onText)
 
 touch-at-enum-told : (t : ℕ) → touch-at-lts.Need-enum-told (touch-at-claims t) (touch-at-at t) touch-at.Post
 touch-at-enum-told t c = search needs
 
-touch-at-returns-2 : (t : ℕ) → touch-at-lts.Need-returns-2 (touch-at-claims t) (touch-at-at t) touch-at.Post
-touch-at-returns-2 t c = touch-plain (sheetIn (c .before .before .before .before .before .before .before .before .before .args .s .now)) (framesOf (c .before .before .before .before .before .before .before .before .before .args .s .now) (table (c .before .before .before .before .before .before .before .before .before .args .work .now)) (c .before .before .before .before .before .before .before .before .before .args .frames)) (c .before .before .before .before .before .before .before .before .before .args .node) (c .before .before .before .before .before .before .before .before .before .args .left) (c .before .before .before .before .before .before .if1 .left) (record { node = c .before .before .before .before .before .before .before .before .before .pre .1 .1; kind = sym (c .before .before .before .before .before .kind-at .ensures) ∙ c .before .before .before .before .if2 .taken }) (was-plain (c .before .before .before .before .before .before .before .before .before .args .s .now) (c .before .before .classify .ensures) (c .before .before .before .start-at .ensures) (c .enum-told .given .1))
-
 touch-at-enum-known--p : (t : ℕ) → touch-at-lts.Need-enum-known--p (touch-at-claims t) (touch-at-at t) touch-at.Post
 touch-at-enum-known--p t c = search needs
-
-touch-at-returns-3 : (t : ℕ) → touch-at-lts.Need-returns-3 (touch-at-claims t) (touch-at-at t) touch-at.Post
-touch-at-returns-3 t c = let x = was-escaped (c .before .before .before .before .before .before .before .before .before .before .args .s .now) (c .before .before .before .classify .ensures) (c .before .before .before .before .start-at .ensures) _ (c .before .-p .given .1) in touch-less (sheetIn (c .before .before .before .before .before .before .before .before .before .before .args .s .now)) (framesOf (c .before .before .before .before .before .before .before .before .before .before .args .s .now) (table (c .before .before .before .before .before .before .before .before .before .before .args .work .now)) (c .before .before .before .before .before .before .before .before .before .before .args .frames)) (c .before .before .before .before .before .before .before .before .before .before .args .node) (c .before .before .before .before .before .before .before .before .before .before .args .left) (c .before .before .before .before .before .before .before .if1 .left) (record { node = c .before .before .before .before .before .before .before .before .before .before .pre .1 .1; kind = sym (c .before .before .before .before .before .before .kind-at .ensures) ∙ c .before .before .before .before .before .if2 .taken }) (x .0) (x .1)
 
 touch-at-enum-known-next : (t : ℕ) → touch-at-lts.Need-enum-known-next (touch-at-claims t) (touch-at-at t) touch-at.Post
 touch-at-enum-known-next t c = search needs
@@ -293,16 +293,16 @@ touch-at-look-up-requires t c κs =
 touch-at-or-null-requires : (t : ℕ) → touch-at-lts.Need-or-null-requires (touch-at-claims t) (touch-at-at t) touch-at.Post
 touch-at-or-null-requires t c κs = search needs
 
-touch-at-returns-4 : (t : ℕ) → touch-at-lts.Need-returns-4 (touch-at-claims t) (touch-at-at t) touch-at.Post
-touch-at-returns-4 t c =
-    let x = was-expression (c .before .before .before .before .before .before .before .before .before .before .before .before .before .args .s .now) (c .before .before .before .before .before .before .classify .ensures) (c .before .before .before .before .before .before .before .start-at .ensures) _ (c .before .before .before .before .next .given .1) in
-    touch-looked (sheetIn (c .before .before .before .before .before .before .before .before .before .before .before .before .before .args .s .now)) (framesOf (c .before .before .before .before .before .before .before .before .before .before .before .before .before .args .s .now) (table (c .before .before .before .before .before .before .before .before .before .before .before .before .before .args .work .now)) (c .before .before .before .before .before .before .before .before .before .before .before .before .before .args .frames)) (c .before .before .before .before .before .before .before .before .before .before .before .before .before .args .node) (c .before .before .before .before .before .before .before .before .before .before .before .before .before .args .left) (c .before .before .before .before .before .before .before .before .before .before .if1 .left) (record { node = c .before .before .before .before .before .before .before .before .before .before .before .before .before .pre .1 .1; kind = sym (c .before .before .before .before .before .before .before .before .before .kind-at .ensures) ∙ c .before .before .before .before .before .before .before .before .if2 .taken }) (x .0) (rw text-from at (c .before .look-up .ensures)) (c .or-null .ensures)
+touch-at-returns-3 : (t : ℕ) → touch-at-lts.Need-returns-3 (touch-at-claims t) (touch-at-at t) touch-at.Post
+touch-at-returns-3 t c = touch-plain (sheetIn (c .before .before .before .before .before .before .before .before .before .args .s .now)) (framesOf (c .before .before .before .before .before .before .before .before .before .args .s .now) (table (c .before .before .before .before .before .before .before .before .before .args .work .now)) (c .before .before .before .before .before .before .before .before .before .args .frames)) (c .before .before .before .before .before .before .before .before .before .args .node) (c .before .before .before .before .before .before .before .before .before .args .left) (c .before .before .before .before .before .before .if1 .left) (record { node = c .before .before .before .before .before .before .before .before .before .pre .1 .1; kind = sym (c .before .before .before .before .before .kind-at .ensures) ∙ c .before .before .before .before .if2 .left }) (was-plain (c .before .before .before .before .before .before .before .before .before .args .s .now) (c .before .before .classify .ensures) (c .before .before .before .start-at .ensures) (c .enum-told .given .1))
 
-touch-at-written-kind-requires : (t : ℕ) → touch-at-lts.Need-written-kind-requires (touch-at-claims t) (touch-at-at t) touch-at.Post
-touch-at-written-kind-requires t c κs = search needs
+touch-at-returns-4 : (t : ℕ) → touch-at-lts.Need-returns-4 (touch-at-claims t) (touch-at-at t) touch-at.Post
+touch-at-returns-4 t c = let x = was-escaped (c .before .before .before .before .before .before .before .before .before .before .args .s .now) (c .before .before .before .classify .ensures) (c .before .before .before .before .start-at .ensures) _ (c .before .-p .given .1) in touch-less (sheetIn (c .before .before .before .before .before .before .before .before .before .before .args .s .now)) (framesOf (c .before .before .before .before .before .before .before .before .before .before .args .s .now) (table (c .before .before .before .before .before .before .before .before .before .before .args .work .now)) (c .before .before .before .before .before .before .before .before .before .before .args .frames)) (c .before .before .before .before .before .before .before .before .before .before .args .node) (c .before .before .before .before .before .before .before .before .before .before .args .left) (c .before .before .before .before .before .before .before .if1 .left) (record { node = c .before .before .before .before .before .before .before .before .before .before .pre .1 .1; kind = sym (c .before .before .before .before .before .before .kind-at .ensures) ∙ c .before .before .before .before .before .if2 .left }) (x .0) (x .1)
 
 touch-at-returns-5 : (t : ℕ) → touch-at-lts.Need-returns-5 (touch-at-claims t) (touch-at-at t) touch-at.Post
-touch-at-returns-5 t c = touch-written (sheetIn (c .before .before .before .before .before .before .args .s .now)) (framesOf (c .before .before .before .before .before .before .args .s .now) (table (c .before .before .before .before .before .before .args .work .now)) (c .before .before .before .before .before .before .args .frames)) (c .before .before .before .before .before .before .args .node) (c .before .before .before .before .before .before .args .left) (c .before .before .before .if1 .left) (c .before .before .before .before .before .before .pre .1 .1) _ (c .before .before .kind-at .ensures) (c .before .if2 .left) (c .written-kind .ensures) (sym (frames-length (c .before .before .before .before .before .before .pre .1 .0))) (c .before .before .before .before .before .before .pre .1 .0 .bound .within)
+touch-at-returns-5 t c =
+    let x = was-expression (c .before .before .before .before .before .before .before .before .before .before .before .before .before .args .s .now) (c .before .before .before .before .before .before .classify .ensures) (c .before .before .before .before .before .before .before .start-at .ensures) _ (c .before .before .before .before .next .given .1) in
+    touch-looked (sheetIn (c .before .before .before .before .before .before .before .before .before .before .before .before .before .args .s .now)) (framesOf (c .before .before .before .before .before .before .before .before .before .before .before .before .before .args .s .now) (table (c .before .before .before .before .before .before .before .before .before .before .before .before .before .args .work .now)) (c .before .before .before .before .before .before .before .before .before .before .before .before .before .args .frames)) (c .before .before .before .before .before .before .before .before .before .before .before .before .before .args .node) (c .before .before .before .before .before .before .before .before .before .before .before .before .before .args .left) (c .before .before .before .before .before .before .before .before .before .before .if1 .left) (record { node = c .before .before .before .before .before .before .before .before .before .before .before .before .before .pre .1 .1; kind = sym (c .before .before .before .before .before .before .before .before .before .kind-at .ensures) ∙ c .before .before .before .before .before .before .before .before .if2 .left }) (x .0) (rw text-from at (c .before .look-up .ensures)) (c .or-null .ensures)
 
 walk-on-step-to-requires : (t : ℕ) → walk-on-lts.Need-step-to-requires (walk-on-claims t) (walk-on-at t) walk-on.Post
 walk-on-step-to-requires t c κs = (step-falls (c .before .before .before .args .left) (length (c .before .before .before .args .path .now)) (c .before .before .before .pre .0), (c .before .before .before .pre .1 .0, c .before .before .before .pre .1 .1, c .before .before .before .pre .1 .2))
@@ -398,12 +398,12 @@ pub +look-up+step-to+touch-at+walk-on-spec : {M : Type 1} → statement M
     (touch-at-nothing-requires t)
     (touch-at-returns t)
     (touch-at-kind-at-requires t)
+    (touch-at-written-kind-requires t)
+    (touch-at-returns-2 t)
     (touch-at-start-at-requires t)
     (touch-at-classify-requires t)
     (touch-at-enum-told t)
-    (touch-at-returns-2 t)
     (touch-at-enum-known--p t)
-    (touch-at-returns-3 t)
     (touch-at-enum-known-next t)
     (touch-at-sub-look-up t)
     (touch-at-part-look-up-start t)
@@ -411,8 +411,8 @@ pub +look-up+step-to+touch-at+walk-on-spec : {M : Type 1} → statement M
     (touch-at-sub-look-up-2 t)
     (touch-at-look-up-requires t)
     (touch-at-or-null-requires t)
+    (touch-at-returns-3 t)
     (touch-at-returns-4 t)
-    (touch-at-written-kind-requires t)
     (touch-at-returns-5 t))
     λ t. walk-on-lts.spec (walk-on-claims t) (walk-on-at t) walk-on.Post
     (walk-on-step-to-requires t)
