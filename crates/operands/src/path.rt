@@ -37,13 +37,13 @@ pub fn rest_at(path: &[u8]) -> Rest
     }
 }
 
-// Whether the first part of a path is the text at a place of the sheet.
-pub fn part_is(path: &[u8], s: &[u8], name: usize) -> bool
-    requires { ⌜ OnText (now path) 0 0 × OnText (now s) name 0 ⌝ }
-    ensures { λ r. ⌜ r ≡ sameBytes (part (textAt (now (path .entry)) 0)) (textAt (now (s .entry)) name) ⌝ }
+// Whether the first part of a path's text, from a place of it on, is the text at a place of the sheet, decoded as they are compared.
+fn part_decoded(path: &[u8], at: usize, s: &[u8], name: usize) -> bool
+    requires { ⌜ OnText (now path) at 0 × OnText (now s) name 0 ⌝ }
+    ensures { λ r. ⌜ r ≡ sameBytes (part (textAt (now (path .entry)) at)) (textAt (now (s .entry)) name) ⌝ }
 {
     let mut x = Cursor {
-        at: 0,
+        at: at,
         unit: 0,
         left: 0,
     };
@@ -75,6 +75,35 @@ pub fn part_is(path: &[u8], s: &[u8], name: usize) -> bool
                 }
             }
         }
+    }
+}
+
+// Whether the first part of a path is the text at a place of the sheet. Few names have an escape: up to the first one, bytes are compared as they
+// stand.
+pub fn part_is(path: &[u8], s: &[u8], name: usize) -> bool
+    requires { ⌜ OnText (now path) 0 0 × OnText (now s) name 0 ⌝ }
+    ensures { λ r. ⌜ r ≡ sameBytes (part (textAt (now (path .entry)) 0)) (textAt (now (s .entry)) name) ⌝ }
+{
+    let mut n = 0;
+    loop {
+        let c = path[n];
+        let d = s[name + n];
+        if c != d {
+            if c == b'\\' || d == b'\\' {
+                return part_decoded(path, n, s, name + n);
+            }
+            return c == b'.' && d == b'"';
+        }
+        if c == b'\\' {
+            return part_decoded(path, n, s, name + n);
+        }
+        if c == b'"' {
+            return true;
+        }
+        if c == b'.' {
+            return false;
+        }
+        n += 1;
     }
 }
 

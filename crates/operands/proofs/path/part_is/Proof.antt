@@ -1,70 +1,71 @@
--- `operands::path::part_is` meets its contract: the rest of the part and the rest of the text compare as the whole.
+-- `operands::path::part_is` meets its contract: up to the first escape or difference the bytes of the part and the text are those that stand there, and
+-- the same.
 -- Assumes nothing.
+use mathlib.Core.Path.{sym, _∙_}
+use Prim.Native.Nat.{_-_}
+use native.Mathlib.Omega.{arith}
+use lib.ListN.{length}
+use borrow.Author.Tests.{eqb-false, ne-eqb}
+use Rattle.operands.proofs.Matching.{Alongside, alongside, alongside-apart, alongside-dot, alongside-dots, alongside-end, alongside-inName, alongside-inPath, alongside-on}
 use Rattle.operands.proofs.path.part_is.Statement.{statement}
 use Rattle.operands.proofs.path.part_is.Tie as tie
-use mathlib.Core.Path.{_≡_, refl, sym, _∙_}
-use Rattle.operands.proofs.Matching.{part-apart, part-dot, part-ended, part-longer, part-on}
-use Rattle.operands.specs.Path.{part}
-use Rattle.reader.proofs.Leaves.{was-byte, was-end}
-use Rattle.reader.specs.Bytes.{sameBytes}
-use Rattle.reader.specs.Cursor.{OnText, before, weight}
-use Rattle.reader.specs.Spans.{textAt}
-use borrow.Author.Needs.{needs}
 
 abbrev Inv-loop : tie.InvT-loop
-Inv-loop path s name x₀ y₀ x y = OnText path (x .at) (x .left) × OnText s (y .at) (y .left) × (sameBytes (part (textAt path 0)) (textAt s name) ≡ sameBytes (part (before path (x .at) (x .unit) (x .left))) (before s (y .at) (y .unit) (y .left)))
+Inv-loop path s name n₀ n = Alongside path s name n
 
 abbrev μ-loop : tie.MeasureT-loop
-μ-loop path s name x₀ y₀ x y = weight path (x .at) (x .left)
+μ-loop path s name n₀ n = length path - n
 
 loop-holds : tie.Need-loop-holds Inv-loop μ-loop
-unfolding before
-loop-holds c = (c .before .before .pre .0, c .before .before .pre .1, refl)
+loop-holds c = alongside (c .before .before .args .path .now) (c .before .before .args .s .now) (c .before .before .args .name) (c .before .before .pre .0) (c .before .before .pre .1)
 
-next-requires : tie.Need-next-requires Inv-loop μ-loop
-next-requires c κs = c .loop .inv .0
+shared-slice-read-c : tie.Need-shared-slice-read-c Inv-loop μ-loop
+shared-slice-read-c c = alongside-inPath (c .before .loop .inv)
 
-enum-told : tie.Need-enum-told Inv-loop μ-loop
-enum-told c = search needs
+add-d : tie.Need-add-d Inv-loop μ-loop
+add-d c = omega (arith, alongside-inName (c .before .loop .inv))
 
-ended-requires : tie.Need-ended-requires Inv-loop μ-loop
-ended-requires c κs = c .before .before .before .loop .inv .1
+shared-slice-read-d : tie.Need-shared-slice-read-d Inv-loop μ-loop
+shared-slice-read-d c = alongside-inName (c .before .before .loop .inv)
+
+add-part-decoded : tie.Need-add-part-decoded Inv-loop μ-loop
+add-part-decoded c = omega (arith, alongside-inName (c .before .before .before .before .loop .inv))
+
+part-decoded-requires : tie.Need-part-decoded-requires Inv-loop μ-loop
+part-decoded-requires c κs = (c .before .before .before .before .loop .inv .onPath, c .before .before .before .before .loop .inv .onName)
 
 returns : tie.Need-returns Inv-loop μ-loop
-returns c = c .ended .ensures ∙ sym (c .before .before .before .before .loop .inv .2 ∙ part-ended _ (was-end (c .before .before .before .before .before .before .before .args .path .now) (c .before .before .before .before .loop .x) (c .before .before .before .next .ensures) (c .before .enum-told .given .1)))
-
-enum-known-p : tie.Need-enum-known-p Inv-loop μ-loop
-enum-known-p c = search needs
-
-ended-requires-2 : tie.Need-ended-requires-2 Inv-loop μ-loop
-ended-requires-2 c κs = c .before .before .before .before .before .before .loop .inv .1
+returns c = c .part-decoded .ensures ∙ sym (c .before .before .before .before .before .loop .inv .same)
 
 returns-2 : tie.Need-returns-2 Inv-loop μ-loop
-returns-2 c = c .ended2 .ensures ∙ sym (c .before .before .before .before .before .before .before .loop .inv .2 ∙ part-dot _ (was-byte (c .before .before .before .before .p .given .0 .0) (c .before .before .before .before .before .before .next .ensures) (c .before .before .before .before .p .given .1) .byte) (c .before .if1 .taken))
-
-next-requires-2 : tie.Need-next-requires-2 Inv-loop μ-loop
-next-requires-2 c κs = c .before .before .before .before .before .before .loop .inv .1
-
-enum-told-2 : tie.Need-enum-told-2 Inv-loop μ-loop
-enum-told-2 c = search needs
+returns-2 c = alongside-dot (c .before .before .before .before .before .before .loop .inv) (c .if4 .taken) (eqb-false _ 92 (c .before .if3 .left))
 
 returns-3 : tie.Need-returns-3 Inv-loop μ-loop
-returns-3 c = sym (c .before .before .before .before .before .before .before .before .before .loop .inv .2 ∙ part-longer _ (was-byte (c .before .before .before .before .before .before .p .given .0 .0) (c .before .before .before .before .before .before .before .before .next .ensures) (c .before .before .before .before .before .before .p .given .1) .byte) (c .before .before .before .if1 .left) (was-end (c .before .before .before .before .before .before .before .before .before .before .before .before .args .s .now) (c .before .before .before .before .before .before .before .before .before .loop .y) (c .before .before .next2 .ensures) (c .enum-told2 .given .1)))
+returns-3 c = ne-eqb _ 46 (c .if4 .left) ∙ alongside-apart (c .before .before .before .before .before .before .loop .inv) (c .before .before .before .if1 .taken) (c .before .before .if2 .left) (eqb-false _ 92 (c .before .if3 .left)) (c .if4 .left)
 
-enum-known-q : tie.Need-enum-known-q Inv-loop μ-loop
-enum-known-q c = search needs
+add-part-decoded-2 : tie.Need-add-part-decoded-2 Inv-loop μ-loop
+add-part-decoded-2 c = omega (arith, alongside-inName (c .before .before .before .before .loop .inv))
+
+part-decoded-requires-2 : tie.Need-part-decoded-requires-2 Inv-loop μ-loop
+part-decoded-requires-2 c κs = (c .before .before .before .before .loop .inv .onPath, c .before .before .before .before .loop .inv .onName)
 
 returns-4 : tie.Need-returns-4 Inv-loop μ-loop
-returns-4 c = sym (c .before .before .before .before .before .before .before .before .before .before .before .before .before .loop .inv .2 ∙ part-apart _ (was-byte (c .before .before .before .before .before .before .before .before .before .before .p .given .0 .0) (c .before .before .before .before .before .before .before .before .before .before .before .before .next .ensures) (c .before .before .before .before .before .before .before .before .before .before .p .given .1) .byte) (c .before .before .before .before .before .before .before .if1 .left) (was-byte (c .before .before .before .before .q .given .0 .0) (c .before .before .before .before .before .before .next2 .ensures) (c .before .before .before .before .q .given .1) .byte) (c .if2 .taken))
+returns-4 c = c .part-decoded2 .ensures ∙ sym (c .before .before .before .before .before .loop .inv .same)
+
+returns-5 : tie.Need-returns-5 Inv-loop μ-loop
+returns-5 c = alongside-end (c .before .before .before .before .before .loop .inv) (c .before .before .if1 .left) (c .if6 .taken)
+
+returns-6 : tie.Need-returns-6 Inv-loop μ-loop
+returns-6 c = alongside-dots (c .before .before .before .before .before .before .loop .inv) (c .before .before .before .if1 .left) (c .if7 .taken)
+
+add-n : tie.Need-add-n Inv-loop μ-loop
+add-n c = omega (arith, alongside-inPath (c .before .before .before .before .before .before .loop .inv))
 
 loop-less : tie.Need-loop-less Inv-loop μ-loop
-loop-less c = was-byte (c .before .before .before .before .before .before .before .before .before .before .before .before .p .given .0 .0) (c .before .before .before .before .before .before .before .before .before .before .before .before .before .before .next .ensures) (c .before .before .before .before .before .before .before .before .before .before .before .before .p .given .1) .falls
+loop-less c = omega (arith, alongside-inPath (c .before .before .before .before .before .before .loop .inv))
 
 loop-again : tie.Need-loop-again Inv-loop μ-loop
-loop-again c =
-    let a = was-byte (c .before .before .before .before .before .before .before .before .before .before .before .before .p .given .0 .0) (c .before .before .before .before .before .before .before .before .before .before .before .before .before .before .next .ensures) (c .before .before .before .before .before .before .before .before .before .before .before .before .p .given .1) in
-    let b = was-byte (c .before .before .before .before .before .before .q .given .0 .0) (c .before .before .before .before .before .before .before .before .next2 .ensures) (c .before .before .before .before .before .before .q .given .1) in
-    (a .onText, b .onText, c .before .before .before .before .before .before .before .before .before .before .before .before .before .before .before .loop .inv .2 ∙ part-on _ (a .byte) (c .before .before .before .before .before .before .before .before .before .if1 .left) (b .byte) (c .before .before .if2 .left))
+loop-again c = alongside-on (c .before .before .before .before .before .before .loop .inv) (c .before .before .before .if1 .left) (c .before .before .if5 .left) (c .before .if6 .left) (c .if7 .left)
 
 pub part-is-spec : {M : Type 1} → statement M
 part-is-spec =
@@ -73,17 +74,19 @@ part-is-spec =
     Inv-loop
     μ-loop
     loop-holds
-    next-requires
-    enum-told
-    ended-requires
+    shared-slice-read-c
+    add-d
+    shared-slice-read-d
+    add-part-decoded
+    part-decoded-requires
     returns
-    enum-known-p
-    ended-requires-2
     returns-2
-    next-requires-2
-    enum-told-2
     returns-3
-    enum-known-q
+    add-part-decoded-2
+    part-decoded-requires-2
     returns-4
+    returns-5
+    returns-6
+    add-n
     loop-less
     loop-again)
