@@ -107,3 +107,33 @@ module _ {path s : Bytes} {name n : ℕ} (l : Alongside path s name n) where
       go true p k q = part-ended _ (text-ends (l .onPath) (eqb-true _ 34 p)) ∙ sym (text-ended (l .onName) h) ∙ ne-eqb _ 34 (λ r. a (eqb-true _ 34 p ∙ sym r))
       go false p true q = part-longer _ (text-begins (l .onPath) (eqb-false _ 34 p) g) m (text-ends (l .onName) (eqb-true _ 34 q))
       go false p false q = part-apart _ (text-begins (l .onPath) (eqb-false _ 34 p) g) m (text-begins (l .onName) (eqb-false _ 34 q) h) a
+
+-- a part that begins with a word's first bytes
+pub record Spelled (path word : Bytes) (n : ℕ) : Type 0 where
+  pub onPath : OnText path n 0
+  pub upto : n ≤ length word
+  pub same : sameBytes (part (textAt path 0)) word ≡ sameBytes (part (textAt path n)) (drop n word)
+
+pub spelled : (path word : Bytes) → OnText path 0 0 → Spelled path word 0
+spelled path word o = record { onPath = o; upto = omega arith; same = refl }
+
+module _ {path word : Bytes} {n : ℕ} (l : Spelled path word n) where
+  pub spelled-in : n < length path
+  spelled-in = omega (arith, l .onPath .text .order, l .onPath .text .upto)
+
+  pub spelled-end : getD path n 0 ≡ 34 → eqb n (length word) ≡ sameBytes (part (textAt path 0)) word
+  spelled-end q = word-ended word n (l .upto) ∙ sym (l .same ∙ part-ended _ (text-ends (l .onPath) q))
+
+  pub spelled-dot : getD path n 0 ≡ 46 → eqb n (length word) ≡ sameBytes (part (textAt path 0)) word
+  spelled-dot e = word-ended word n (l .upto) ∙ sym (l .same ∙ part-dot _ (text-begins (l .onPath) (λ q. omega arith) (λ q. omega arith)) e)
+
+  module _ (g : getD path n 0 ≡ 92 → ⊥) (f : getD path n 0 ≡ 34 → ⊥) (m : getD path n 0 ≡ 46 → ⊥) where
+    pub spelled-longer : length word ≤ n → false ≡ sameBytes (part (textAt path 0)) word
+    spelled-longer h = sym (l .same ∙ part-longer _ (text-begins (l .onPath) f g) m (word-over word n h))
+
+    module _ (h : n < length word) where
+      pub spelled-apart : (getD path n 0 ≡ getD word n 0 → ⊥) → false ≡ sameBytes (part (textAt path 0)) word
+      spelled-apart a = sym (l .same ∙ part-apart _ (text-begins (l .onPath) f g) m (word-here word n h) a)
+
+      pub spelled-on : getD path n 0 ≡ getD word n 0 → Spelled path word (n + 1)
+      spelled-on e = record { onPath = text-behind (l .onPath) f g; upto = omega arith; same = l .same ∙ part-on _ (text-begins (l .onPath) f g) m (word-here word n h) e }

@@ -5,6 +5,8 @@ use reader::text::Cursor;
 use reader::text::Step;
 ghost use mathlib.Core.Path.{_≡_};
 ghost use mathlib.Core.List.{[]};
+ghost use Prim.Native.Nat.{_≤_};
+ghost use lib.ListN.{drop, length};
 ghost use Rattle.reader.specs.Bytes.{sameBytes};
 ghost use Rattle.reader.specs.Cursor.{OnText, before};
 ghost use Rattle.reader.specs.Spans.{textAt};
@@ -118,17 +120,17 @@ pub fn ended(s: &[u8], c: Cursor) -> bool
     }
 }
 
-// Whether the first part of a path is a word.
-pub fn part_is_word(path: &[u8], word: &[u8]) -> bool
-    requires { ⌜ OnText (now path) 0 0 ⌝ }
-    ensures { λ r. ⌜ r ≡ sameBytes (part (textAt (now (path .entry)) 0)) (now (word .entry)) ⌝ }
+// Whether the first part of a path and a word are the same from a place on, decoded as they are compared.
+fn word_decoded(path: &[u8], at: usize, word: &[u8]) -> bool
+    requires { ⌜ OnText (now path) at 0 × (at ≤ length (now word)) ⌝ }
+    ensures { λ r. ⌜ r ≡ sameBytes (part (textAt (now (path .entry)) at)) (drop at (now (word .entry))) ⌝ }
 {
     let mut x = Cursor {
-        at: 0,
+        at: at,
         unit: 0,
         left: 0,
     };
-    let mut i = 0;
+    let mut i = at;
     loop {
         match reader::text::next(path, x) {
             Step::End => {
@@ -148,5 +150,29 @@ pub fn part_is_word(path: &[u8], word: &[u8]) -> bool
                 i += 1;
             }
         }
+    }
+}
+
+// Whether the first part of a path is a word. Up to the first escape, bytes are compared as they stand.
+pub fn part_is_word(path: &[u8], word: &[u8]) -> bool
+    requires { ⌜ OnText (now path) 0 0 ⌝ }
+    ensures { λ r. ⌜ r ≡ sameBytes (part (textAt (now (path .entry)) 0)) (now (word .entry)) ⌝ }
+{
+    let mut n = 0;
+    loop {
+        let c = path[n];
+        if c == b'\\' {
+            return word_decoded(path, n, word);
+        }
+        if c == b'"' || c == b'.' {
+            return n == word.len();
+        }
+        if word.len() <= n {
+            return false;
+        }
+        if c != word[n] {
+            return false;
+        }
+        n += 1;
     }
 }

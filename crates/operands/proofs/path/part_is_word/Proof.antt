@@ -1,63 +1,53 @@
--- `operands::path::part_is_word` meets its contract: the rest of the part and the rest of the word compare as the whole.
+-- `operands::path::part_is_word` meets its contract: up to the first escape or difference the part's bytes are those that stand there, and the word's.
 -- Assumes nothing.
+use mathlib.Core.Logic.{⊎-elim}
+use mathlib.Core.Path.{sym, _∙_}
+use Prim.Native.Nat.{_-_}
+use native.Mathlib.Omega.{arith}
+use lib.ListN.{length}
+use borrow.Author.Tests.{eqb-false, eqb-true}
+use Rattle.operands.proofs.Matching.{Spelled, spelled, spelled-apart, spelled-dot, spelled-end, spelled-in, spelled-longer, spelled-on}
 use Rattle.operands.proofs.path.part_is_word.Statement.{statement}
 use Rattle.operands.proofs.path.part_is_word.Tie as tie
-use mathlib.Core.Path.{_≡_, refl, sym, _∙_}
-use Prim.Native.Nat.{_-_, _≤_}
-use lib.ListN.{drop, length}
-use Rattle.operands.proofs.Matching.{part-apart, part-dot, part-ended, part-longer, part-on, word-ended, word-here, word-over}
-use Rattle.operands.specs.Path.{part}
-use Rattle.reader.proofs.Leaves.{was-byte, was-end}
-use Rattle.reader.specs.Bytes.{sameBytes}
-use Rattle.reader.specs.Cursor.{OnText, before, weight}
-use Rattle.reader.specs.Spans.{textAt}
-use borrow.Author.Needs.{needs}
-use native.Mathlib.Omega.{arith}
 
 abbrev Inv-loop : tie.InvT-loop
-Inv-loop path word x₀ i₀ x i = OnText path (x .at) (x .left) × (i ≤ length word) × (sameBytes (part (textAt path 0)) word ≡ sameBytes (part (before path (x .at) (x .unit) (x .left))) (drop i word))
+Inv-loop path word n₀ n = Spelled path word n
 
 abbrev μ-loop : tie.MeasureT-loop
-μ-loop path word x₀ i₀ x i = weight path (x .at) (x .left)
+μ-loop path word n₀ n = length path - n
 
 loop-holds : tie.Need-loop-holds Inv-loop μ-loop
-unfolding before
-loop-holds c = ((c .before .before .pre), omega arith, refl)
+loop-holds c = spelled (c .before .before .args .path .now) (c .before .before .args .word .now) (c .before .before .pre)
 
-next-requires : tie.Need-next-requires Inv-loop μ-loop
-next-requires c κs = c .loop .inv .0
+shared-slice-read-c : tie.Need-shared-slice-read-c Inv-loop μ-loop
+shared-slice-read-c c = spelled-in (c .before .loop .inv)
 
-enum-told : tie.Need-enum-told Inv-loop μ-loop
-enum-told c = search needs
+word-decoded-requires : tie.Need-word-decoded-requires Inv-loop μ-loop
+word-decoded-requires c κs = (c .before .before .loop .inv .onPath, c .before .before .loop .inv .upto)
 
 returns : tie.Need-returns Inv-loop μ-loop
-returns c = word-ended (c .before .before .before .before .before .before .args .word .now) (c .before .before .before .loop .i) (c .before .before .before .loop .inv .1) ∙ sym (c .before .before .before .loop .inv .2 ∙ part-ended _ (was-end (c .before .before .before .before .before .before .args .path .now) (c .before .before .before .loop .x) (c .before .before .next .ensures) (c .enum-told .given .1)))
-
-enum-known-p : tie.Need-enum-known-p Inv-loop μ-loop
-enum-known-p c = search needs
+returns c = c .word-decoded .ensures ∙ sym (c .before .before .before .loop .inv .same)
 
 returns-2 : tie.Need-returns-2 Inv-loop μ-loop
-returns-2 c = word-ended (c .before .before .before .before .before .before .before .before .before .args .word .now) (c .before .before .before .before .before .before .loop .i) (c .before .before .before .before .before .before .loop .inv .1) ∙ sym (c .before .before .before .before .before .before .loop .inv .2 ∙ part-dot _ (was-byte (c .before .before .before .p .given .0 .0) (c .before .before .before .before .before .next .ensures) (c .before .before .before .p .given .1) .byte) (c .if1 .taken))
+returns-2 c = ⊎-elim (λ e. spelled-end (c .before .before .before .loop .inv) (e .taken)) (λ e. spelled-dot (c .before .before .before .loop .inv) (eqb-true _ 46 (e .1 .taken))) (c .if2 .came)
 
 returns-3 : tie.Need-returns-3 Inv-loop μ-loop
-returns-3 c = sym (c .before .before .before .before .before .before .before .loop .inv .2 ∙ part-longer _ (was-byte (c .before .before .before .before .p .given .0 .0) (c .before .before .before .before .before .before .next .ensures) (c .before .before .before .before .p .given .1) .byte) (c .before .if1 .left) (word-over (c .before .before .before .before .before .before .before .before .before .before .args .word .now) (c .before .before .before .before .before .before .before .loop .i) (c .if2 .taken)))
+returns-3 c = spelled-longer (c .before .before .before .before .before .loop .inv) (c .before .before .before .if1 .left) (c .before .before .if2 .left) (eqb-false _ 46 (c .before .if3 .left)) (c .if4 .taken)
 
-shared-slice-read-if3 : tie.Need-shared-slice-read-if3 Inv-loop μ-loop
-shared-slice-read-if3 c = omega arith
+shared-slice-read-if5 : tie.Need-shared-slice-read-if5 Inv-loop μ-loop
+shared-slice-read-if5 c = omega arith
 
 returns-4 : tie.Need-returns-4 Inv-loop μ-loop
-returns-4 c = sym (c .before .before .before .before .before .before .before .before .before .before .loop .inv .2 ∙ part-apart _ (was-byte (c .before .before .before .before .before .before .before .p .given .0 .0) (c .before .before .before .before .before .before .before .before .before .next .ensures) (c .before .before .before .before .before .before .before .p .given .1) .byte) (c .before .before .before .before .if1 .left) (word-here (c .before .before .before .before .before .before .before .before .before .before .before .before .before .args .word .now) (c .before .before .before .before .before .before .before .before .before .before .loop .i) (c .before .before .before .if2 .left)) (c .if3 .taken))
+returns-4 c = spelled-apart (c .before .before .before .before .before .before .before .loop .inv) (c .before .before .before .before .before .if1 .left) (c .before .before .before .before .if2 .left) (eqb-false _ 46 (c .before .before .before .if3 .left)) (omega arith) (c .if5 .taken)
 
-add-i : tie.Need-add-i Inv-loop μ-loop
-add-i c = omega arith
+add-n : tie.Need-add-n Inv-loop μ-loop
+add-n c = omega (arith, spelled-in (c .before .before .before .before .before .before .before .loop .inv))
 
 loop-less : tie.Need-loop-less Inv-loop μ-loop
-loop-less c = was-byte (c .before .before .before .before .before .before .before .before .p .given .0 .0) (c .before .before .before .before .before .before .before .before .before .before .next .ensures) (c .before .before .before .before .before .before .before .before .p .given .1) .falls
+loop-less c = omega (arith, spelled-in (c .before .before .before .before .before .before .before .loop .inv))
 
 loop-again : tie.Need-loop-again Inv-loop μ-loop
-loop-again c =
-    let a = was-byte (c .before .before .before .before .before .before .before .before .p .given .0 .0) (c .before .before .before .before .before .before .before .before .before .before .next .ensures) (c .before .before .before .before .before .before .before .before .p .given .1) in
-    (a .onText, omega arith, c .before .before .before .before .before .before .before .before .before .before .before .loop .inv .2 ∙ part-on _ (a .byte) (c .before .before .before .before .before .if1 .left) (word-here (c .before .before .before .before .before .before .before .before .before .before .before .before .before .before .args .word .now) (c .before .before .before .before .before .before .before .before .before .before .before .loop .i) (c .before .before .before .before .if2 .left)) (c .before .if3 .left))
+loop-again c = spelled-on (c .before .before .before .before .before .before .before .loop .inv) (c .before .before .before .before .before .if1 .left) (c .before .before .before .before .if2 .left) (eqb-false _ 46 (c .before .before .before .if3 .left)) (omega arith) (c .if5 .left)
 
 pub part-is-word-spec : {M : Type 1} → statement M
 part-is-word-spec =
@@ -66,14 +56,13 @@ part-is-word-spec =
     Inv-loop
     μ-loop
     loop-holds
-    next-requires
-    enum-told
+    shared-slice-read-c
+    word-decoded-requires
     returns
-    enum-known-p
     returns-2
     returns-3
-    shared-slice-read-if3
+    shared-slice-read-if5
     returns-4
-    add-i
+    add-n
     loop-less
     loop-again)
