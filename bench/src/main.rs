@@ -130,7 +130,7 @@ fn run(rounds: usize) {
     };
     println!("| sheet | bytes | number | Rust | here | parse alone | here / Rust | here / parse |\n|---|--:|--:|--:|--:|--:|--:|--:|");
     for (name, text) in sheets::rows() {
-        let (number, _) = intake::unpacked(memory.decide(&text));
+        let (number, _) = intake::parts_of(memory.decide(&text));
         let [rust, here, parse] = row(rounds, &mut memory, &text);
         println!(
             "| {name} | {} | {number} | {rust:.2} | {here:.2} | {parse:.2} | {:.2} | {:.2} |",
