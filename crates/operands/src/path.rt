@@ -3,6 +3,7 @@
 use crate::written::Unit;
 use reader::text::Cursor;
 use reader::text::Step;
+use reader::text::begin;
 ghost use mathlib.Core.Path.{_≡_};
 ghost use mathlib.Core.List.{[]};
 ghost use Prim.Native.Nat.{_≤_};
@@ -44,16 +45,8 @@ fn part_decoded(path: &[u8], at: usize, s: &[u8], name: usize) -> bool
     requires { ⌜ OnText (now path) at 0 × OnText (now s) name 0 ⌝ }
     ensures { λ r. ⌜ r ≡ sameBytes (part (textAt (now (path .entry)) at)) (textAt (now (s .entry)) name) ⌝ }
 {
-    let mut x = Cursor {
-        at: at,
-        unit: 0,
-        left: 0,
-    };
-    let mut y = Cursor {
-        at: name,
-        unit: 0,
-        left: 0,
-    };
+    let mut x = begin(at);
+    let mut y = begin(name);
     loop {
         match reader::text::next(path, x) {
             Step::End => {
@@ -125,11 +118,7 @@ fn word_decoded(path: &[u8], at: usize, word: &[u8]) -> bool
     requires { ⌜ OnText (now path) at 0 × (at ≤ length (now word)) ⌝ }
     ensures { λ r. ⌜ r ≡ sameBytes (part (textAt (now (path .entry)) at)) (drop at (now (word .entry))) ⌝ }
 {
-    let mut x = Cursor {
-        at: at,
-        unit: 0,
-        left: 0,
-    };
+    let mut x = begin(at);
     let mut i = at;
     loop {
         match reader::text::next(path, x) {

@@ -4,6 +4,7 @@ use Rattle.operands.proofs.path.part_decoded.Statement.{statement}
 use Rattle.operands.proofs.path.part_decoded.Tie as tie
 use mathlib.Core.Path.{_≡_, refl, sym, _∙_}
 use Rattle.operands.proofs.Matching.{part-apart, part-dot, part-ended, part-longer, part-on}
+use Rattle.operands.proofs.Searching.{start-before, start-on}
 use Rattle.operands.specs.Path.{part}
 use Rattle.reader.proofs.Leaves.{was-byte, was-end}
 use Rattle.reader.specs.Bytes.{sameBytes}
@@ -17,9 +18,18 @@ Inv-loop path at s name x₀ y₀ x y = OnText path (x .at) (x .left) × OnText 
 abbrev μ-loop : tie.MeasureT-loop
 μ-loop path at s name x₀ y₀ x y = weight path (x .at) (x .left)
 
+begin-requires : tie.Need-begin-requires Inv-loop μ-loop
+begin-requires c κs = search needs
+
+begin-requires-2 : tie.Need-begin-requires-2 Inv-loop μ-loop
+begin-requires-2 c κs = search needs
+
 loop-holds : tie.Need-loop-holds Inv-loop μ-loop
-unfolding before
-loop-holds c = (c .before .before .pre .0, c .before .before .pre .1, refl)
+loop-holds c =
+    let start = c .before .before .before .before in
+    let x = c .before .begin .ensures in
+    let y = c .begin2 .ensures in
+    (start-on (start .args .path .now) (start .args .at) x (start .pre .0), start-on (start .args .s .now) (start .args .name) y (start .pre .1), rw (start-before (start .args .path .now) (start .args .at) x, start-before (start .args .s .now) (start .args .name) y))
 
 next-requires : tie.Need-next-requires Inv-loop μ-loop
 next-requires c κs = c .loop .inv .0
@@ -31,7 +41,7 @@ ended-requires : tie.Need-ended-requires Inv-loop μ-loop
 ended-requires c κs = c .before .before .before .loop .inv .1
 
 returns : tie.Need-returns Inv-loop μ-loop
-returns c = c .ended .ensures ∙ sym (c .before .before .before .before .loop .inv .2 ∙ part-ended _ (was-end (c .before .before .before .before .before .before .before .args .path .now) (c .before .before .before .before .loop .x) (c .before .before .before .next .ensures) (c .before .enum-told .given .1)))
+returns c = c .ended .ensures ∙ sym (c .before .before .before .before .loop .inv .2 ∙ part-ended _ (was-end (c .before .before .before .before .before .before .before .before .before .args .path .now) (c .before .before .before .before .loop .x) (c .before .before .before .next .ensures) (c .before .enum-told .given .1)))
 
 enum-known-p : tie.Need-enum-known-p Inv-loop μ-loop
 enum-known-p c = search needs
@@ -49,7 +59,7 @@ enum-told-2 : tie.Need-enum-told-2 Inv-loop μ-loop
 enum-told-2 c = search needs
 
 returns-3 : tie.Need-returns-3 Inv-loop μ-loop
-returns-3 c = sym (c .before .before .before .before .before .before .before .before .before .loop .inv .2 ∙ part-longer _ (was-byte (c .before .before .before .before .before .before .p .given .0 .0) (c .before .before .before .before .before .before .before .before .next .ensures) (c .before .before .before .before .before .before .p .given .1) .byte) (c .before .before .before .if1 .left) (was-end (c .before .before .before .before .before .before .before .before .before .before .before .before .args .s .now) (c .before .before .before .before .before .before .before .before .before .loop .y) (c .before .before .next2 .ensures) (c .enum-told2 .given .1)))
+returns-3 c = sym (c .before .before .before .before .before .before .before .before .before .loop .inv .2 ∙ part-longer _ (was-byte (c .before .before .before .before .before .before .p .given .0 .0) (c .before .before .before .before .before .before .before .before .next .ensures) (c .before .before .before .before .before .before .p .given .1) .byte) (c .before .before .before .if1 .left) (was-end (c .before .before .before .before .before .before .before .before .before .before .before .before .before .before .args .s .now) (c .before .before .before .before .before .before .before .before .before .loop .y) (c .before .before .next2 .ensures) (c .enum-told2 .given .1)))
 
 enum-known-q : tie.Need-enum-known-q Inv-loop μ-loop
 enum-known-q c = search needs
@@ -72,6 +82,8 @@ part-decoded-spec =
     (tie.spec
     Inv-loop
     μ-loop
+    begin-requires
+    begin-requires-2
     loop-holds
     next-requires
     enum-told
