@@ -1,8 +1,8 @@
 // Texts of the sheet in quotes, decoded and escaped again as they are laid.
 use crate::lay::byte;
 use crate::lay::quoted_byte;
-use reader::text::Cursor;
 use reader::text::Step;
+use reader::text::begin;
 ghost use mathlib.Core.List.{_∷_};
 ghost use Rattle.reader.specs.Cursor.{OnText};
 ghost use Rattle.reader.specs.Spans.{textAt};
@@ -21,11 +21,7 @@ pub fn quoted(out: &mut [u8], limit: usize, at: usize, s: &[u8], text: usize) ->
     ensures { λ r. ⌜ Laid limit (now (out .entry)) at (quoted (textAt (now (s .entry)) text)) (now (out .exit)) r ⌝ }
 {
     let mut here = byte(out, limit, at, b'"');
-    let mut c = Cursor {
-        at: text,
-        unit: 0,
-        left: 0,
-    };
+    let mut c = begin(text);
     loop {
         match reader::text::next(s, c) {
             Step::End => {

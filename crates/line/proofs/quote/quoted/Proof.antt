@@ -17,8 +17,13 @@ abbrev μ-loop : tie.MeasureT-loop
 byte-requires : tie.Need-byte-requires Inv-loop μ-loop
 byte-requires c κs = c .before .before .before .pre .0
 
+begin-requires : tie.Need-begin-requires Inv-loop μ-loop
+begin-requires c κs = search needs
+
 loop-holds : tie.Need-loop-holds Inv-loop μ-loop
-loop-holds c = quoting (c .before .before .before .before .before .before .args .s .now) (c .before .before .before .before .before .before .args .text) (c .before .before .byte .ensures .room) (c .before .before .before .before .before .before .pre .1)
+loop-holds c =
+    let start = c .before .before .before .before .before .before .before in
+    rw (c .begin .ensures) (quoting (start .args .s .now) (start .args .text) (c .before .before .before .byte .ensures .room) (start .pre .1))
 
 next-requires : tie.Need-next-requires Inv-loop μ-loop
 next-requires c κs = c .loop .inv .onText
@@ -33,7 +38,7 @@ same-length : tie.Need-same-length Inv-loop μ-loop
 same-length c = search needs
 
 returns : tie.Need-returns Inv-loop μ-loop
-returns c = then (c .before .before .before .before .before .before .before .before .before .before .byte .ensures) (closed (c .before .before .before .before .before .before .before .loop .inv) (c .before .before .before .before .before .before .next .ensures) (c .before .before .before .before .enum-told .given .1) (c .before .before .byte2 .ensures))
+returns c = then (c .before .before .before .before .before .before .before .before .before .before .before .byte .ensures) (closed (c .before .before .before .before .before .before .before .loop .inv) (c .before .before .before .before .before .before .next .ensures) (c .before .before .before .before .enum-told .given .1) (c .before .before .byte2 .ensures))
 
 enum-known-t : tie.Need-enum-known-t Inv-loop μ-loop
 enum-known-t c = search needs
@@ -54,6 +59,7 @@ quoted-spec =
     Inv-loop
     μ-loop
     byte-requires
+    begin-requires
     loop-holds
     next-requires
     enum-told

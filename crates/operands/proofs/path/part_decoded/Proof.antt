@@ -2,7 +2,7 @@
 -- Assumes nothing.
 use Rattle.operands.proofs.path.part_decoded.Statement.{statement}
 use Rattle.operands.proofs.path.part_decoded.Tie as tie
-use mathlib.Core.Path.{_≡_, refl, sym, _∙_}
+use mathlib.Core.Path.{_≡_, sym, _∙_}
 use Rattle.operands.proofs.Matching.{part-apart, part-dot, part-ended, part-longer, part-on}
 use Rattle.operands.proofs.Searching.{start-before, start-on}
 use Rattle.operands.specs.Path.{part}
