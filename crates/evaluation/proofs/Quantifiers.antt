@@ -243,7 +243,10 @@ pub record Turning (s : Bytes) (w₀ : List ℕ) (sheet : Sheet Condition) (f : 
   pub over : c .named ≡ named
   pub rest : eachOf sheet (framesOf s (table w₀) f) m (textAt s name) that (operandOf s (table w₀) o) ≡ Joining m (record { truth = truthOf t; names = names }) (inTurn m (λ p. judge sheet ((textAt s name, p) ∷ framesOf s (table w₀) f) that) (eachPart (partAt sheet s (table w₀) (framesOf s (table w₀) f) o) named (childrenOf (table w₀) c)))
 
--- whichever condition the body's node gives
+-- whichever condition the body's node gives: under these frames, and over all parts
+abbrev pub BodyAs : Bytes → List ℕ → List ℕ → Sheet Condition → lazy.Frames → ℕ → Outcome → Type 0
+BodyAs s w w′ sheet fs node r = (d : Condition) → Gives condition s (table w) node d → EvaluatedAs s w w′ r (judge sheet fs d)
+
 abbrev pub EachAs : Bytes → List ℕ → List ℕ → Sheet Condition → Frames → Mode → ℕ → ℕ → Operand → Outcome → Type 0
 EachAs s w w′ sheet f m name node o r = (d : Condition) → Gives condition s (table w) node d → EvaluatedAs s w w′ r (eachOf sheet (framesOf s (table w) f) m (textAt s name) d (operandOf s (table w) o))
 
@@ -329,13 +332,12 @@ module _ {s : Bytes} {w₀ : List ℕ} {sheet : Sheet Condition} {f : Frames} {m
     turn e = g .rest ∙ ap (λ (ks : List ℕ). Joining m soFar (inTurn m body (eachPart (partAt sheet s (table w₀) fs o) named ks))) (x .children) ∙ ap (Joining m soFar) e
 
     -- the body, under the part's frame
-    module _ (inner : Frames) {p : Operand} {v : ℕ} (isNode : v ≡ valueNode named k) (isPart : Means s (table w) p (partAt sheet s (table w) (framesOf s (table w) f) o v)) (isHeld : held inner ≡ record { name = name; operand = p } ∷ held f) {w′ : List ℕ} {r : Outcome} (evaluated : (d : Condition) → Gives condition s (table w) node d → EvaluatedAs s w w′ r (judge sheet (framesOf s (table w) inner) d)) where
-      frames-are : framesOf s (table w) inner ≡ (textAt s name, part k) ∷ fs
-      unfolding framed
-      frames-are = ap (framed s (table w)) isHeld ∙ ap (λ (y : lazy.Operand). (textAt s name, y) ∷ framesOf s (table w) f) (isPart .means) ∙ ap (λ (y : List ℕ). (textAt s name, partAt sheet s y (framesOf s y f) o v) ∷ framesOf s y f) (g .left .rows) ∙ ap (λ (j : ℕ). (textAt s name, partAt sheet s (table w₀) fs o j) ∷ fs) isNode
-
-      a : EvaluatedAs s w w′ r (judge sheet (framesOf s (table w) inner) (g .that))
+    module _ {v : ℕ} (isNode : v ≡ valueNode named k) {w′ : List ℕ} {r : Outcome} (evaluated : BodyAs s w w′ sheet ((textAt s name, partAt sheet s (table w) (framesOf s (table w) f) o v) ∷ framesOf s (table w) f) node r) where
+      a : EvaluatedAs s w w′ r (judge sheet ((textAt s name, partAt sheet s (table w) (framesOf s (table w) f) o v) ∷ framesOf s (table w) f) (g .that))
       a = evaluated (g .that) gives-now
+
+      frames-are : (textAt s name, partAt sheet s (table w) (framesOf s (table w) f) o v) ∷ framesOf s (table w) f ≡ (textAt s name, part k) ∷ fs
+      frames-are = ap (λ (y : List ℕ). (textAt s name, partAt sheet s y (framesOf s y f) o v) ∷ framesOf s y f) (g .left .rows) ∙ ap (λ (j : ℕ). (textAt s name, partAt sheet s (table w₀) fs o j) ∷ fs) isNode
 
       answered : outcomeOf s (table w₀) (a .names) r ≡ body (part k)
       answered = ap (λ (y : List ℕ). outcomeOf s y (a .names) r) (sym (g .left .rows)) ∙ a .means ∙ ap (λ (y : lazy.Frames). judge sheet y (g .that)) frames-are
@@ -377,11 +379,14 @@ module _ {s : Bytes} {w₀ : List ℕ} {sheet : Sheet Condition} {f : Frames} {m
         }
 
 -- what falls: the brackets left
-pub each-falls : (l : ℕ) {t : ℕ} → 3 * l + 1 ≡ t → 3 * l < t
+pub part-falls : (l : ℕ) {t : ℕ} → 3 * l + 1 ≡ t → 3 * l < t
+part-falls l e = omega arith
+
+pub each-falls : (l : ℕ) {t : ℕ} → 3 * l + 2 ≡ t → 3 * l + 1 < t
 each-falls l e = omega arith
 
-pub quantify-falls : (l : ℕ) {t : ℕ} → 3 * l + 2 ≡ t → 3 * (l - 1) + 1 < t
-quantify-falls l e = omega arith
+pub quantify-falls : (l : ℕ) {t : ℕ} → 3 * l + 2 ≡ t → 1 ≤ l → 3 * (l - 1) + 2 < t
+quantify-falls l e h = omega arith
 
 -- a part under its name fits a slot
 pub part-small : {s : Bytes} {t : List ℕ} {name : ℕ} {p : Operand} → length s ≤ 32768 → OnText s name 0 → OperandAt s t p → Small (record { name = name; operand = p })
@@ -397,6 +402,13 @@ pushed r l n p d h = record {
   linked = r .linked;
   bound = record { within = omega arith; names = rw h (n, r .bound .names); operands = rw h (p, r .bound .operands) };
 }
+
+-- the body under such frames
+pub body-under : (sheet : Sheet Condition) (f g : Frames) {s : Bytes} {w w′ : List ℕ} {name node : ℕ} {p : Operand} {part : lazy.Operand} {r : Outcome} → Means s (table w) p part → held g ≡ record { name = name; operand = p } ∷ held f → BodyAs s w w′ sheet (framesOf s (table w) g) node r → BodyAs s w w′ sheet ((textAt s name, part) ∷ framesOf s (table w) f) node r
+unfolding framed
+body-under sheet f g {s} {w} {w′} {name = name} {r = r} i h b d x =
+    let e = ap (framed s (table w)) h ∙ ap (λ (y : lazy.Operand). (textAt s name, y) ∷ framesOf s (table w) f) (i .means) in
+    subst (λ (fs : lazy.Frames). EvaluatedAs s w w′ r (judge sheet fs d)) e (b d x)
 
 -- ---- the whole quantifier
 -- marks of nothing before it change nothing

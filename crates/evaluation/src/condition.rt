@@ -22,9 +22,11 @@ use sheet::condition::Operator;
 use sheet::condition::operator_at;
 use sheet::member::named;
 use sheet::shape::node_of;
+ghost use mathlib.Core.List.{_∷_};
 ghost use mathlib.Core.Path.{_≡_};
 ghost use Prim.Native.Nat.{_+_, _*_, _<_, _≤_};
 ghost use Rattle.reader.specs.Cursor.{OnText};
+ghost use Rattle.reader.specs.Held.{HasNode};
 ghost use Rattle.reader.specs.Limits.{depth};
 ghost use Rattle.reader.specs.Spans.{textAt};
 ghost use Rattle.reader.specs.Table.{afterAt};
@@ -34,6 +36,7 @@ ghost use Rattle.sheet.specs.Accepted.{ConditionsGive, Gives, Known};
 ghost use Rattle.sheet.specs.Answers.{modeOf};
 ghost use Rattle.sheet.specs.Condition as conditions;
 ghost use Rattle.sheet.specs.Condition.{Condition, Conditions, condition};
+ghost use Rattle.operands.specs.Layered.{partAt};
 ghost use Rattle.operands.specs.Ready.{Ready};
 ghost use Rattle.operands.specs.Rooted.{sheetIn};
 ghost use Rattle.operands.specs.Stored.{HasKind, OperandAt, Room, framesOf, operandOf, table, tree};
@@ -171,12 +174,8 @@ fn junction(
             Outcome::Judged(t) => {
                 truth = join(mode, truth, t);
             }
-            Outcome::Unknown(n) => {
-                return Outcome::Unknown(n);
-            }
-            Outcome::NoId => {
-                return Outcome::NoId;
-            }
+            Outcome::Unknown(n) => return Outcome::Unknown(n),
+            Outcome::NoId => return Outcome::NoId,
         }
         k = after_at(work, k);
     }
@@ -230,33 +229,43 @@ fn each(
     let mut truth = start(mode);
     let mut c = Children::of(work, o.node, class == 6);
     loop {
-        match c.next(work) {
-            Child::End => {
-                return Outcome::Judged(truth);
-            }
-            Child::Is(x) => {
-                let v = value_node(class == 6, x.node);
-                let part = part_of(s, work, roots, frames, o, v);
-                let inner = frames.push(Frame {
-                    name: name,
-                    operand: part,
-                });
-                match evaluate(s, work, roots, inner, body, left) {
-                    Outcome::Judged(t) => {
-                        truth = join(mode, truth, t);
-                        if settles(mode, t) {
-                            return Outcome::Judged(truth);
-                        }
-                    }
-                    Outcome::Unknown(n) => {
-                        return Outcome::Unknown(n);
-                    }
-                    Outcome::NoId => {
-                        return Outcome::NoId;
-                    }
+        let Child::Is(x) = c.next(work) else {
+            return Outcome::Judged(truth);
+        };
+        let v = value_node(class == 6, x.node);
+        match with_part(s, work, roots, frames, o, v, name, body, left) {
+            Outcome::Judged(t) => {
+                truth = join(mode, truth, t);
+                if settles(mode, t) {
+                    return Outcome::Judged(truth);
                 }
-                c = x.rest;
             }
+            Outcome::Unknown(n) => return Outcome::Unknown(n),
+            Outcome::NoId => return Outcome::NoId,
         }
+        c = x.rest;
     }
+}
+
+// The body under its binder, which stands for the part of the collection at a node.
+fn with_part(
+    s: &[u8],
+    work: &mut [u32],
+    roots: Roots,
+    frames: Frames,
+    o: Operand,
+    node: usize,
+    name: usize,
+    body: usize,
+    left: usize,
+) -> Outcome
+    requires { ⌜ Ready (now s) (now work) roots frames × (2 * frames .depth + 2 + left ≤ 64) × HasNode (now s) (table (now work)) node × OnText (now s) name 0 × Known (Gives condition (now s) (table (now work)) body) × (depth (tree (now s) (table (now work)) body) ≤ left) ⌝ }
+    ensures { λ r. ⌜ ((c : Condition) → Gives condition (now (s .entry)) (table (now (work .entry))) body c → EvaluatedAs (now (s .entry)) (now (work .entry)) (now (work .exit)) r (judge (sheetIn (now (s .entry))) ((textAt (now (s .entry)) name, partAt (sheetIn (now (s .entry))) (now (s .entry)) (table (now (work .entry))) (framesOf (now (s .entry)) (table (now (work .entry))) frames) o node) ∷ framesOf (now (s .entry)) (table (now (work .entry))) frames) c)) ⌝ }
+{
+    let part = part_of(s, work, roots, frames, o, node);
+    let inner = frames.push(Frame {
+        name: name,
+        operand: part,
+    });
+    evaluate(s, work, roots, inner, body, left)
 }

@@ -1,4 +1,4 @@
--- A condition, a junction, a quantifier and the walk over what it binds meet their contracts. What falls is the brackets left.
+-- A condition, a junction, a quantifier, the walk over what it binds and its body for one part meet their contracts. What falls is the brackets left.
 -- Assumes nothing.
 use Prim.Native.Nat.{ℕ, _*_, _+_, _-_, _<_}
 use native.Mathlib.Omega.{arith}
@@ -7,16 +7,19 @@ use borrow.Fn.Kinds.{In}
 use borrow.Fn.PlainCycle.{Measures, is, falls, and}
 use Rattle.evaluation.proofs.condition.each.Reads as each
 use Rattle.evaluation.proofs.condition.each.Kinds as each-kinds
-use Rattle.evaluation.proofs.condition.+each+evaluate+junction+quantify.Lts-each as each-lts
+use Rattle.evaluation.proofs.condition.+each+evaluate+junction+quantify+with_part.Lts-each as each-lts
 use Rattle.evaluation.proofs.condition.evaluate.Reads as evaluate
 use Rattle.evaluation.proofs.condition.evaluate.Kinds as evaluate-kinds
-use Rattle.evaluation.proofs.condition.+each+evaluate+junction+quantify.Lts-evaluate as evaluate-lts
+use Rattle.evaluation.proofs.condition.+each+evaluate+junction+quantify+with_part.Lts-evaluate as evaluate-lts
 use Rattle.evaluation.proofs.condition.junction.Reads as junction
 use Rattle.evaluation.proofs.condition.junction.Kinds as junction-kinds
-use Rattle.evaluation.proofs.condition.+each+evaluate+junction+quantify.Lts-junction as junction-lts
+use Rattle.evaluation.proofs.condition.+each+evaluate+junction+quantify+with_part.Lts-junction as junction-lts
 use Rattle.evaluation.proofs.condition.quantify.Reads as quantify
 use Rattle.evaluation.proofs.condition.quantify.Kinds as quantify-kinds
-use Rattle.evaluation.proofs.condition.+each+evaluate+junction+quantify.Lts-quantify as quantify-lts
+use Rattle.evaluation.proofs.condition.+each+evaluate+junction+quantify+with_part.Lts-quantify as quantify-lts
+use Rattle.evaluation.proofs.condition.with_part.Reads as with-part
+use Rattle.evaluation.proofs.condition.with_part.Kinds as with-part-kinds
+use Rattle.evaluation.proofs.condition.+each+evaluate+junction+quantify+with_part.Lts-with_part as with-part-lts
 use Rattle.evaluation.proofs.comparison.exists_at.Reads as exists-at-reads
 use Rattle.evaluation.proofs.comparison.pair_at.Reads as pair-at-reads
 use Rattle.evaluation.proofs.condition.join.Reads as join-reads
@@ -35,8 +38,8 @@ use Rattle.operands.proofs.rows.after_at.Reads as after-at-reads
 use Rattle.operands.proofs.rows.kind_at.Reads as kind-at-reads
 use Rattle.operands.proofs.rows.start_at.Reads as start-at-reads
 use Rattle.sheet.proofs.condition.operator_at.Reads as operator-at-reads
-use Rattle.evaluation.proofs.condition.+each+evaluate+junction+quantify.{statement}
-use Rattle.evaluation.proofs.condition.+each+evaluate+junction+quantify.Tie.{close}
+use Rattle.evaluation.proofs.condition.+each+evaluate+junction+quantify+with_part.{statement}
+use Rattle.evaluation.proofs.condition.+each+evaluate+junction+quantify+with_part.Tie.{close}
 use lib.Dec.{eqb}
 use Rattle.sheet.proofs.GivenConditions.{given-carried, given-known}
 use Rattle.sheet.specs.Answers.{modeOf}
@@ -47,10 +50,10 @@ use Rattle.operands.proofs.Trees.{text-row}
 use Rattle.operands.specs.Rooted.{sheetIn}
 use Rattle.operands.specs.Stored.{framesOf, table}
 use Rattle.evaluation.proofs.Junctions.{Collecting, a-junction, a-negation, a-pair, child, child-below, child-falls, child-shallow, collect-begin, collect-end, collect-less, collect-long, collect-no-id, collect-on, collect-one, collect-unknown, element-falls, inner-falls, inner-node, inner-shallow, judged-exists, judged-false, judged-junction, judged-negation, judged-pair, judged-quantifier, judged-true, known-quantifier, operands-shallow, the-member}
-use Rattle.evaluation.proofs.Quantifiers.{Turning, body-known, body-shallow, each-falls, each-holds, each-unknown, over-fits, part-small, pushed, quantify-each, quantify-falls, quantify-long, quantify-missing, quantify-no-id, quantify-unknown, turn-begin, turn-below, turn-end, turn-given, turn-gives, turn-long, turn-no-id, turn-node, turn-on, turn-settled, turn-unknown}
+use Rattle.evaluation.proofs.Quantifiers.{Turning, body-known, body-shallow, body-under, each-falls, each-holds, each-unknown, over-fits, part-falls, part-small, pushed, quantify-each, quantify-falls, quantify-long, quantify-missing, quantify-no-id, quantify-unknown, turn-begin, turn-below, turn-end, turn-given, turn-gives, turn-long, turn-no-id, turn-node, turn-on, turn-settled, turn-unknown}
 
 abbrev μ-each : Measures 2 each-kinds.ps ℕ
-μ-each κs a = 3 * a .1 .1 .1 .1 .1 .1 .1 .1 .0 + 1
+μ-each κs a = 3 * a .1 .1 .1 .1 .1 .1 .1 .1 .0 + 2
 
 abbrev μ-evaluate : Measures 2 evaluate-kinds.ps ℕ
 μ-evaluate κs a = 3 * a .1 .1 .1 .1 .1 .0
@@ -60,6 +63,9 @@ abbrev μ-junction : Measures 2 junction-kinds.ps ℕ
 
 abbrev μ-quantify : Measures 2 quantify-kinds.ps ℕ
 μ-quantify κs a = 3 * a .1 .1 .1 .1 .1 .1 .0 + 2
+
+abbrev μ-with-part : Measures 2 with-part-kinds.ps ℕ
+μ-with-part κs a = 3 * a .1 .1 .1 .1 .1 .1 .1 .1 .0 + 1
 
 abbrev each-at : ℕ → In 2 each-kinds.ps
 each-at t = and 2 each-kinds.ps (is 2 each-kinds.ps μ-each t) each.Pre
@@ -88,8 +94,15 @@ abbrev quantify-below : ℕ → In 2 quantify-kinds.ps
 quantify-below t =
     and 2 quantify-kinds.ps (falls 2 quantify-kinds.ps _<_ μ-quantify t) quantify.Pre
 
+abbrev with-part-at : ℕ → In 2 with-part-kinds.ps
+with-part-at t = and 2 with-part-kinds.ps (is 2 with-part-kinds.ps μ-with-part t) with-part.Pre
+
+abbrev with-part-below : ℕ → In 2 with-part-kinds.ps
+with-part-below t =
+    and 2 with-part-kinds.ps (falls 2 with-part-kinds.ps _<_ μ-with-part t) with-part.Pre
+
 abbrev each-claims : ℕ → each-lts.Claims
-each-claims t = (class-of-reads.Asked, class-of-reads.Learnt, start-reads.Asked, start-reads.Learnt, of-reads.Asked, of-reads.Learnt, next-reads.Asked, next-reads.Learnt, value-node-reads.Asked, value-node-reads.Learnt, part-of-reads.Asked, part-of-reads.Learnt, push-reads.Asked, push-reads.Learnt, evaluate-below t, evaluate.Post, join-reads.Asked, join-reads.Learnt, settles-reads.Asked, settles-reads.Learnt)
+each-claims t = (class-of-reads.Asked, class-of-reads.Learnt, start-reads.Asked, start-reads.Learnt, of-reads.Asked, of-reads.Learnt, next-reads.Asked, next-reads.Learnt, value-node-reads.Asked, value-node-reads.Learnt, with-part-below t, with-part.Post, join-reads.Asked, join-reads.Learnt, settles-reads.Asked, settles-reads.Learnt)
 
 abbrev each-Inv-loop : each-lts.InvT-loop
 each-Inv-loop s work₀ roots frames mode o name body left class truth₀ c₀ work truth c = Turning s work₀ (sheetIn s) frames (modeOf mode) name body o (eqb class 6) work truth c
@@ -102,6 +115,9 @@ evaluate-claims t = (kind-at-reads.Asked, kind-at-reads.Learnt, start-at-reads.A
 
 abbrev quantify-claims : ℕ → quantify-lts.Claims
 quantify-claims t = (quantifier-at-reads.Asked, quantifier-at-reads.Learnt, start-at-reads.Asked, start-at-reads.Learnt, resolve-reads.Asked, resolve-reads.Learnt, each-below t, each.Post)
+
+abbrev with-part-claims : ℕ → with-part-lts.Claims
+with-part-claims t = (part-of-reads.Asked, part-of-reads.Learnt, push-reads.Asked, push-reads.Learnt, evaluate-below t, evaluate.Post)
 
 each-class-of-requires : (t : ℕ) → each-lts.Need-class-of-requires (each-claims t) (each-at t) each.Post each-Inv-loop each-μ-loop
 each-class-of-requires t c κs = search needs
@@ -121,6 +137,9 @@ each-loop-holds t c = turn-begin (c .before .before .before .before .before .bef
 each-next-requires : (t : ℕ) → each-lts.Need-next-requires (each-claims t) (each-at t) each.Post each-Inv-loop each-μ-loop
 each-next-requires t c κs = (record { rows = ready-after (c .before .before .before .before .before .before .before .before .before .pre .1 .0) (c .before .loop .inv .left) .rows; node = omega arith }, c .before .loop .inv .walk .within)
 
+each-enum-known-x : (t : ℕ) → each-lts.Need-enum-known-x (each-claims t) (each-at t) each.Post each-Inv-loop each-μ-loop
+each-enum-known-x t c = search needs
+
 each-enum-told : (t : ℕ) → each-lts.Need-enum-told (each-claims t) (each-at t) each.Post each-Inv-loop each-μ-loop
 each-enum-told t c = search needs
 
@@ -130,20 +149,11 @@ each-same-length t c = c .before .before .before .before .loop .inv .left .long
 each-returns-2 : (t : ℕ) → each-lts.Need-returns-2 (each-claims t) (each-at t) each.Post each-Inv-loop each-μ-loop
 each-returns-2 t c = turn-end (c .before .before .before .before .loop .inv) (c .before .before .next .ensures) (c .enum-told .given .1)
 
-each-enum-known-x : (t : ℕ) → each-lts.Need-enum-known-x (each-claims t) (each-at t) each.Post each-Inv-loop each-μ-loop
-each-enum-known-x t c = search needs
-
 each-value-node-requires : (t : ℕ) → each-lts.Need-value-node-requires (each-claims t) (each-at t) each.Post each-Inv-loop each-μ-loop
 each-value-node-requires t c κs = turn-below (c .before .before .before .before .before .loop .inv) (turn-given (c .before .before .before .before .before .loop .inv) (c .before .before .before .next .ensures) (c .before .x .given .0 .0) (c .before .x .given .1))
 
-each-part-of-requires : (t : ℕ) → each-lts.Need-part-of-requires (each-claims t) (each-at t) each.Post each-Inv-loop each-μ-loop
-each-part-of-requires t c κs = (ready-after (c .before .before .before .before .before .before .before .before .before .before .before .before .before .before .before .pre .1 .0) (c .before .before .before .before .before .before .before .loop .inv .left), turn-node (c .before .before .before .before .before .before .before .loop .inv) (turn-given (c .before .before .before .before .before .before .before .loop .inv) (c .before .before .before .before .before .next .ensures) (c .before .before .before .x .given .0 .0) (c .before .before .before .x .given .1)) (c .before .value-node .ensures))
-
-each-push-requires : (t : ℕ) → each-lts.Need-push-requires (each-claims t) (each-at t) each.Post each-Inv-loop each-μ-loop
-each-push-requires t c κs = (omega (arith, c .before .before .before .before .before .before .before .before .before .before .before .before .before .before .before .before .pre .1 .1), part-small (c .before .before .before .before .before .before .before .before .before .before .before .before .before .before .before .before .pre .1 .0 .short) (c .before .before .before .before .before .before .before .before .before .before .before .before .before .before .before .before .pre .1 .3) (c .part-of .ensures .fits))
-
-each-evaluate-requires : (t : ℕ) → each-lts.Need-evaluate-requires (each-claims t) (each-at t) each.Post each-Inv-loop each-μ-loop
-each-evaluate-requires t c κs = (each-falls (c .before .before .before .before .before .before .before .before .before .before .before .before .before .before .before .before .before .before .args .left) (c .before .before .before .before .before .before .before .before .before .before .before .before .before .before .before .before .before .before .pre .0), (pushed (ready-after (c .before .before .before .before .before .before .before .before .before .before .before .before .before .before .before .before .before .before .pre .1 .0) (c .before .before .before .before .before .before .before .before .before .before .loop .inv .left)) (omega (arith, c .before .before .before .before .before .before .before .before .before .before .before .before .before .before .before .before .before .before .pre .1 .1)) (c .before .before .before .before .before .before .before .before .before .before .before .before .before .before .before .before .before .before .pre .1 .3) (c .before .before .part-of .ensures .fits) (c .before .push .ensures .0) (c .before .push .ensures .1), omega (arith, c .before .before .before .before .before .before .before .before .before .before .before .before .before .before .before .before .before .before .pre .1 .1, c .before .push .ensures .0), turn-gives (c .before .before .before .before .before .before .before .before .before .before .loop .inv), rw (c .before .before .before .before .before .before .before .before .before .before .loop .inv .left .rows) (c .before .before .before .before .before .before .before .before .before .before .before .before .before .before .before .before .before .before .pre .1 .5)))
+each-with-part-requires : (t : ℕ) → each-lts.Need-with-part-requires (each-claims t) (each-at t) each.Post each-Inv-loop each-μ-loop
+each-with-part-requires t c κs = (each-falls (c .before .before .before .before .before .before .before .before .before .before .before .before .before .before .before .args .left) (c .before .before .before .before .before .before .before .before .before .before .before .before .before .before .before .pre .0), (ready-after (c .before .before .before .before .before .before .before .before .before .before .before .before .before .before .before .pre .1 .0) (c .before .before .before .before .before .before .before .loop .inv .left), c .before .before .before .before .before .before .before .before .before .before .before .before .before .before .before .pre .1 .1, turn-node (c .before .before .before .before .before .before .before .loop .inv) (turn-given (c .before .before .before .before .before .before .before .loop .inv) (c .before .before .before .before .before .next .ensures) (c .before .before .before .x .given .0 .0) (c .before .before .before .x .given .1)) (c .before .value-node .ensures), c .before .before .before .before .before .before .before .before .before .before .before .before .before .before .before .pre .1 .3, turn-gives (c .before .before .before .before .before .before .before .loop .inv), rw (c .before .before .before .before .before .before .before .loop .inv .left .rows) (c .before .before .before .before .before .before .before .before .before .before .before .before .before .before .before .pre .1 .5)))
 
 each-enum-known-t : (t : ℕ) → each-lts.Need-enum-known-t (each-claims t) (each-at t) each.Post each-Inv-loop each-μ-loop
 each-enum-known-t t c = search needs
@@ -155,34 +165,34 @@ each-settles-requires : (t : ℕ) → each-lts.Need-settles-requires (each-claim
 each-settles-requires t c κs = search needs
 
 each-same-length-2 : (t : ℕ) → each-lts.Need-same-length-2 (each-claims t) (each-at t) each.Post each-Inv-loop each-μ-loop
-each-same-length-2 t c = turn-long (c .before .before .before .before .before .before .before .before .before .before .before .before .before .before .before .before .before .before .before .loop .inv) (c .before .before .before .before .before .before .before .before .evaluate .ensures)
+each-same-length-2 t c = turn-long (c .before .before .before .before .before .before .before .before .before .before .before .before .before .before .before .before .loop .inv) (c .before .before .before .before .before .before .before .before .with-part .ensures)
 
 each-returns-3 : (t : ℕ) → each-lts.Need-returns-3 (each-claims t) (each-at t) each.Post each-Inv-loop each-μ-loop
-each-returns-3 t c = turn-settled (c .before .before .before .before .before .before .before .before .before .before .before .before .before .before .before .before .before .before .before .loop .inv) (turn-given (c .before .before .before .before .before .before .before .before .before .before .before .before .before .before .before .before .before .before .before .loop .inv) (c .before .before .before .before .before .before .before .before .before .before .before .before .before .before .before .before .before .next .ensures) (c .before .before .before .before .before .before .before .before .before .before .before .before .before .before .before .x .given .0 .0) (c .before .before .before .before .before .before .before .before .before .before .before .before .before .before .before .x .given .1)) (c .before .before .before .before .before .before .before .before .before .before .push .result) (c .before .before .before .before .before .before .before .before .before .before .before .before .before .value-node .ensures) (c .before .before .before .before .before .before .before .before .before .before .before .part-of .ensures) (c .before .before .before .before .before .before .before .before .before .before .push .ensures .1) (c .before .before .before .before .before .before .before .before .evaluate .ensures) _ (c .before .before .before .before .t .given .1) (c .before .before .join .result) (c .before .before .join .ensures) (c .before .settles .ensures) (c .if2 .taken)
+each-returns-3 t c = turn-settled (c .before .before .before .before .before .before .before .before .before .before .before .before .before .before .before .before .loop .inv) (turn-given (c .before .before .before .before .before .before .before .before .before .before .before .before .before .before .before .before .loop .inv) (c .before .before .before .before .before .before .before .before .before .before .before .before .before .before .next .ensures) (c .before .before .before .before .before .before .before .before .before .before .before .before .x .given .0 .0) (c .before .before .before .before .before .before .before .before .before .before .before .before .x .given .1)) (c .before .before .before .before .before .before .before .before .before .before .value-node .ensures) (c .before .before .before .before .before .before .before .before .with-part .ensures) _ (c .before .before .before .before .t .given .1) (c .before .before .join .result) (c .before .before .join .ensures) (c .before .settles .ensures) (c .if2 .taken)
 
 each-enum-known-n : (t : ℕ) → each-lts.Need-enum-known-n (each-claims t) (each-at t) each.Post each-Inv-loop each-μ-loop
 each-enum-known-n t c = search needs
 
 each-same-length-3 : (t : ℕ) → each-lts.Need-same-length-3 (each-claims t) (each-at t) each.Post each-Inv-loop each-μ-loop
-each-same-length-3 t c = turn-long (c .before .before .before .before .before .before .before .before .before .before .before .before .before .before .before .before .loop .inv) (c .before .before .before .before .before .evaluate .ensures)
+each-same-length-3 t c = turn-long (c .before .before .before .before .before .before .before .before .before .before .before .before .before .loop .inv) (c .before .before .before .before .before .with-part .ensures)
 
 each-returns-4 : (t : ℕ) → each-lts.Need-returns-4 (each-claims t) (each-at t) each.Post each-Inv-loop each-μ-loop
-each-returns-4 t c = turn-unknown (c .before .before .before .before .before .before .before .before .before .before .before .before .before .before .before .before .loop .inv) (turn-given (c .before .before .before .before .before .before .before .before .before .before .before .before .before .before .before .before .loop .inv) (c .before .before .before .before .before .before .before .before .before .before .before .before .before .before .next .ensures) (c .before .before .before .before .before .before .before .before .before .before .before .before .x .given .0 .0) (c .before .before .before .before .before .before .before .before .before .before .before .before .x .given .1)) (c .before .before .before .before .before .before .before .push .result) (c .before .before .before .before .before .before .before .before .before .before .value-node .ensures) (c .before .before .before .before .before .before .before .before .part-of .ensures) (c .before .before .before .before .before .before .before .push .ensures .1) (c .before .before .before .before .before .evaluate .ensures) _ (c .before .n .given .1)
+each-returns-4 t c = turn-unknown (c .before .before .before .before .before .before .before .before .before .before .before .before .before .loop .inv) (turn-given (c .before .before .before .before .before .before .before .before .before .before .before .before .before .loop .inv) (c .before .before .before .before .before .before .before .before .before .before .before .next .ensures) (c .before .before .before .before .before .before .before .before .before .x .given .0 .0) (c .before .before .before .before .before .before .before .before .before .x .given .1)) (c .before .before .before .before .before .before .before .value-node .ensures) (c .before .before .before .before .before .with-part .ensures) _ (c .before .n .given .1)
 
 each-enum-told-2 : (t : ℕ) → each-lts.Need-enum-told-2 (each-claims t) (each-at t) each.Post each-Inv-loop each-μ-loop
 each-enum-told-2 t c = search needs
 
 each-same-length-4 : (t : ℕ) → each-lts.Need-same-length-4 (each-claims t) (each-at t) each.Post each-Inv-loop each-μ-loop
-each-same-length-4 t c = turn-long (c .before .before .before .before .before .before .before .before .before .before .before .before .before .before .before .loop .inv) (c .before .before .before .before .evaluate .ensures)
+each-same-length-4 t c = turn-long (c .before .before .before .before .before .before .before .before .before .before .before .before .loop .inv) (c .before .before .before .before .with-part .ensures)
 
 each-returns-5 : (t : ℕ) → each-lts.Need-returns-5 (each-claims t) (each-at t) each.Post each-Inv-loop each-μ-loop
-each-returns-5 t c = turn-no-id (c .before .before .before .before .before .before .before .before .before .before .before .before .before .before .before .loop .inv) (turn-given (c .before .before .before .before .before .before .before .before .before .before .before .before .before .before .before .loop .inv) (c .before .before .before .before .before .before .before .before .before .before .before .before .before .next .ensures) (c .before .before .before .before .before .before .before .before .before .before .before .x .given .0 .0) (c .before .before .before .before .before .before .before .before .before .before .before .x .given .1)) (c .before .before .before .before .before .before .push .result) (c .before .before .before .before .before .before .before .before .before .value-node .ensures) (c .before .before .before .before .before .before .before .part-of .ensures) (c .before .before .before .before .before .before .push .ensures .1) (c .before .before .before .before .evaluate .ensures) (c .enum-told2 .given .1)
+each-returns-5 t c = turn-no-id (c .before .before .before .before .before .before .before .before .before .before .before .before .loop .inv) (turn-given (c .before .before .before .before .before .before .before .before .before .before .before .before .loop .inv) (c .before .before .before .before .before .before .before .before .before .before .next .ensures) (c .before .before .before .before .before .before .before .before .x .given .0 .0) (c .before .before .before .before .before .before .before .before .x .given .1)) (c .before .before .before .before .before .before .value-node .ensures) (c .before .before .before .before .with-part .ensures) (c .enum-told2 .given .1)
 
 each-loop-less : (t : ℕ) → each-lts.Need-loop-less (each-claims t) (each-at t) each.Post each-Inv-loop each-μ-loop
-each-loop-less t c = turn-given (c .before .before .before .before .before .before .before .before .before .before .before .before .before .before .before .before .before .before .before .before .loop .inv) (c .before .before .before .before .before .before .before .before .before .before .before .before .before .before .before .before .before .before .next .ensures) (c .before .before .before .before .before .before .before .before .before .before .before .before .before .before .before .before .x .given .0 .0) (c .before .before .before .before .before .before .before .before .before .before .before .before .before .before .before .before .x .given .1) .falls
+each-loop-less t c = turn-given (c .before .before .before .before .before .before .before .before .before .before .before .before .before .before .before .before .before .loop .inv) (c .before .before .before .before .before .before .before .before .before .before .before .before .before .before .before .next .ensures) (c .before .before .before .before .before .before .before .before .before .before .before .before .before .x .given .0 .0) (c .before .before .before .before .before .before .before .before .before .before .before .before .before .x .given .1) .falls
 
 each-loop-again : (t : ℕ) → each-lts.Need-loop-again (each-claims t) (each-at t) each.Post each-Inv-loop each-μ-loop
-each-loop-again t c = turn-on (c .before .before .before .before .before .before .before .before .before .before .before .before .before .before .before .before .before .before .before .before .loop .inv) (turn-given (c .before .before .before .before .before .before .before .before .before .before .before .before .before .before .before .before .before .before .before .before .loop .inv) (c .before .before .before .before .before .before .before .before .before .before .before .before .before .before .before .before .before .before .next .ensures) (c .before .before .before .before .before .before .before .before .before .before .before .before .before .before .before .before .x .given .0 .0) (c .before .before .before .before .before .before .before .before .before .before .before .before .before .before .before .before .x .given .1)) (c .before .before .before .before .before .before .before .before .before .before .before .push .result) (c .before .before .before .before .before .before .before .before .before .before .before .before .before .before .value-node .ensures) (c .before .before .before .before .before .before .before .before .before .before .before .before .part-of .ensures) (c .before .before .before .before .before .before .before .before .before .before .before .push .ensures .1) (c .before .before .before .before .before .before .before .before .before .evaluate .ensures) _ (c .before .before .before .before .before .t .given .1) (c .before .before .before .join .result) (c .before .before .before .join .ensures) (c .before .before .settles .ensures) (c .before .if2 .left)
+each-loop-again t c = turn-on (c .before .before .before .before .before .before .before .before .before .before .before .before .before .before .before .before .before .loop .inv) (turn-given (c .before .before .before .before .before .before .before .before .before .before .before .before .before .before .before .before .before .loop .inv) (c .before .before .before .before .before .before .before .before .before .before .before .before .before .before .before .next .ensures) (c .before .before .before .before .before .before .before .before .before .before .before .before .before .x .given .0 .0) (c .before .before .before .before .before .before .before .before .before .before .before .before .before .x .given .1)) (c .before .before .before .before .before .before .before .before .before .before .before .value-node .ensures) (c .before .before .before .before .before .before .before .before .before .with-part .ensures) _ (c .before .before .before .before .before .t .given .1) (c .before .before .before .join .result) (c .before .before .before .join .ensures) (c .before .before .settles .ensures) (c .before .if2 .left)
 
 evaluate-kind-at-requires : (t : ℕ) → evaluate-lts.Need-kind-at-requires (evaluate-claims t) (evaluate-at t) evaluate.Post
 evaluate-kind-at-requires t c κs = node-room (c .before .before .before .pre .1 .0) (record { left = 64; isNode = c .before .before .before .pre .1 .2 .known .node })
@@ -404,7 +414,7 @@ quantify-each-requires : (t : ℕ) → quantify-lts.Need-each-requires (quantify
 quantify-each-requires t c κs =
     let p = c .before .before .before .before .before .before .before .before .before .before .quantifier-at .ensures _ _ (c .before .before .before .before .before .before .before .before .before .before .before .before .before .before .pre .1 .2 .known) in
     let sheet = sheetIn (c .before .before .before .before .before .before .before .before .before .before .before .before .before .before .args .s .now) in
-    (quantify-falls (c .before .before .before .before .before .before .before .before .before .before .before .before .before .before .args .left) (c .before .before .before .before .before .before .before .before .before .before .before .before .before .before .pre .0), (ready-after (c .before .before .before .before .before .before .before .before .before .before .before .before .before .before .pre .1 .0) (c .before .before .before .before .before .before .resolve .ensures .left), omega (arith, p .overDepth, c .before .before .before .before .before .before .before .before .before .before .before .before .before .before .pre .1 .1, c .before .before .before .before .before .before .before .before .before .before .before .before .before .before .pre .1 .3), over-fits sheet (c .before .before .before .before .before .before .before .before .before .before .before .before .before .before .args .frames) p (c .before .before .before .before .before .before .resolve .ensures) _ (c .before .before .o .given .1), rw (c .before .before .before .before .before .before .before .before .start-at .ensures) (text-row (p .bind) .onText), body-known sheet (c .before .before .before .before .before .before .before .before .before .before .before .before .before .before .args .frames) p (c .before .before .before .before .before .before .resolve .ensures), body-shallow sheet (c .before .before .before .before .before .before .before .before .before .before .before .before .before .before .args .frames) p (c .before .before .before .before .before .before .resolve .ensures) (c .before .before .before .before .before .before .before .before .before .before .before .before .before .before .pre .1 .3)))
+    (quantify-falls (c .before .before .before .before .before .before .before .before .before .before .before .before .before .before .args .left) (c .before .before .before .before .before .before .before .before .before .before .before .before .before .before .pre .0) (omega (arith, p .overDepth, c .before .before .before .before .before .before .before .before .before .before .before .before .before .before .pre .1 .3)), (ready-after (c .before .before .before .before .before .before .before .before .before .before .before .before .before .before .pre .1 .0) (c .before .before .before .before .before .before .resolve .ensures .left), omega (arith, p .overDepth, c .before .before .before .before .before .before .before .before .before .before .before .before .before .before .pre .1 .1, c .before .before .before .before .before .before .before .before .before .before .before .before .before .before .pre .1 .3), over-fits sheet (c .before .before .before .before .before .before .before .before .before .before .before .before .before .before .args .frames) p (c .before .before .before .before .before .before .resolve .ensures) _ (c .before .before .o .given .1), rw (c .before .before .before .before .before .before .before .before .start-at .ensures) (text-row (p .bind) .onText), body-known sheet (c .before .before .before .before .before .before .before .before .before .before .before .before .before .before .args .frames) p (c .before .before .before .before .before .before .resolve .ensures), body-shallow sheet (c .before .before .before .before .before .before .before .before .before .before .before .before .before .before .args .frames) p (c .before .before .before .before .before .before .resolve .ensures) (c .before .before .before .before .before .before .before .before .before .before .before .before .before .before .pre .1 .3)))
 
 quantify-enum-told : (t : ℕ) → quantify-lts.Need-enum-told (quantify-claims t) (quantify-at t) quantify.Post
 quantify-enum-told t c = search needs
@@ -439,9 +449,24 @@ quantify-same-length-4 t c = c .before .before .before .before .resolve .ensures
 quantify-returns-4 : (t : ℕ) → quantify-lts.Need-returns-4 (quantify-claims t) (quantify-at t) quantify.Post
 quantify-returns-4 t c = λ d h. quantify-no-id (sheetIn (c .before .before .before .before .before .before .before .before .before .before .before .before .args .s .now)) (c .before .before .before .before .before .before .before .before .before .before .before .before .args .frames) (c .before .before .before .before .before .before .before .before .quantifier-at .ensures _ _ h) (c .before .before .before .before .resolve .ensures) (c .enum-told2 .given .1)
 
-pub +each+evaluate+junction+quantify-spec : {M : Type 1} → statement M
-+each+evaluate+junction+quantify-spec =
-    close μ-each μ-evaluate μ-junction μ-quantify (λ t. each-lts.spec (each-claims t) (each-at t) each.Post
+with-part-part-of-requires : (t : ℕ) → with-part-lts.Need-part-of-requires (with-part-claims t) (with-part-at t) with-part.Post
+with-part-part-of-requires t c κs = (c .before .before .before .pre .1 .0, c .before .before .before .pre .1 .2)
+
+with-part-push-requires : (t : ℕ) → with-part-lts.Need-push-requires (with-part-claims t) (with-part-at t) with-part.Post
+with-part-push-requires t c κs = (omega (arith, c .before .before .before .before .pre .1 .1), part-small (c .before .before .before .before .pre .1 .0 .short) (c .before .before .before .before .pre .1 .3) (c .part-of .ensures .fits))
+
+with-part-evaluate-requires : (t : ℕ) → with-part-lts.Need-evaluate-requires (with-part-claims t) (with-part-at t) with-part.Post
+with-part-evaluate-requires t c κs = (part-falls (c .before .before .before .before .before .before .args .left) (c .before .before .before .before .before .before .pre .0), (pushed (c .before .before .before .before .before .before .pre .1 .0) (omega (arith, c .before .before .before .before .before .before .pre .1 .1)) (c .before .before .before .before .before .before .pre .1 .3) (c .before .before .part-of .ensures .fits) (c .before .push .ensures .0) (c .before .push .ensures .1), omega (arith, c .before .before .before .before .before .before .pre .1 .1, c .before .push .ensures .0), c .before .before .before .before .before .before .pre .1 .4, c .before .before .before .before .before .before .pre .1 .5))
+
+with-part-same-length : (t : ℕ) → with-part-lts.Need-same-length (with-part-claims t) (with-part-at t) with-part.Post
+with-part-same-length t c = c .before .before .evaluate .ensures _ (c .before .before .before .before .before .before .before .before .before .pre .1 .4 .known) .left .long
+
+with-part-returns : (t : ℕ) → with-part-lts.Need-returns (with-part-claims t) (with-part-at t) with-part.Post
+with-part-returns t c = body-under (sheetIn (c .before .before .before .before .before .before .before .before .before .args .s .now)) (c .before .before .before .before .before .before .before .before .before .args .frames) (c .before .before .before .before .push .result) (c .before .before .before .before .before .part-of .ensures) (c .before .before .before .before .push .ensures .1) (c .before .before .evaluate .ensures)
+
+pub +each+evaluate+junction+quantify+with-part-spec : {M : Type 1} → statement M
++each+evaluate+junction+quantify+with-part-spec =
+    close μ-each μ-evaluate μ-junction μ-quantify μ-with-part (λ t. each-lts.spec (each-claims t) (each-at t) each.Post
     each-Inv-loop
     each-μ-loop
     (each-class-of-requires t)
@@ -450,14 +475,12 @@ pub +each+evaluate+junction+quantify-spec : {M : Type 1} → statement M
     (each-of-requires t)
     (each-loop-holds t)
     (each-next-requires t)
+    (each-enum-known-x t)
     (each-enum-told t)
     (each-same-length t)
     (each-returns-2 t)
-    (each-enum-known-x t)
     (each-value-node-requires t)
-    (each-part-of-requires t)
-    (each-push-requires t)
-    (each-evaluate-requires t)
+    (each-with-part-requires t)
     (each-enum-known-t t)
     (each-join-requires t)
     (each-settles-requires t)
@@ -538,7 +561,7 @@ pub +each+evaluate+junction+quantify-spec : {M : Type 1} → statement M
     (junction-loop-again t)
     (junction-same-length-3 t)
     (junction-returns-3 t))
-    λ t. quantify-lts.spec (quantify-claims t) (quantify-at t) quantify.Post
+    (λ t. quantify-lts.spec (quantify-claims t) (quantify-at t) quantify.Post
     (quantify-quantifier-at-requires t)
     (quantify-start-at-requires t)
     (quantify-sub-resolve t)
@@ -556,4 +579,10 @@ pub +each+evaluate+junction+quantify-spec : {M : Type 1} → statement M
     (quantify-same-length-3 t)
     (quantify-returns-3 t)
     (quantify-same-length-4 t)
-    (quantify-returns-4 t)
+    (quantify-returns-4 t))
+    λ t. with-part-lts.spec (with-part-claims t) (with-part-at t) with-part.Post
+    (with-part-part-of-requires t)
+    (with-part-push-requires t)
+    (with-part-evaluate-requires t)
+    (with-part-same-length t)
+    (with-part-returns t)
