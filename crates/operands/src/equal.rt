@@ -61,32 +61,24 @@ fn equal_parts(
     let mut x = Children::of(work, a.node, named);
     let mut y = Children::of(work, b.node, named);
     loop {
-        match x.next(work) {
-            Child::End => match y.next(work) {
-                Child::End => {
-                    return true;
-                }
-                Child::Is(_q) => {
-                    return false;
-                }
-            },
-            Child::Is(p) => match y.next(work) {
-                Child::End => {
-                    return false;
-                }
-                Child::Is(q) => {
-                    if !names_agree(s, work, named, p.node, q.node) {
-                        return false;
-                    }
-                    let u = part_of(s, work, roots, frames, a, value_node(named, p.node));
-                    let v = part_of(s, work, roots, frames, b, value_node(named, q.node));
-                    if !equal_at(s, work, roots, frames, u, v, left) {
-                        return false;
-                    }
-                    x = p.rest;
-                    y = q.rest;
-                }
-            },
+        let Child::Is(p) = x.next(work) else {
+            match y.next(work) {
+                Child::End => return true,
+                Child::Is(_q) => return false,
+            }
+        };
+        let Child::Is(q) = y.next(work) else {
+            return false;
+        };
+        if !names_agree(s, work, named, p.node, q.node) {
+            return false;
         }
+        let u = part_of(s, work, roots, frames, a, value_node(named, p.node));
+        let v = part_of(s, work, roots, frames, b, value_node(named, q.node));
+        if !equal_at(s, work, roots, frames, u, v, left) {
+            return false;
+        }
+        x = p.rest;
+        y = q.rest;
     }
 }

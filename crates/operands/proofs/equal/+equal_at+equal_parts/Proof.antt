@@ -102,6 +102,9 @@ equal-parts-loop-holds t c = compare-begins (c .before .before .before .before .
 equal-parts-next-requires : (t : ℕ) → equal-parts-lts.Need-next-requires (equal-parts-claims t) (equal-parts-at t) equal-parts.Post equal-parts-Inv-loop equal-parts-μ-loop
 equal-parts-next-requires t c κs = (record { rows = c .before .before .before .before .before .pre .1 .0 .rows; node = omega arith }, c .loop .inv .first .within)
 
+equal-parts-enum-known-p : (t : ℕ) → equal-parts-lts.Need-enum-known-p (equal-parts-claims t) (equal-parts-at t) equal-parts.Post equal-parts-Inv-loop equal-parts-μ-loop
+equal-parts-enum-known-p t c = search needs
+
 equal-parts-enum-told : (t : ℕ) → equal-parts-lts.Need-enum-told (equal-parts-claims t) (equal-parts-at t) equal-parts.Post equal-parts-Inv-loop equal-parts-μ-loop
 equal-parts-enum-told t c = search needs
 
@@ -120,20 +123,17 @@ equal-parts-enum-known--q t c = search needs
 equal-parts-returns-2 : (t : ℕ) → equal-parts-lts.Need-returns-2 (equal-parts-claims t) (equal-parts-at t) equal-parts.Post equal-parts-Inv-loop equal-parts-μ-loop
 equal-parts-returns-2 t c = first-ends (c .before .before .before .before .before .before .before .before .before .before .before .before .args .s .now) (table (c .before .before .before .before .before .before .before .before .before .before .before .before .args .work .now)) (alike (sheetIn (c .before .before .before .before .before .before .before .before .before .before .before .before .args .s .now)) (c .before .before .before .before .before .before .before .before .before .before .before .before .args .left) (framesOf (c .before .before .before .before .before .before .before .before .before .before .before .before .args .s .now) (table (c .before .before .before .before .before .before .before .before .before .before .before .before .args .work .now)) (c .before .before .before .before .before .before .before .before .before .before .before .before .args .frames))) (c .before .before .before .before .before .before .before .before .before .before .before .before .args .named) (partAt (sheetIn (c .before .before .before .before .before .before .before .before .before .before .before .before .args .s .now)) (c .before .before .before .before .before .before .before .before .before .before .before .before .args .s .now) (table (c .before .before .before .before .before .before .before .before .before .before .before .before .args .work .now)) (framesOf (c .before .before .before .before .before .before .before .before .before .before .before .before .args .s .now) (table (c .before .before .before .before .before .before .before .before .before .before .before .before .args .work .now)) (c .before .before .before .before .before .before .before .before .before .before .before .before .args .frames)) (c .before .before .before .before .before .before .before .before .before .before .before .before .args .a)) (partAt (sheetIn (c .before .before .before .before .before .before .before .before .before .before .before .before .args .s .now)) (c .before .before .before .before .before .before .before .before .before .before .before .before .args .s .now) (table (c .before .before .before .before .before .before .before .before .before .before .before .before .args .work .now)) (framesOf (c .before .before .before .before .before .before .before .before .before .before .before .before .args .s .now) (table (c .before .before .before .before .before .before .before .before .before .before .before .before .args .work .now)) (c .before .before .before .before .before .before .before .before .before .before .before .before .args .frames)) (c .before .before .before .before .before .before .before .before .before .before .before .before .args .b)) _ (c .before .before .before .before .before .before .before .loop .inv) (child-end (c .before .before .before .before .before .before .before .loop .inv .first) (c .before .before .before .before .before .before .next .ensures) (c .before .before .before .before .enum-told .given .1)) (child-given (c .before .before .before .before .before .before .before .loop .inv .second) (c .before .before .before .next2 .ensures) (c .before .-q .given .0 .0) (c .before .-q .given .1))
 
-equal-parts-enum-known-p : (t : ℕ) → equal-parts-lts.Need-enum-known-p (equal-parts-claims t) (equal-parts-at t) equal-parts.Post equal-parts-Inv-loop equal-parts-μ-loop
-equal-parts-enum-known-p t c = search needs
-
 equal-parts-next-requires-3 : (t : ℕ) → equal-parts-lts.Need-next-requires-3 (equal-parts-claims t) (equal-parts-at t) equal-parts.Post equal-parts-Inv-loop equal-parts-μ-loop
 equal-parts-next-requires-3 t c κs = (record { rows = c .before .before .before .before .before .before .before .before .before .pre .1 .0 .rows; node = omega arith }, c .before .before .before .before .loop .inv .second .within)
+
+equal-parts-enum-known-q : (t : ℕ) → equal-parts-lts.Need-enum-known-q (equal-parts-claims t) (equal-parts-at t) equal-parts.Post equal-parts-Inv-loop equal-parts-μ-loop
+equal-parts-enum-known-q t c = search needs
 
 equal-parts-enum-told-3 : (t : ℕ) → equal-parts-lts.Need-enum-told-3 (equal-parts-claims t) (equal-parts-at t) equal-parts.Post equal-parts-Inv-loop equal-parts-μ-loop
 equal-parts-enum-told-3 t c = search needs
 
 equal-parts-returns-3 : (t : ℕ) → equal-parts-lts.Need-returns-3 (equal-parts-claims t) (equal-parts-at t) equal-parts.Post equal-parts-Inv-loop equal-parts-μ-loop
 equal-parts-returns-3 t c = second-ends (c .before .before .before .before .before .before .before .before .before .before .before .before .args .s .now) (table (c .before .before .before .before .before .before .before .before .before .before .before .before .args .work .now)) (alike (sheetIn (c .before .before .before .before .before .before .before .before .before .before .before .before .args .s .now)) (c .before .before .before .before .before .before .before .before .before .before .before .before .args .left) (framesOf (c .before .before .before .before .before .before .before .before .before .before .before .before .args .s .now) (table (c .before .before .before .before .before .before .before .before .before .before .before .before .args .work .now)) (c .before .before .before .before .before .before .before .before .before .before .before .before .args .frames))) (c .before .before .before .before .before .before .before .before .before .before .before .before .args .named) (partAt (sheetIn (c .before .before .before .before .before .before .before .before .before .before .before .before .args .s .now)) (c .before .before .before .before .before .before .before .before .before .before .before .before .args .s .now) (table (c .before .before .before .before .before .before .before .before .before .before .before .before .args .work .now)) (framesOf (c .before .before .before .before .before .before .before .before .before .before .before .before .args .s .now) (table (c .before .before .before .before .before .before .before .before .before .before .before .before .args .work .now)) (c .before .before .before .before .before .before .before .before .before .before .before .before .args .frames)) (c .before .before .before .before .before .before .before .before .before .before .before .before .args .a)) (partAt (sheetIn (c .before .before .before .before .before .before .before .before .before .before .before .before .args .s .now)) (c .before .before .before .before .before .before .before .before .before .before .before .before .args .s .now) (table (c .before .before .before .before .before .before .before .before .before .before .before .before .args .work .now)) (framesOf (c .before .before .before .before .before .before .before .before .before .before .before .before .args .s .now) (table (c .before .before .before .before .before .before .before .before .before .before .before .before .args .work .now)) (c .before .before .before .before .before .before .before .before .before .before .before .before .args .frames)) (c .before .before .before .before .before .before .before .before .before .before .before .before .args .b)) _ (c .before .before .before .before .before .before .before .loop .inv) (child-given (c .before .before .before .before .before .before .before .loop .inv .first) (c .before .before .before .before .before .before .next .ensures) (c .before .before .before .before .p .given .0 .0) (c .before .before .before .before .p .given .1)) (child-end (c .before .before .before .before .before .before .before .loop .inv .second) (c .before .before .next3 .ensures) (c .enum-told3 .given .1))
-
-equal-parts-enum-known-q : (t : ℕ) → equal-parts-lts.Need-enum-known-q (equal-parts-claims t) (equal-parts-at t) equal-parts.Post equal-parts-Inv-loop equal-parts-μ-loop
-equal-parts-enum-known-q t c = search needs
 
 equal-parts-names-agree-requires : (t : ℕ) → equal-parts-lts.Need-names-agree-requires (equal-parts-claims t) (equal-parts-at t) equal-parts.Post equal-parts-Inv-loop equal-parts-μ-loop
 equal-parts-names-agree-requires t c κs = (record { rows = c .before .before .before .before .before .before .before .before .before .before .before .before .before .pre .1 .0 .rows; node = omega arith }, first-child (c .before .before .before .before .before .before .before .before .before .before .before .before .before .args .s .now) (table (c .before .before .before .before .before .before .before .before .before .before .before .before .before .args .work .now)) (alike (sheetIn (c .before .before .before .before .before .before .before .before .before .before .before .before .before .args .s .now)) (c .before .before .before .before .before .before .before .before .before .before .before .before .before .args .left) (framesOf (c .before .before .before .before .before .before .before .before .before .before .before .before .before .args .s .now) (table (c .before .before .before .before .before .before .before .before .before .before .before .before .before .args .work .now)) (c .before .before .before .before .before .before .before .before .before .before .before .before .before .args .frames))) (c .before .before .before .before .before .before .before .before .before .before .before .before .before .args .named) (partAt (sheetIn (c .before .before .before .before .before .before .before .before .before .before .before .before .before .args .s .now)) (c .before .before .before .before .before .before .before .before .before .before .before .before .before .args .s .now) (table (c .before .before .before .before .before .before .before .before .before .before .before .before .before .args .work .now)) (framesOf (c .before .before .before .before .before .before .before .before .before .before .before .before .before .args .s .now) (table (c .before .before .before .before .before .before .before .before .before .before .before .before .before .args .work .now)) (c .before .before .before .before .before .before .before .before .before .before .before .before .before .args .frames)) (c .before .before .before .before .before .before .before .before .before .before .before .before .before .args .a)) (partAt (sheetIn (c .before .before .before .before .before .before .before .before .before .before .before .before .before .args .s .now)) (c .before .before .before .before .before .before .before .before .before .before .before .before .before .args .s .now) (table (c .before .before .before .before .before .before .before .before .before .before .before .before .before .args .work .now)) (framesOf (c .before .before .before .before .before .before .before .before .before .before .before .before .before .args .s .now) (table (c .before .before .before .before .before .before .before .before .before .before .before .before .before .args .work .now)) (c .before .before .before .before .before .before .before .before .before .before .before .before .before .args .frames)) (c .before .before .before .before .before .before .before .before .before .before .before .before .before .args .b)) _ (c .before .before .before .before .before .before .before .before .loop .inv) (child-given (c .before .before .before .before .before .before .before .before .loop .inv .first) (c .before .before .before .before .before .before .before .next .ensures) (c .before .before .before .before .before .p .given .0 .0) (c .before .before .before .before .before .p .given .1)) (child-given (c .before .before .before .before .before .before .before .before .loop .inv .second) (c .before .before .before .next3 .ensures) (c .before .q .given .0 .0) (c .before .q .given .1)), second-child (c .before .before .before .before .before .before .before .before .before .before .before .before .before .args .s .now) (table (c .before .before .before .before .before .before .before .before .before .before .before .before .before .args .work .now)) (alike (sheetIn (c .before .before .before .before .before .before .before .before .before .before .before .before .before .args .s .now)) (c .before .before .before .before .before .before .before .before .before .before .before .before .before .args .left) (framesOf (c .before .before .before .before .before .before .before .before .before .before .before .before .before .args .s .now) (table (c .before .before .before .before .before .before .before .before .before .before .before .before .before .args .work .now)) (c .before .before .before .before .before .before .before .before .before .before .before .before .before .args .frames))) (c .before .before .before .before .before .before .before .before .before .before .before .before .before .args .named) (partAt (sheetIn (c .before .before .before .before .before .before .before .before .before .before .before .before .before .args .s .now)) (c .before .before .before .before .before .before .before .before .before .before .before .before .before .args .s .now) (table (c .before .before .before .before .before .before .before .before .before .before .before .before .before .args .work .now)) (framesOf (c .before .before .before .before .before .before .before .before .before .before .before .before .before .args .s .now) (table (c .before .before .before .before .before .before .before .before .before .before .before .before .before .args .work .now)) (c .before .before .before .before .before .before .before .before .before .before .before .before .before .args .frames)) (c .before .before .before .before .before .before .before .before .before .before .before .before .before .args .a)) (partAt (sheetIn (c .before .before .before .before .before .before .before .before .before .before .before .before .before .args .s .now)) (c .before .before .before .before .before .before .before .before .before .before .before .before .before .args .s .now) (table (c .before .before .before .before .before .before .before .before .before .before .before .before .before .args .work .now)) (framesOf (c .before .before .before .before .before .before .before .before .before .before .before .before .before .args .s .now) (table (c .before .before .before .before .before .before .before .before .before .before .before .before .before .args .work .now)) (c .before .before .before .before .before .before .before .before .before .before .before .before .before .args .frames)) (c .before .before .before .before .before .before .before .before .before .before .before .before .before .args .b)) _ (c .before .before .before .before .before .before .before .before .loop .inv) (child-given (c .before .before .before .before .before .before .before .before .loop .inv .first) (c .before .before .before .before .before .before .before .next .ensures) (c .before .before .before .before .before .p .given .0 .0) (c .before .before .before .before .before .p .given .1)) (child-given (c .before .before .before .before .before .before .before .before .loop .inv .second) (c .before .before .before .next3 .ensures) (c .before .q .given .0 .0) (c .before .q .given .1)))
@@ -183,17 +183,17 @@ pub +equal-at+equal-parts-spec : {M : Type 1} → statement M
     (equal-parts-of-requires-2 t)
     (equal-parts-loop-holds t)
     (equal-parts-next-requires t)
+    (equal-parts-enum-known-p t)
     (equal-parts-enum-told t)
     (equal-parts-next-requires-2 t)
     (equal-parts-enum-told-2 t)
     (equal-parts-returns t)
     (equal-parts-enum-known--q t)
     (equal-parts-returns-2 t)
-    (equal-parts-enum-known-p t)
     (equal-parts-next-requires-3 t)
+    (equal-parts-enum-known-q t)
     (equal-parts-enum-told-3 t)
     (equal-parts-returns-3 t)
-    (equal-parts-enum-known-q t)
     (equal-parts-names-agree-requires t)
     (equal-parts-returns-4 t)
     (equal-parts-value-node-requires t)

@@ -3,7 +3,7 @@
 use Rattle.operands.proofs.path.word_decoded.Statement.{statement}
 use Rattle.operands.proofs.path.word_decoded.Tie as tie
 use mathlib.Core.Path.{_≡_, sym, _∙_}
-use Prim.Native.Nat.{_-_, _≤_}
+use Prim.Native.Nat.{_≤_}
 use lib.ListN.{drop, length}
 use Rattle.operands.proofs.Matching.{part-apart, part-dot, part-ended, part-longer, part-on, word-ended, word-here, word-over}
 use Rattle.operands.proofs.Searching.{start-before, start-on}
