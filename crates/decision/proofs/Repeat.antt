@@ -426,8 +426,47 @@ demand s s′ work work′ output output′ old new w w′ e e′ n n′ same cl
           step = d .step;
           names = d .names;
           unobservable = d .unobservable;
+          isNew = d .isNew;
           isReply = newReply ∙ ap plain-reply (d .isNew);
           isTried = d .isTried;
           upToSettled = d .tried;
           named = d .named;
         })
+
+-- a decision with clean rules: an admission, 12, or a refusal that a rule, a guard, all that were tried or the outcome selected settled; so neither 13 nor 14
+pub data IsSettler : Settler → Type 0 where
+  aStep : (k : Step) → IsSettler (atPlace k)
+  allTried : IsSettler everything
+  theSelected : IsSettler selection
+
+pub data Decided : Result Verdict → Type 0 where
+  admits : (v : Verdict) → Decided (ok v)
+  noState : Decided (refused noInput)
+  bySettler : (q : Refusal) (t : Settler) → settler q ≡ t → IsSettler t → Decided (refused q)
+
+pub clean-decided : (s : Sheet Condition) → clean kernel s ≡ true → Decided (decideCall s)
+unfolding decideFrom admitted-from
+clean-decided s c = by (s .state) refl
+  where
+    same : SameRules s s
+    same = record { rules = refl; outcomes = refl; state = refl; states = refl }
+
+    facts : Every (Fact kernel (Erased s s same) s s) (sheetReadings s)
+    facts = fact-of s s same c c (λ r m. inl refl)
+
+    admitting : (x : Bytes) (p : Placed) → decideCall s ≡ admitted-from (s .states) (s .outcomes) x p → AdmitShape (admit (s .states) (s .outcomes) x p) → Decided (decideCall s)
+    admitting x p e (inl a) = subst Decided (sym (e ∙ bind-ok _ (a .1))) (admits _)
+    admitting x p e (inr a) = subst Decided (sym (e ∙ ap (λ (y : Result Placed). y >>= λ q. ok (asAdmitted q)) (a .1))) (bySettler (a .0) selection (a .2) theSelected)
+
+    guards : (x : Bytes) (e : s .state ≡ some x) (pass : check s preconditions 0 (s .preconditions) ≡ ok passed) → GuardShape 0 (select s 0 (s .outcomes)) → Decided (decideCall s)
+    guards x e pass (chosen p f h) = admitting x p (decide-select s x e pass ∙ bind-ok _ f) (admit-shape (s .states) (s .outcomes) x p)
+    guards x e pass (exhausted f) = subst Decided (sym (decide-refused s x e pass noOutcome f)) (bySettler noOutcome everything settler-noOutcome allTried)
+    guards x e pass (stopped j n ns f h) = subst Decided (sym (decide-refused s x e pass (guardUnknown j n ns) f)) (bySettler (guardUnknown j n ns) (atPlace (guard j)) (settler-guard j n ns) (aStep (guard j)))
+
+    ruled : (x : Bytes) (e : s .state ≡ some x) → RuleShape 0 (check s preconditions 0 (s .preconditions)) → Decided (decideCall s)
+    ruled x e (inl p) = guards x e p (G s s same facts .shape)
+    ruled x e (inr t) = subst Decided (sym (oldParts s s same (some x) e ∙ refused-rules s s same s x _ _ _ (t .0) (t .2))) (bySettler (t .0) (atPlace (rule (t .1))) (t .3) (aStep (rule (t .1))))
+
+    by : (st : Option Bytes) → s .state ≡ st → Decided (decideCall s)
+    by none e = subst Decided (sym (oldParts s s same none e)) noState
+    by (some x) e = ruled x e (R s s same facts .shape)

@@ -11,11 +11,12 @@ use lib.Seq.{take-at}
 use Rattle.line.specs.Line.{endLine, eachLine, refusalForm, refusalLine, refusalNumber, verdictForm, verdictLine}
 use Rattle.line.specs.Reply.{lineSize}
 use Rattle.line.specs.Verdict.{Verdict}
+use Rattle.line.specs.declared.emit.Sent.{Sent}
 use Rattle.reader.specs.Bytes.{Bytes}
 use Rattle.reader.specs.Refusal.{Result, lineTooLong, ok, refused, _>>=_}
 use Rattle.sheet.specs.Sheet.{readSheet}
 use Rattle.decision.specs.Again.{Again, lineIn, seen}
-use Rattle.decision.specs.Called.{Replied}
+use Rattle.decision.specs.Called.{Called, Replied}
 use Rattle.rules.specs.Decide.{decideCall}
 use Rattle.decision.specs.Demand.{Demand, Repeats}
 use Rattle.decision.specs.Entry.{Reply, call, decide, enough, fitted, outputAfter, reply}
@@ -83,3 +84,26 @@ module _ (old new : Bytes) {w w₁ w′ : List ℕ} (size : length w₁ ≡ leng
             (sym (replied-seen old (length w) first))
             (subst (λ (y : Reply). Repeats old new (length w) (length w) (decide old (length w) (length o)) y) (sym (replied-seen new (length w) second-replied)) (demand old new (length w) (length w) (length o) (length p)));
       }
+
+-- two calls made apart, each on its own table and output
+pub calls-repeat : (old new : Bytes) {w w₁ v v₁ : List ℕ} {o o₁ p p₁ : Bytes} {a b : Case} → Replied (decide old (length w) (length o)) w w₁ o o₁ a → Replied (decide new (length v) (length p)) v v₁ p p₁ b → Repeats old new (length w) (length v) (seen a o₁) (seen b p₁)
+unfolding Demand
+calls-repeat old new {w} {w₁} {v} {v₁} {o} {o₁} {p} {p₁} {a} {b} first second =
+    subst
+    (λ (x : Reply). Repeats old new (length w) (length v) x (seen b p₁))
+    (sym (replied-seen old (length w) first))
+    (subst (λ (y : Reply). Repeats old new (length w) (length v) (decide old (length w) (length o)) y) (sym (replied-seen new (length v) second)) (demand old new (length w) (length v) (length o) (length p)))
+
+-- the same of calls by number and size, which the library and the program make
+pub reply-seen : (s : Bytes) (work n size : ℕ) (o o′ : Bytes) → n ≡ decide s work (length o) .number → size ≡ lineSize (decide s work (length o)) → o′ ≡ outputAfter (decide s work (length o)) o → _≡_ {A = Reply} (record { number = n; line = lineIn size o′ }) (decide s work (length o))
+reply-seen s work n size o o′ p q r =
+    ap {B = Reply} (λ (m : ℕ). record { number = m; line = lineIn size o′ }) p ∙
+    ap {B = Reply} (λ (l : Option Bytes). record { number = decide s work (length o) .number; line = l }) (line-seen (decide s work (length o) .number) size (decide s work (length o) .line) o o′ (decide-ended s work (length o)) q r)
+
+pub sent-repeat : (old new : Bytes) {w w₁ v v₁ : List ℕ} {o o₁ p p₁ : Bytes} {a b : Sent} → Called (decide old (length w) (length o)) w w₁ o o₁ a → Called (decide new (length v) (length p)) v v₁ p p₁ b → Repeats old new (length w) (length v) (record { number = a .number; line = lineIn (a .size) o₁ }) (record { number = b .number; line = lineIn (b .size) p₁ })
+unfolding Demand
+sent-repeat old new {w} {w₁} {v} {v₁} {o} {o₁} {p} {p₁} {a} {b} first second =
+    subst
+    (λ (x : Reply). Repeats old new (length w) (length v) x (record { number = b .number; line = lineIn (b .size) p₁ }))
+    (sym (reply-seen old (length w) (a .number) (a .size) o o₁ (first .isNumber) (first .isSize) (first .output)))
+    (subst (λ (y : Reply). Repeats old new (length w) (length v) (decide old (length w) (length o)) y) (sym (reply-seen new (length v) (b .number) (b .size) p p₁ (second .isNumber) (second .isSize) (second .output))) (demand old new (length w) (length v) (length o) (length p)))

@@ -137,6 +137,7 @@ pub record Repeated (old new : Sheet Condition) (r : Reply) : Type 0 where
   pub step : Step
   pub names : Names
   pub unobservable : Unobservable refusal step names
+  pub isNew : decideCall new ≡ refused refusal
   pub isReply : r ≡ record { number = refusalNumber refusal; line = refusalLine refusal }
   pub isTried : isStep old step ≡ true
   pub upToSettled : settled old step ≡ true

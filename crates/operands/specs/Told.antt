@@ -14,8 +14,6 @@ use Rattle.semantics.specs.Operand.{escaped, expression, plain, readText}
 use Rattle.operands.specs.Path.{further}
 use Rattle.operands.specs.declared.path.Rest.{Rest}
 use Rattle.operands.specs.declared.path.Rest.the-variants as rests
-use Rattle.operands.specs.declared.search.Turn as turns
-use Rattle.operands.specs.declared.search.Turn.the-variants as turn
 use Rattle.operands.specs.declared.written.Unit as units
 use Rattle.operands.specs.declared.written.Unit.the-variants as unit
 use Rattle.operands.specs.declared.written.Written as writtens
@@ -56,15 +54,3 @@ WrittenTold s at (written.Expression p) = (readText (textAt s at) ≡ expression
 unfoldable pub RestTold : Bytes → Rest → Type 0
 RestTold path rests.Nothing = further (textAt path 0) ≡ none
 RestTold path (rests.At p) = (further (textAt path 0) ≡ some (textAt path p)) × OnText path p 0 × (0 < p) × (p ≤ length path)
-
--- a turn of a search
-pub record Onward (s : Bytes) (p t p′ t′ : Cursor) : Type 0 where
-  pub same : begins (before s (p .at) (p .unit) (p .left)) (before s (t .at) (t .unit) (t .left)) ≡ begins (before s (p′ .at) (p′ .unit) (p′ .left)) (before s (t′ .at) (t′ .unit) (t′ .left))
-  pub onPart : OnText s (p′ .at) (p′ .left)
-  pub onText : OnText s (t′ .at) (t′ .left)
-  pub falls : weight s (p′ .at) (p′ .left) < weight s (p .at) (p .left)
-
-unfoldable pub TurnTold : Bytes → Cursor → Cursor → turns.Turn → Type 0
-TurnTold s p t turn.Ended = begins (before s (p .at) (p .unit) (p .left)) (before s (t .at) (t .unit) (t .left)) ≡ true
-TurnTold s p t turn.Apart = begins (before s (p .at) (p .unit) (p .left)) (before s (t .at) (t .unit) (t .left)) ≡ false
-TurnTold s p t (turn.On b) = Onward s p t (b .part) (b .text)

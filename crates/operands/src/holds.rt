@@ -124,9 +124,9 @@ fn two_texts(s: &[u8], work: &[u32], a: Operand, b: Operand, place: Where) -> bo
     let text = crate::layer::text_place(s, work, a);
     let part = crate::layer::text_place(s, work, b);
     match place {
-        Where::Start => crate::search::starts_with(s, text, part),
-        Where::Anywhere => crate::search::has_part(s, text, part),
-        Where::End => crate::search::ends_with(s, text, part),
+        Where::Start => search::start::starts_with(s, text, part),
+        Where::Anywhere => search::part::has_part(s, text, part),
+        Where::End => search::end::ends_with(s, text, part),
     }
 }
 

@@ -11,5 +11,4 @@ mod reach;
 pub mod resolve;
 pub mod roots;
 pub mod rows;
-mod search;
 mod written;

@@ -13,7 +13,7 @@ use Rattle.reader.proofs.Decoded.{length-rows, node-after}
 use Rattle.reader.proofs.Laws.{bind-ok}
 use Rattle.reader.proofs.Loops.{bind-refused}
 use Rattle.reader.proofs.MemberName.{skip-past}
-use Rattle.reader.proofs.Walk.{accepted, value-is}
+use Rattle.reader.proofs.Walk.{accepted, stored, value-is}
 use Rattle.reader.specs.Answers.{refusalOf}
 use Rattle.reader.specs.Bytes.{Bytes}
 use Rattle.reader.specs.Json.{Value}
@@ -118,7 +118,7 @@ module _ (s : Bytes) (w : List ℕ) (enough : 16384 ≤ length w) where
         let m : nodes (valueAt s w′ 0) ≡ size (b .tree) = ap nodes (value-is s w′ (b .depth) (b .held)) ∙ nodes-size s (b .tree) in
         record {
           answers = is-json ∙ a .0 ∙ ap {B = Result Value} (λ y. ok y) (sym (a .1));
-          holds = record { bytes = bytes; root = b; count = omega (arith, n, f .1 .counted); after = node-after s w′ maxDepth 0 (b .tree) (b .held) ∙ omega (arith, n, m, f .1 .counted) };
+          holds = record { bytes = bytes; root = b; count = omega (arith, n, f .1 .counted); after = node-after s w′ maxDepth 0 (b .tree) (b .held) ∙ omega (arith, n, m, f .1 .counted); spans = (r .tree, spanned-is s bytes u at isAt v k (r .read) q z, stored w w′ (r .tree) (r .words) (omega (arith, f .1 .counted, f .1 .most))) };
           small = λ h. absurd (omega arith);
           past = past;
         }

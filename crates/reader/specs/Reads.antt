@@ -3,17 +3,19 @@
 use mathlib.Core.Bool.{false, true}
 use mathlib.Core.List.{List}
 use mathlib.Core.Path.{_≡_}
-use Prim.Native.Nat.{ℕ, _<_, _≤_}
+use Prim.Native.Nat.{ℕ, _*_, _<_, _≤_}
 use lib.Dec.{leb}
-use lib.ListN.{drop, length}
+use lib.ListN.{drop, length, take}
 use Rattle.reader.specs.Answers.{refusalOf}
 use Rattle.reader.specs.Bytes.{Bytes}
 use Rattle.reader.specs.Held.{IsNode}
 use Rattle.reader.specs.Json.{Value}
 use Rattle.reader.specs.Limits.{maxBytes, maxDepth, nodes}
+use Rattle.reader.specs.Placing.{spanned}
 use Rattle.reader.specs.Reader.{json}
 use Rattle.reader.specs.Refusal.{Result, ok, refused, workTooSmall}
-use Rattle.reader.specs.Table.{afterAt, valueAt}
+use Rattle.reader.specs.Spans.{Node, size}
+use Rattle.reader.specs.Table.{afterAt, rows, valueAt}
 use Rattle.reader.specs.declared.answer.Read.{Read}
 use Rattle.reader.specs.declared.answer.Read.the-variants as reads
 
@@ -34,6 +36,7 @@ pub record Holds (s : Bytes) (w : List ℕ) (n : ℕ) : Type 0 where
   pub root : IsNode s w maxDepth 0
   pub count : n ≡ nodes (valueAt s w 0)
   pub after : afterAt w 0 ≡ n
+  pub spans : (t : Node) × (spanned s ≡ ok t) × (take (3 * size t) w ≡ rows t 0)
 
 unfoldable pub HoldsOf : Bytes → List ℕ → Read → Type 0
 HoldsOf s w (reads.Refused r) = Unit {0}
