@@ -3,15 +3,15 @@
 use mathlib.Core.List.{List}
 use mathlib.Core.Path.{refl, subst, sym, _≡_}
 use Prim.Native.Nat.{ℕ}
-use Rattle.line.specs.declared.answer.Answer.{Answer}
-use Rattle.reader.specs.Bytes.{Bytes}
+use Rattle.writer.specs.declared.answer.Answer.{Answer}
+use Rattle.json.specs.Bytes.{Bytes}
 use Rattle.rules.specs.Told.{Answered}
 use Rattle.sheet.specs.Accepted.{Accepted}
-use Rattle.sheet.specs.Condition.{Condition}
-use Rattle.sheet.specs.Sheet.{Sheet}
+use Rattle.members.specs.Condition.{Condition}
+use Rattle.members.specs.Sheet.{Sheet}
 use Rattle.sheet.specs.declared.shape.Members.{Members}
 use Rattle.decision.specs.Calls.{callOf, verdictOf}
-use Rattle.decision.specs.Entry.{admit, call, checkInvariants, checkPreconditions, decide, evaluate, select}
+use Rattle.answers.specs.Entry.{admit, call, checkInvariants, checkPreconditions, decide, evaluate, select}
 use Rattle.decision.specs.declared.call.Call.{Call}
 use Rattle.decision.specs.declared.call.Call.the-variants as calls
 

@@ -6,36 +6,36 @@ use mathlib.Core.Path.{ap, refl, subst, sym, _∙_, _≡_}
 use Prim.Native.Nat.{ℕ, _≤_}
 use native.Mathlib.Omega.{arith}
 use lib.ListN.{length}
-use Rattle.line.specs.Line.{refusalLine, refusalNumber}
-use Rattle.line.specs.Meaning.{Emitted, Held, meaning}
-use Rattle.line.specs.Reply.{lineSize}
-use Rattle.line.specs.Verdict.{Verdict}
-use Rattle.line.specs.declared.answer.Answer.{Answer}
-use Rattle.line.specs.declared.emit.Sent.{Sent}
-use Rattle.reader.specs.Bytes.{Bytes}
-use Rattle.reader.specs.Refusal.{Refusal, Result, ok, refused, _>>=_}
+use Rattle.answers.specs.Line.{refusalLine, refusalNumber}
+use Rattle.writer.specs.Meaning.{Emitted, Held, meaning}
+use Rattle.answers.specs.Reply.{lineSize}
+use Rattle.answers.specs.Verdict.{Verdict}
+use Rattle.writer.specs.declared.answer.Answer.{Answer}
+use Rattle.writer.specs.declared.answer.Sent.{Sent}
+use Rattle.json.specs.Bytes.{Bytes}
+use Rattle.json.specs.Refusal.{Refusal, Result, ok, refused, _>>=_}
 use Rattle.sheet.specs.Accepted.{Accepted}
-use Rattle.sheet.specs.Condition.{Condition}
-use Rattle.sheet.specs.Sheet.{Sheet, readSheet}
+use Rattle.members.specs.Condition.{Condition}
+use Rattle.members.specs.Sheet.{Sheet, readSheet}
 use Rattle.sheet.specs.declared.shape.Members.{Members}
 use Rattle.decision.specs.Called.{Called}
 use Rattle.decision.specs.Calls.{callOf, verdictOf}
-use Rattle.decision.specs.Entry.{Reply, call, enough, fitted, outputAfter, reply, workAfter}
+use Rattle.answers.specs.Entry.{Reply, call, enough, fitted, outputAfter, reply, workAfter}
 use Rattle.sheet.specs.Accepted.{Known}
-use Rattle.decision.specs.Opening.{Bounded, OpenedAs, Opening, Ready, Stopped, opening}
+use Rattle.opening.specs.Opening.{Bounded, OpenedAs, Opening, Ready, Stopped, opening}
 use Rattle.rules.specs.Told.{Answered}
 use Rattle.decision.specs.declared.call.Call.{Call}
-use Rattle.decision.specs.declared.open.Opened.{Opened}
-use Rattle.decision.specs.declared.open.Opened.the-variants as opened
+use Rattle.opening.specs.declared.open.Opened.{Opened}
+use Rattle.opening.specs.declared.open.Opened.the-variants as opened
 use Rattle.decision.proofs.Calls.{Answers, of-verdict}
-use Rattle.decision.proofs.Clearing.{same-left}
-use Rattle.decision.proofs.Opening.{sheet-opened}
-use Rattle.operands.proofs.Words.{same-row-word}
+use Rattle.opening.proofs.Clearing.{same-left}
+use Rattle.opening.proofs.Opening.{sheet-opened}
+use Rattle.paths.proofs.Words.{same-row-word}
 use Rattle.line.proofs.Bounds.{line-short, no-line, number-small}
-use Rattle.reader.proofs.Complete.{read-exactly}
-use Rattle.reader.specs.Json.{Value}
-use Rattle.reader.specs.Reader.{json}
-use Rattle.reader.specs.Table.{afterAt}
+use Rattle.json.proofs.Complete.{read-exactly}
+use Rattle.json.specs.Json.{Value}
+use Rattle.json.specs.Reader.{json}
+use Rattle.json.specs.Table.{afterAt}
 
 call-opened : (f : Sheet Condition → Result Verdict) (s : Bytes) (words size : ℕ) → call f s words size ≡ reply size (opening words s >>= f)
 unfolding call opening

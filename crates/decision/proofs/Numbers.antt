@@ -9,19 +9,19 @@ use Prim.Native.Nat.{ℕ, _≤_}
 use native.Mathlib.Omega.{arith}
 use lib.Dec.{leb}
 use lib.ListN.{length}
-use Rattle.line.specs.Line.{refusalLine, refusalNumber, verdictLine}
-use Rattle.line.specs.Reply.{Reply, fitted, lineSize, reply}
-use Rattle.line.specs.Verdict.{Verdict}
-use Rattle.line.specs.declared.emit.Sent.{Sent}
-use Rattle.reader.specs.Bytes.{Bytes}
-use Rattle.reader.specs.Refusal as refusals
-use Rattle.reader.specs.Refusal.{Refusal, Result, guardUnknown, invariants, noId, noInput, noOutcome, notASource, notCarried, notJson, notUtf8, numberTooLong, ok, preconditions, refused, repeatedName, ruleFalse, ruleUnknown, tooDeep, tooLong, tooManyNodes, unknownExpression, workTooSmall, wrongShape, wrongSheet, wrongState, _>>=_}
-use Rattle.sheet.specs.Condition.{Condition}
-use Rattle.sheet.specs.Sheet.{Sheet, readSheet}
+use Rattle.answers.specs.Line.{refusalLine, refusalNumber, verdictLine}
+use Rattle.answers.specs.Reply.{Reply, fitted, lineSize, reply}
+use Rattle.answers.specs.Verdict.{Verdict}
+use Rattle.writer.specs.declared.answer.Sent.{Sent}
+use Rattle.json.specs.Bytes.{Bytes}
+use Rattle.json.specs.Refusal as refusals
+use Rattle.json.specs.Refusal.{Refusal, Result, guardUnknown, invariants, noId, noInput, noOutcome, notASource, notCarried, notJson, notUtf8, numberTooLong, ok, preconditions, refused, repeatedName, ruleFalse, ruleUnknown, tooDeep, tooLong, tooManyNodes, unknownExpression, workTooSmall, wrongShape, wrongSheet, wrongState, _>>=_}
+use Rattle.members.specs.Condition.{Condition}
+use Rattle.members.specs.Sheet.{Sheet, readSheet}
 use Rattle.decision.specs.Called.{Called}
 use Rattle.decision.specs.Calls.{callOf, verdictOf}
-use Rattle.decision.specs.Entry.{call, enough}
-use Rattle.decision.specs.Ended.{Ended, answered, lineTooLong, withLine, withoutLine}
+use Rattle.answers.specs.Entry.{call, enough}
+use Rattle.answers.specs.Ended.{Ended, answered, lineTooLong, withLine, withoutLine}
 use Rattle.decision.specs.Replies.{Told}
 use Rattle.decision.specs.declared.call.Call.{Call}
 use Rattle.decision.proofs.Calls.{of-verdict}

@@ -8,22 +8,22 @@ use Prim.Native.Nat.{ℕ}
 use lib.Dec.{leb}
 use lib.ListN.{drop, length}
 use lib.Seq.{take-at}
-use Rattle.line.specs.Line.{endLine, eachLine, refusalForm, refusalLine, refusalNumber, verdictForm, verdictLine}
-use Rattle.line.specs.Reply.{lineSize}
-use Rattle.line.specs.Verdict.{Verdict}
-use Rattle.line.specs.declared.emit.Sent.{Sent}
-use Rattle.reader.specs.Bytes.{Bytes}
-use Rattle.reader.specs.Refusal.{Result, lineTooLong, ok, refused, _>>=_}
-use Rattle.sheet.specs.Sheet.{readSheet}
+use Rattle.answers.specs.Line.{endLine, eachLine, refusalForm, refusalLine, refusalNumber, verdictForm, verdictLine}
+use Rattle.answers.specs.Reply.{lineSize}
+use Rattle.answers.specs.Verdict.{Verdict}
+use Rattle.writer.specs.declared.answer.Sent.{Sent}
+use Rattle.json.specs.Bytes.{Bytes}
+use Rattle.json.specs.Refusal.{Result, lineTooLong, ok, refused, _>>=_}
+use Rattle.members.specs.Sheet.{readSheet}
 use Rattle.decision.specs.Again.{Again, lineIn, seen}
 use Rattle.decision.specs.Called.{Called, Replied}
-use Rattle.rules.specs.Decide.{decideCall}
-use Rattle.decision.specs.Demand.{Demand, Repeats}
-use Rattle.decision.specs.Entry.{Reply, call, decide, enough, fitted, outputAfter, reply}
+use Rattle.answers.specs.Decide.{decideCall}
+use Rattle.answers.specs.Demand.{Demand, Repeats}
+use Rattle.answers.specs.Entry.{Reply, call, decide, enough, fitted, outputAfter, reply}
 use Rattle.decision.specs.Replies.{sizeOf}
 use Rattle.decision.specs.declared.reply.Reply.{Reply as Case}
-use Rattle.decision.proofs.Clearing.{left-again}
-use Rattle.decision.proofs.Repeat.{demand}
+use Rattle.opening.proofs.Clearing.{left-again}
+use Rattle.answers.proofs.Repeat.{demand}
 
 -- ---- a line ends
 data Ended : Option Bytes → Type 0 where

@@ -4,10 +4,10 @@ use mathlib.Core.List.{List}
 use mathlib.Core.Option.{Option, none, some}
 use Prim.Native.Nat.{suc, zero, ℕ}
 use lib.ListN.{length, take}
-use Rattle.reader.specs.Bytes.{Bytes}
+use Rattle.json.specs.Bytes.{Bytes}
 use Rattle.decision.specs.Called.{Replied}
-use Rattle.decision.specs.Demand.{Repeats}
-use Rattle.decision.specs.Entry.{Reply, decide, workAfter}
+use Rattle.answers.specs.Demand.{Repeats}
+use Rattle.answers.specs.Entry.{Reply, decide, workAfter}
 use Rattle.decision.specs.Replies.{numberOf, sizeOf}
 use Rattle.decision.specs.declared.again.Twice.{Twice}
 use Rattle.decision.specs.declared.reply.Reply.{Reply as Case}

@@ -3,10 +3,10 @@
 use mathlib.Core.List.{List}
 use mathlib.Core.Path.{_≡_}
 use Prim.Native.Nat.{ℕ, _<_}
-use Rattle.line.specs.Reply.{lineSize}
-use Rattle.line.specs.declared.emit.Sent.{Sent}
-use Rattle.reader.specs.Bytes.{Bytes}
-use Rattle.decision.specs.Entry.{Reply, outputAfter, workAfter}
+use Rattle.answers.specs.Reply.{lineSize}
+use Rattle.writer.specs.declared.answer.Sent.{Sent}
+use Rattle.json.specs.Bytes.{Bytes}
+use Rattle.answers.specs.Entry.{Reply, outputAfter, workAfter}
 use Rattle.decision.specs.Replies.{numberOf, sizeOf}
 use Rattle.decision.specs.declared.reply.Reply.{Reply as Case}
 

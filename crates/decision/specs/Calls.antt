@@ -1,13 +1,13 @@
 -- What each of the six calls answers.
 -- Assumes nothing.
 use Prim.Native.Nat.{ℕ}
-use Rattle.line.specs.Verdict.{Verdict}
-use Rattle.reader.specs.Bytes.{Bytes}
-use Rattle.reader.specs.Refusal.{Result}
-use Rattle.rules.specs.Decide.{admitCall, decideCall, evaluateCall, invariantsCall, preconditionsCall, selectCall}
-use Rattle.sheet.specs.Condition.{Condition}
-use Rattle.sheet.specs.Sheet.{Sheet}
-use Rattle.decision.specs.Entry.{Reply, admit, checkInvariants, checkPreconditions, decide, evaluate, select}
+use Rattle.answers.specs.Verdict.{Verdict}
+use Rattle.json.specs.Bytes.{Bytes}
+use Rattle.json.specs.Refusal.{Result}
+use Rattle.answers.specs.Decide.{admitCall, decideCall, evaluateCall, invariantsCall, preconditionsCall, selectCall}
+use Rattle.members.specs.Condition.{Condition}
+use Rattle.members.specs.Sheet.{Sheet}
+use Rattle.answers.specs.Entry.{Reply, admit, checkInvariants, checkPreconditions, decide, evaluate, select}
 use Rattle.decision.specs.declared.call.Call.{Call}
 use Rattle.decision.specs.declared.call.Call.the-variants as calls
 

@@ -1,9 +1,4 @@
-pub mod Entry
-pub mod Demand
-pub mod Opening
 pub mod Replies
 pub mod Calls
 pub mod Called
-pub mod AlikeRules
 pub mod Again
-pub mod Ended

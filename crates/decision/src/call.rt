@@ -1,24 +1,24 @@
 // A call on a sheet's bytes: which of the six, and how it runs.
-use crate::open::Opened;
-use crate::open::open;
-use crate::work::clear;
-use crate::work::clear_rows;
-use line::answer::Answer;
-use line::emit::Sent;
+use calls::call::admit_call;
+use calls::call::decide_call;
+use calls::call::evaluate_call;
+use calls::call::invariants_call;
+use calls::call::preconditions_call;
+use calls::call::select_call;
 use line::emit::emit;
-use rules::call::admit_call;
-use rules::call::decide_call;
-use rules::call::evaluate_call;
-use rules::call::invariants_call;
-use rules::call::preconditions_call;
-use rules::call::select_call;
+use opening::open::Opened;
+use opening::open::open;
+use opening::work::clear;
+use opening::work::clear_rows;
 use sheet::shape::Members;
+use writer::answer::Answer;
+use writer::answer::Sent;
 ghost use Prim.Native.Nat.{_≤_};
 ghost use lib.ListN.{length};
 ghost use Rattle.rules.specs.Told.{Answered};
 ghost use Rattle.sheet.specs.Accepted.{Accepted, Known};
-ghost use Rattle.sheet.specs.Condition.{Condition};
-ghost use Rattle.sheet.specs.Sheet.{Sheet};
+ghost use Rattle.members.specs.Condition.{Condition};
+ghost use Rattle.members.specs.Sheet.{Sheet};
 ghost use Rattle.decision.specs.Called.{Called};
 ghost use Rattle.decision.specs.Calls.{callOf, verdictOf};
 

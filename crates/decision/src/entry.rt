@@ -6,7 +6,7 @@ use crate::reply::case_of;
 ghost use lib.ListN.{length};
 ghost use Rattle.decision.specs.Called.{Replied};
 ghost use Rattle.decision.specs.Calls.{callOf};
-ghost use Rattle.decision.specs.Entry.{admit, checkInvariants, checkPreconditions, decide, evaluate, select};
+ghost use Rattle.answers.specs.Entry.{admit, checkInvariants, checkPreconditions, decide, evaluate, select};
 
 // The call, its number and size as a case.
 fn reply(sheet: &[u8], work: &mut [u32], out: &mut [u8], call: Call) -> Reply

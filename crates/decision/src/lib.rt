@@ -2,7 +2,5 @@
 pub mod again;
 mod call;
 pub mod entry;
-mod open;
 pub mod reply;
 pub mod sent;
-mod work;

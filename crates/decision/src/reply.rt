@@ -1,5 +1,5 @@
 // What an entry answers: a case for each number, with the length of the line where there is one.
-use line::emit::Sent;
+use writer::answer::Sent;
 ghost use mathlib.Core.Path.{_≡_};
 ghost use Rattle.decision.specs.Replies.{Told, numberOf, sizeOf};
 

@@ -1,10 +1,10 @@
 // The calls on a sheet's bytes, answered by number and size.
 use crate::call::Call;
 use crate::call::run;
-use line::emit::Sent;
+use writer::answer::Sent;
 ghost use lib.ListN.{length};
 ghost use Rattle.decision.specs.Called.{Called};
-ghost use Rattle.decision.specs.Entry.{admit, checkInvariants, checkPreconditions, decide, evaluate, select};
+ghost use Rattle.answers.specs.Entry.{admit, checkInvariants, checkPreconditions, decide, evaluate, select};
 
 // The truth of the sheet's condition, with its names.
 pub fn evaluate(sheet: &[u8], work: &mut [u32], out: &mut [u8]) -> Sent

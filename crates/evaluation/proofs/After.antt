@@ -10,33 +10,33 @@ use native.Mathlib.Omega.{arith}
 use lib.Dec.{eqb, ltb}
 use lib.ListN.{getD, length}
 use borrow.Author.Tests.{eqb-false, eqb-true, ltb-true}
-use Rattle.reader.proofs.Decoded.{length-rows, length-rowsIn}
-use Rattle.reader.proofs.Prefix.{begins-prefix}
-use Rattle.reader.proofs.Walk.{after-node, members-more, value-is, values-are}
-use Rattle.reader.specs.Bytes.{Bytes}
-use Rattle.reader.specs.Held.{AreMembers, AreNodes, Begins, HasMembers, HasNode, IsNode, NodeAt, NodesAt}
-use Rattle.reader.specs.Json.{Value, Values, elements}
-use Rattle.reader.specs.KeyOrder.{inOrder, namesAt, namesBy, nodesOf}
-use Rattle.reader.specs.Limits.{maxNumber, tidy, tidyIn}
-use Rattle.reader.specs.Links.{Linked, LinkedAt, linkAt, linkedBy}
-use Rattle.reader.specs.Marks.{isMarked, marked, markedFrom}
-use Rattle.reader.specs.Refusal.{Result, ok}
-use Rattle.reader.specs.Sorted.{sorted, sortedIn}
-use Rattle.reader.specs.Spans.{textAt}
-use Rattle.reader.specs.Table.{afterAt, kindAt, rows, rowsIn, startAt, valueAt, valuesAt}
-use Rattle.reader.specs.declared.rows.Found.{Found}
-use Rattle.reader.specs.declared.rows.Found.the-variants as founds
+use Rattle.json.proofs.Decoded.{length-rows, length-rowsIn}
+use Rattle.json.proofs.Prefix.{begins-prefix}
+use Rattle.json.proofs.Walk.{after-node, members-more, value-is, values-are}
+use Rattle.json.specs.Bytes.{Bytes}
+use Rattle.json.specs.Held.{AreMembers, AreNodes, Begins, HasMembers, HasNode, IsNode, NodeAt, NodesAt}
+use Rattle.json.specs.Json.{Value, Values, elements}
+use Rattle.json.specs.KeyOrder.{inOrder, namesAt, namesBy, nodesOf}
+use Rattle.json.specs.Limits.{maxNumber, tidy, tidyIn}
+use Rattle.json.specs.Links.{Linked, LinkedAt, linkAt, linkedBy}
+use Rattle.json.specs.Marks.{isMarked, marked, markedFrom}
+use Rattle.json.specs.Refusal.{Result, ok}
+use Rattle.json.specs.Sorted.{sorted, sortedIn}
+use Rattle.json.specs.Spans.{textAt}
+use Rattle.json.specs.Table.{afterAt, kindAt, rows, rowsIn, startAt, valueAt, valuesAt}
+use Rattle.strings.specs.declared.rows.Found.{Found}
+use Rattle.strings.specs.declared.rows.Found.the-variants as founds
 use Rattle.sheet.specs.Accepted.{Accepted, EachGives, Gives, MayGive, Stored}
-use Rattle.sheet.specs.Condition.{Condition, condition}
-use Rattle.sheet.specs.Kinds.{aText, eachOf}
-use Rattle.sheet.specs.Sheet.{Sheet}
+use Rattle.members.specs.Condition.{Condition, condition}
+use Rattle.members.specs.Kinds.{aText, eachOf}
+use Rattle.members.specs.Sheet.{Sheet}
 use Rattle.sheet.specs.declared.shape.Members.{Members}
 use Rattle.semantics.proofs.Names.{ascending-set}
 use Rattle.semantics.specs.Names.{Named, Names, ascending}
-use Rattle.operands.proofs.Trees.{object-row}
-use Rattle.operands.proofs.Words.{row-word, same-link, same-row-word, same-rows, table-twice}
-use Rattle.operands.specs.Marks.{Left, Marked}
-use Rattle.operands.specs.Stored.{table}
+use Rattle.paths.proofs.Trees.{object-row}
+use Rattle.paths.proofs.Words.{row-word, same-link, same-row-word, same-rows, table-twice}
+use Rattle.paths.specs.Marks.{Left, Marked}
+use Rattle.paths.specs.Stored.{table}
 
 -- ---- words of the rows
 begins-rows : (w w′ : List ℕ) (i : ℕ) (vs : List ℕ) → table w′ ≡ table w → i + length vs ≤ 12288 → Begins w i vs → Begins w′ i vs

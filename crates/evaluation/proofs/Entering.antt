@@ -6,39 +6,39 @@ use mathlib.Core.Path.{ap, subst, sym, _∙_, _≡_}
 use Prim.Native.Nat.{suc, zero, ℕ, _≤_}
 use native.Mathlib.Omega.{arith}
 use lib.ListN.{length}
-use Rattle.reader.proofs.Complete.{read-exactly}
-use Rattle.reader.proofs.Walk.{value-is}
-use Rattle.reader.specs.Bytes.{Bytes}
-use Rattle.reader.specs.Held.{IsNode}
-use Rattle.reader.specs.Json.{Members, Value}
-use Rattle.reader.specs.Limits.{depth, depthIn, depthOf}
-use Rattle.reader.specs.Reader.{json}
-use Rattle.reader.specs.Refusal.{Result, ok, wrongSheet, _>>=_}
-use Rattle.reader.specs.Sorted.{sorted}
-use Rattle.reader.specs.Spans.{Fields, Node, Nodes, Plain, arr, deep, deepIn, deepOf, erase, eraseIn, eraseOf, field, isFalse, isNull, isNumber, isText, isTrue, leaf, noField, noNode, node, obj}
-use Rattle.reader.specs.Table.{valueAt}
-use Rattle.reader.specs.declared.rows.Found.{Found}
-use Rattle.reader.specs.declared.rows.Found.the-variants as founds
+use Rattle.json.proofs.Complete.{read-exactly}
+use Rattle.json.proofs.Walk.{value-is}
+use Rattle.json.specs.Bytes.{Bytes}
+use Rattle.json.specs.Held.{IsNode}
+use Rattle.json.specs.Json.{Members, Value}
+use Rattle.json.specs.Limits.{depth, depthIn, depthOf}
+use Rattle.json.specs.Reader.{json}
+use Rattle.json.specs.Refusal.{Result, ok, wrongSheet, _>>=_}
+use Rattle.json.specs.Sorted.{sorted}
+use Rattle.json.specs.Spans.{Fields, Node, Nodes, Plain, arr, deep, deepIn, deepOf, erase, eraseIn, eraseOf, field, isFalse, isNull, isNumber, isText, isTrue, leaf, noField, noNode, node, obj}
+use Rattle.json.specs.Table.{valueAt}
+use Rattle.strings.specs.declared.rows.Found.{Found}
+use Rattle.strings.specs.declared.rows.Found.the-variants as founds
 use Rattle.sheet.proofs.Given.{object-given, text-given, version-given}
-use Rattle.sheet.proofs.Shapes.{text-at}
-use Rattle.sheet.proofs.Verdicts.{never}
+use Rattle.members.proofs.Shapes.{text-at}
+use Rattle.members.proofs.Verdicts.{never}
 use Rattle.sheet.specs.Accepted.{Accepted, Gives, Known, MayGive, nodeOf}
-use Rattle.sheet.specs.Condition.{Condition, condition}
-use Rattle.sheet.specs.Kinds.{aText, aVersion, anObject}
-use Rattle.sheet.specs.Sheet.{Sheet, aSheet, checked, readSheet}
+use Rattle.members.specs.Condition.{Condition, condition}
+use Rattle.members.specs.Kinds.{aText, aVersion, anObject}
+use Rattle.members.specs.Sheet.{Sheet, aSheet, checked, orNoSheet, readSheet, sheetIn}
 use Rattle.sheet.specs.declared.shape.Members.{Members as Places}
 use Rattle.semantics.specs.Evaluate.{evaluate}
 use Rattle.semantics.specs.Semantics.{kernel}
-use Rattle.operands.specs.Ready.{Ready}
-use Rattle.operands.specs.Rooted.{IsNumber, IsObject, IsText, MayBeText, Rooted, orNone, sheetIn}
-use Rattle.operands.specs.Stack.{Named, top}
-use Rattle.operands.specs.Stored.{Bound, fieldsOf, framed, framesOf, table, tree}
-use Rattle.operands.specs.declared.frames.Frames.{Frames}
-use Rattle.operands.specs.declared.roots.Roots.{Roots}
-use Rattle.evaluation.specs.Answers.{EvaluatedAs}
-use Rattle.evaluation.specs.Entry.{rootsOf}
-use Rattle.evaluation.specs.Judge.{judge}
-use Rattle.evaluation.specs.declared.comparison.Outcome.{Outcome}
+use Rattle.paths.specs.Ready.{Ready}
+use Rattle.paths.specs.Rooted.{IsNumber, IsObject, IsText, MayBeText, Rooted}
+use Rattle.paths.specs.Stack.{Named, top}
+use Rattle.paths.specs.Stored.{Bound, fieldsOf, framed, framesOf, table, tree}
+use Rattle.paths.specs.declared.frames.Frames.{Frames}
+use Rattle.paths.specs.declared.roots.Roots.{Roots}
+use Rattle.comparison.specs.Answers.{EvaluatedAs}
+use Rattle.comparison.specs.Entry.{rootsOf}
+use Rattle.comparison.specs.Judge.{judge}
+use Rattle.comparison.specs.declared.comparison.Outcome.{Outcome}
 use Rattle.evaluation.proofs.After.{gives-table, linked-table}
 use Rattle.evaluation.proofs.Limits.{condition-low, judge-read, sorted-depth}
 
@@ -101,7 +101,7 @@ module _ {s : Bytes} {w : List ℕ} {m : Places} {sheet : Sheet Condition} (a : 
 
   sheet-is : sheetIn s ≡ sheet
   unfolding sheetIn
-  sheet-is = ap orNone (a .reads)
+  sheet-is = ap orNoSheet (a .reads)
 
   pub rooted : Rooted (sheetIn s) s (table w) (rootsOf m)
   unfolding rootsOf

@@ -8,16 +8,16 @@ use native.Mathlib.Omega.{arith}
 use lib.Dec.{ltb}
 use lib.ListN.{length}
 use borrow.Author.Tests.{ltb-false, ltb-true}
-use Rattle.reader.proofs.Laws.{bind-ok, bind-refused, ok-injective, sameBytes-refl}
-use Rattle.reader.proofs.Walk.{find-here, members-done, values-more}
-use Rattle.reader.specs.Bytes.{Bytes, find}
-use Rattle.reader.specs.Held.{HasNode}
-use Rattle.reader.specs.Json.{Value, Values, object}
-use Rattle.reader.specs.Limits.{depth, depthIn}
-use Rattle.reader.specs.Refusal.{Result, ok, wrongShape, _>>=_}
-use Rattle.reader.specs.Sorted.{sorted, sortedIn}
-use Rattle.reader.specs.Spans.{textAt}
-use Rattle.reader.specs.Table.{afterAt, kindAt, startAt, valueAt, valuesAt}
+use Rattle.json.proofs.Laws.{bind-ok, bind-refused, ok-injective, sameBytes-refl}
+use Rattle.json.proofs.Walk.{find-here, members-done, values-more}
+use Rattle.json.specs.Bytes.{Bytes, find}
+use Rattle.json.specs.Held.{HasNode}
+use Rattle.json.specs.Json.{Value, Values, object}
+use Rattle.json.specs.Limits.{depth, depthIn}
+use Rattle.json.specs.Refusal.{Result, ok, wrongShape, _>>=_}
+use Rattle.json.specs.Sorted.{sorted, sortedIn}
+use Rattle.json.specs.Spans.{textAt}
+use Rattle.json.specs.Table.{afterAt, kindAt, startAt, valueAt, valuesAt}
 use Rattle.semantics.specs.Evaluate.{Answer}
 use Rattle.semantics.specs.Names.{Names}
 use Rattle.semantics.specs.Told.{truthOf}
@@ -27,26 +27,26 @@ use Rattle.semantics.specs.declared.truth.Truth.the-variants as truths
 use Rattle.sheet.proofs.Given.{ObjectHere, object-here}
 use Rattle.sheet.specs.Accepted.{ConditionsGive, Gives, Known}
 use Rattle.sheet.proofs.GivenConditions.{NextCondition, OneMember, conditions-done, conditions-next, given-exists, given-junction, given-negation, given-pair, literal-false, literal-true, one-member}
-use Rattle.sheet.proofs.Shapes.{object-at}
-use Rattle.sheet.proofs.Verdicts.{never}
-use Rattle.sheet.specs.Answers.{formOf, modeOf, operatorOf}
-use Rattle.sheet.specs.Condition.{Condition, Conditions, Mode, condition, conditionArray, conditionObject, exists, formed, negation, oneMember, operators, pair}
-use Rattle.sheet.specs.Sheet.{Sheet}
-use Rattle.sheet.specs.declared.condition.Form.{Form as CodeForm}
-use Rattle.sheet.specs.declared.condition.Mode.{Mode as CodeMode}
-use Rattle.sheet.specs.declared.condition.Operator.{Operator as CodeOperator}
-use Rattle.sheet.specs.declared.condition.Operator.the-variants as ops
-use Rattle.operands.proofs.Marking.{left-none, left-then}
-use Rattle.operands.proofs.Ordered.{node-below}
-use Rattle.operands.specs.Lazy as lazy
-use Rattle.operands.specs.Marks.{Left}
-use Rattle.operands.specs.Stored.{HasKind, table, tree}
-use Rattle.evaluation.specs.Answers.{EvaluatedAs, Marks, outcomeOf}
+use Rattle.members.proofs.Shapes.{object-at}
+use Rattle.members.proofs.Verdicts.{never}
+use Rattle.members.specs.Answers.{formOf, modeOf, operatorOf}
+use Rattle.members.specs.Condition.{Condition, Conditions, Mode, condition, conditionArray, conditionObject, exists, formed, negation, oneMember, operators, pair}
+use Rattle.members.specs.Sheet.{Sheet}
+use Rattle.members.specs.declared.told.Form.{Form as CodeForm}
+use Rattle.members.specs.declared.told.Mode.{Mode as CodeMode}
+use Rattle.members.specs.declared.told.Operator.{Operator as CodeOperator}
+use Rattle.members.specs.declared.told.Operator.the-variants as ops
+use Rattle.resolving.proofs.Marking.{left-none, left-then}
+use Rattle.paths.proofs.Ordered.{node-below}
+use Rattle.paths.specs.Lazy as lazy
+use Rattle.paths.specs.Marks.{Left}
+use Rattle.paths.specs.Stored.{HasKind, table, tree}
+use Rattle.comparison.specs.Answers.{EvaluatedAs, Marks, outcomeOf}
 use Rattle.evaluation.specs.Conditions.{Negated, QuantifierAt}
-use Rattle.evaluation.specs.Judge.{judge, judgeAll}
-use Rattle.evaluation.specs.declared.comparison.Outcome.{Outcome}
-use Rattle.evaluation.specs.declared.comparison.Outcome.the-variants as outcomes
-use Rattle.evaluation.proofs.Joined.{Joining, joining-last, joining-none, joining-twice}
+use Rattle.comparison.specs.Judge.{judge, judgeAll}
+use Rattle.comparison.specs.declared.comparison.Outcome.{Outcome}
+use Rattle.comparison.specs.declared.comparison.Outcome.the-variants as outcomes
+use Rattle.comparison.proofs.Joined.{Joining, joining-last, joining-none, joining-twice}
 use Rattle.evaluation.proofs.Shallow.{array-depth, member-shallow, pair-shallow}
 
 -- ---- a condition by its kind

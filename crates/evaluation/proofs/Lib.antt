@@ -1,10 +1,6 @@
-pub mod Judge
 pub mod Limits
-pub mod Samples
-pub mod Judging
 pub mod After
 pub mod Entering
-pub mod Joined
 pub mod Shallow
 pub mod Junctions
 pub mod Quantifiers

@@ -5,23 +5,23 @@ use mathlib.Core.List.{[]}
 use mathlib.Core.Option.{some}
 use Prim.Native.Nat.{_≤_, max, Ordering, Ordering·lt, Ordering·eq, Ordering·gt}
 use native.Mathlib.Omega.{arith}
-use Rattle.operands.proofs.Nesting.{Low, LowSheet, Shallow, members-low}
+use Rattle.paths.proofs.Nesting.{Low, LowSheet, Shallow, members-low}
 use Rattle.semantics.proofs.Parts.{All, Hereditary, condition-has, find-entry, sheet-has}
 use Rattle.semantics.specs.Semantics.{kernel}
-use Rattle.reader.proofs.Complete.{read-exactly}
-use Rattle.reader.proofs.Sound.{bind-with}
-use Rattle.reader.specs.Bytes.{Bytes, find, orderBytes}
-use Rattle.reader.specs.Json.{Members, Value, Values, array, bool, cons, elements, empty, entries, member, nil, null, number, object, text}
-use Rattle.reader.specs.Limits.{depth, depthIn, depthOf}
-use Rattle.reader.specs.Reader.{json}
-use Rattle.reader.specs.Refusal.{ok}
-use Rattle.reader.specs.Sorted.{insert, sorted, sortedIn, sortedOf}
-use Rattle.sheet.specs.Condition.{Condition, condition}
-use Rattle.sheet.specs.Kinds.{anObject, notNull}
-use Rattle.sheet.specs.Sheet.{Sheet, aSheet, readSheet, sound, written}
+use Rattle.json.proofs.Complete.{read-exactly}
+use Rattle.json.proofs.Sound.{bind-with}
+use Rattle.json.specs.Bytes.{Bytes, find, orderBytes}
+use Rattle.json.specs.Json.{Members, Value, Values, array, bool, cons, elements, empty, entries, member, nil, null, number, object, text}
+use Rattle.json.specs.Limits.{depth, depthIn, depthOf}
+use Rattle.json.specs.Reader.{json}
+use Rattle.json.specs.Refusal.{ok}
+use Rattle.json.specs.Sorted.{insert, sorted, sortedIn, sortedOf}
+use Rattle.members.specs.Condition.{Condition, condition}
+use Rattle.members.specs.Kinds.{anObject, notNull}
+use Rattle.members.specs.Sheet.{Sheet, aSheet, readSheet, sound, written}
 use Rattle.semantics.specs.Evaluate.{evaluate}
-use Rattle.evaluation.specs.Judge.{judge}
-use Rattle.evaluation.proofs.Judge.{judge-whole}
+use Rattle.comparison.specs.Judge.{judge}
+use Rattle.comparison.proofs.Judge.{judge-whole}
 
 -- sorting adds no bracket
 insert-depth : (k : Bytes) (v : Value) (ms : Members) → depthOf (insert k v ms) ≤ max (depth v) (depthOf ms)

@@ -9,19 +9,19 @@ use native.Mathlib.Omega.{arith}
 use lib.Dec.{eqb}
 use lib.ListN.{length}
 use borrow.Author.Tests.{eqb-false, eqb-true}
-use Rattle.reader.proofs.Laws.{bind-ok}
-use Rattle.reader.specs.Answers.{FoundIn, FoundTold, foundOf}
-use Rattle.reader.specs.Bytes.{Bytes, ascii, find}
-use Rattle.reader.specs.Cursor.{OnText}
-use Rattle.reader.specs.Held.{AreMembers, HasNode, IsNode}
-use Rattle.reader.specs.Json.{Members, Value, entries, object}
-use Rattle.reader.specs.Limits.{depth}
-use Rattle.reader.specs.Links.{Linked}
-use Rattle.reader.specs.Refusal.{Refusal, Result, ok, refused, _>>=_}
-use Rattle.reader.specs.Spans.{textAt}
-use Rattle.reader.specs.Table.{afterAt, kindAt, membersAt, startAt, valueAt}
-use Rattle.reader.specs.declared.rows.Found.{Found}
-use Rattle.reader.specs.declared.rows.Found.the-variants as founds
+use Rattle.json.proofs.Laws.{bind-ok}
+use Rattle.strings.specs.Answers.{FoundIn, FoundTold, foundOf}
+use Rattle.json.specs.Bytes.{Bytes, ascii, find}
+use Rattle.json.specs.Cursor.{OnText}
+use Rattle.json.specs.Held.{AreMembers, HasNode, IsNode}
+use Rattle.json.specs.Json.{Members, Value, entries, object}
+use Rattle.json.specs.Limits.{depth}
+use Rattle.json.specs.Links.{Linked}
+use Rattle.json.specs.Refusal.{Refusal, Result, ok, refused, _>>=_}
+use Rattle.json.specs.Spans.{textAt}
+use Rattle.json.specs.Table.{afterAt, kindAt, membersAt, startAt, valueAt}
+use Rattle.strings.specs.declared.rows.Found.{Found}
+use Rattle.strings.specs.declared.rows.Found.the-variants as founds
 use Rattle.semantics.specs.Evaluate.{Answer, joined, unknown}
 use Rattle.semantics.specs.Names.{Names}
 use Rattle.semantics.specs.Operand.{Resolved}
@@ -31,46 +31,46 @@ use Rattle.semantics.specs.declared.truth.Truth as code
 use Rattle.semantics.specs.declared.truth.Truth.the-variants as truths
 use Rattle.sheet.proofs.Given.{ObjectHere, text-given}
 use Rattle.sheet.proofs.GivenConditions.{quantified-here}
-use Rattle.sheet.proofs.Shapes.{object-at}
-use Rattle.sheet.proofs.Walks.{full-members}
+use Rattle.members.proofs.Shapes.{object-at}
+use Rattle.members.proofs.Walks.{full-members}
 use Rattle.sheet.specs.Accepted.{Gives, Known, nodeOf}
-use Rattle.sheet.specs.Answers.{Located}
-use Rattle.sheet.specs.Condition.{Condition, Mode, condition, quantified}
-use Rattle.sheet.specs.Sheet.{Sheet}
-use Rattle.operands.proofs.Alike.{value-there, walk-begins, walk-kids, walk-named}
-use Rattle.operands.proofs.Layered.{array-is, array-kind, class-is, class-small, object-is, object-kind, shape-kind, shapeClass}
-use Rattle.operands.proofs.Marking.{left-none, left-then}
-use Rattle.operands.proofs.Ordered.{child-end, child-given, node-below}
-use Rattle.operands.proofs.Words.{row-word, table-twice}
-use Rattle.operands.specs.Children.{ChildAt, ChildrenAt, Given, begun, childrenOf, nextOf}
-use Rattle.operands.specs.Comparing.{shape}
-use Rattle.operands.specs.Layered.{classOf, eachName, eachNode, kids, partAt, shapeOf, valueNode}
-use Rattle.operands.specs.Lazy as lazy
-use Rattle.operands.specs.Lazy.{operand}
-use Rattle.operands.specs.Marks.{Left, ResolvedAs}
-use Rattle.operands.specs.Matched.{Holds}
-use Rattle.operands.specs.Ready.{Ready}
-use Rattle.operands.specs.Shape.{Shape, collected, digits, fields, items, nothing, seconds, truth, words}
-use Rattle.operands.specs.Stack.{Named, Small, held}
-use Rattle.operands.specs.Stored.{Bound, HasKind, Means, OperandAt, framed, framesOf, operandOf, table, tree}
-use Rattle.operands.specs.declared.children.Child.{Child}
-use Rattle.operands.specs.declared.children.Child.the-variants as child
-use Rattle.operands.specs.declared.children.Children.{Children}
-use Rattle.operands.specs.declared.children.Next.{Next}
-use Rattle.operands.specs.declared.frames.Frames.{Frames}
-use Rattle.operands.specs.declared.operand.Operand.{Operand}
-use Rattle.operands.specs.declared.resolve.Resolved as code-resolved
-use Rattle.operands.specs.declared.resolve.Resolved.the-variants as answers
-use Rattle.operands.specs.declared.roots.Roots.{Roots}
-use Rattle.evaluation.specs.Answers.{EvaluatedAs, Marks, outcomeOf}
+use Rattle.members.specs.Answers.{Located}
+use Rattle.members.specs.Condition.{Condition, Mode, condition, quantified}
+use Rattle.members.specs.Sheet.{Sheet}
+use Rattle.resolving.proofs.Alike.{value-there, walk-begins, walk-kids, walk-named}
+use Rattle.resolving.proofs.Layered.{array-is, array-kind, class-is, class-small, object-is, object-kind, shape-kind, shapeClass}
+use Rattle.resolving.proofs.Marking.{left-none, left-then}
+use Rattle.paths.proofs.Ordered.{child-end, child-given, node-below}
+use Rattle.paths.proofs.Words.{row-word, table-twice}
+use Rattle.paths.specs.Children.{ChildAt, ChildrenAt, Given, begun, childrenOf, nextOf}
+use Rattle.paths.specs.Comparing.{shape}
+use Rattle.paths.specs.Layered.{classOf, eachName, eachNode, kids, partAt, shapeOf, valueNode}
+use Rattle.paths.specs.Lazy as lazy
+use Rattle.paths.specs.Lazy.{operand}
+use Rattle.paths.specs.Marks.{Left, ResolvedAs}
+use Rattle.paths.specs.Matched.{Holds}
+use Rattle.paths.specs.Ready.{Ready}
+use Rattle.paths.specs.Shape.{Shape, collected, digits, fields, items, nothing, seconds, truth, words}
+use Rattle.paths.specs.Stack.{Named, Small, held}
+use Rattle.paths.specs.Stored.{Bound, HasKind, Means, OperandAt, framed, framesOf, operandOf, table, tree}
+use Rattle.paths.specs.declared.children.Child.{Child}
+use Rattle.paths.specs.declared.children.Child.the-variants as child
+use Rattle.paths.specs.declared.children.Children.{Children}
+use Rattle.paths.specs.declared.children.Next.{Next}
+use Rattle.paths.specs.declared.frames.Frames.{Frames}
+use Rattle.paths.specs.declared.operand.Operand.{Operand}
+use Rattle.paths.specs.declared.operand.Resolved as code-resolved
+use Rattle.paths.specs.declared.operand.Resolved.the-variants as answers
+use Rattle.paths.specs.declared.roots.Roots.{Roots}
+use Rattle.comparison.specs.Answers.{EvaluatedAs, Marks, outcomeOf}
 use Rattle.evaluation.specs.Conditions.{QuantifierAt, QuantifierParts, eachOf}
-use Rattle.evaluation.specs.Judge.{inTurn, judge, overOf}
-use Rattle.evaluation.specs.declared.comparison.Outcome.{Outcome}
-use Rattle.evaluation.specs.declared.comparison.Outcome.the-variants as outcomes
+use Rattle.comparison.specs.Judge.{inTurn, judge, overOf}
+use Rattle.comparison.specs.declared.comparison.Outcome.{Outcome}
+use Rattle.comparison.specs.declared.comparison.Outcome.the-variants as outcomes
 use Rattle.evaluation.specs.declared.condition.Quantifier.{Quantifier}
 use Rattle.evaluation.proofs.After.{node-rows}
-use Rattle.evaluation.proofs.Joined.{Joining, joining-last, joining-none, joining-twice}
-use Rattle.evaluation.proofs.Judging.{is-missing, is-present, no-id-first, unknown-first}
+use Rattle.comparison.proofs.Joined.{Joining, joining-last, joining-none, joining-twice}
+use Rattle.comparison.proofs.Judging.{is-missing, is-present, no-id-first, unknown-first}
 use Rattle.evaluation.proofs.Shallow.{member-shallow}
 
 -- ---- its members

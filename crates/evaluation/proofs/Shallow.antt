@@ -5,19 +5,19 @@ use mathlib.Core.Option.{some}
 use mathlib.Core.Path.{ap, refl, sym, _∙_, _≡_}
 use Prim.Native.Nat.{ℕ, _+_, _<_}
 use native.Mathlib.Omega.{arith}
-use Rattle.reader.proofs.Laws.{ok-injective}
-use Rattle.reader.specs.Bytes.{Bytes, find}
-use Rattle.reader.specs.Json.{Value, array, bool, cons, entries, nil, null, number, object, text}
-use Rattle.reader.specs.Limits.{depth, depthIn, depthOf}
-use Rattle.reader.specs.Refusal.{ok, wrongShape}
-use Rattle.reader.specs.Sorted.{sorted, sortedIn, sortedOf}
-use Rattle.reader.specs.Table.{afterAt, membersAt, valueAt, valuesAt}
+use Rattle.json.proofs.Laws.{ok-injective}
+use Rattle.json.specs.Bytes.{Bytes, find}
+use Rattle.json.specs.Json.{Value, array, bool, cons, entries, nil, null, number, object, text}
+use Rattle.json.specs.Limits.{depth, depthIn, depthOf}
+use Rattle.json.specs.Refusal.{ok, wrongShape}
+use Rattle.json.specs.Sorted.{sorted, sortedIn, sortedOf}
+use Rattle.json.specs.Table.{afterAt, membersAt, valueAt, valuesAt}
 use Rattle.sheet.proofs.Given.{ObjectHere}
 use Rattle.sheet.proofs.SortedMembers.{find-sorted, mapped}
-use Rattle.sheet.proofs.Verdicts.{never}
-use Rattle.sheet.specs.Condition.{Condition, Form, pair, twoOf}
-use Rattle.operands.proofs.Trees.{array-row}
-use Rattle.operands.specs.Stored.{HasKind, itemsOf, tree}
+use Rattle.members.proofs.Verdicts.{never}
+use Rattle.members.specs.Condition.{Condition, Form, pair, twoOf}
+use Rattle.paths.proofs.Trees.{array-row}
+use Rattle.paths.specs.Stored.{HasKind, itemsOf, tree}
 use Rattle.evaluation.proofs.Limits.{find-shallow}
 
 module _ {s : Bytes} {t : List ℕ} {n : ℕ} where

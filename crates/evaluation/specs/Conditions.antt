@@ -4,26 +4,26 @@ use mathlib.Core.List.{List, _∷_}
 use mathlib.Core.Bool.{true}
 use mathlib.Core.Path.{_≡_}
 use Prim.Native.Nat.{ℕ, _<_}
-use Rattle.reader.specs.Bytes.{Bytes}
-use Rattle.reader.specs.Held.{HasNode, IsNode}
-use Rattle.reader.specs.Limits.{depth, maxNumber, tidy}
-use Rattle.reader.specs.Refusal.{Result, ok, _>>=_}
-use Rattle.reader.specs.Sorted.{sorted}
-use Rattle.reader.specs.Spans.{textAt}
-use Rattle.reader.specs.Table.{startAt, valueAt}
+use Rattle.json.specs.Bytes.{Bytes}
+use Rattle.json.specs.Held.{HasNode, IsNode}
+use Rattle.json.specs.Limits.{depth, maxNumber, tidy}
+use Rattle.json.specs.Refusal.{Result, ok, _>>=_}
+use Rattle.json.specs.Sorted.{sorted}
+use Rattle.json.specs.Spans.{textAt}
+use Rattle.json.specs.Table.{startAt, valueAt}
 use Rattle.semantics.specs.Evaluate.{Answer}
 use Rattle.semantics.specs.Operand.{present}
 use Rattle.semantics.specs.Told.{truthOf}
 use Rattle.semantics.specs.Truth.{negate}
 use Rattle.semantics.specs.declared.truth.Truth.{Truth}
 use Rattle.sheet.specs.Accepted.{Gives}
-use Rattle.sheet.specs.Condition.{Condition, Mode, condition, conditionObject, quantified, quantifier}
-use Rattle.sheet.specs.Sheet.{Sheet}
-use Rattle.operands.specs.Lazy.{Frames, Operand}
-use Rattle.operands.specs.Stored.{HasKind, tree}
-use Rattle.evaluation.specs.Judge.{judge, overOf}
-use Rattle.evaluation.specs.declared.comparison.Outcome.{Outcome}
-use Rattle.evaluation.specs.declared.comparison.Outcome.the-variants as outcomes
+use Rattle.members.specs.Condition.{Condition, Mode, condition, conditionObject, quantified, quantifier}
+use Rattle.members.specs.Sheet.{Sheet}
+use Rattle.paths.specs.Lazy.{Frames, Operand}
+use Rattle.paths.specs.Stored.{HasKind, tree}
+use Rattle.comparison.specs.Judge.{judge, overOf}
+use Rattle.comparison.specs.declared.comparison.Outcome.{Outcome}
+use Rattle.comparison.specs.declared.comparison.Outcome.the-variants as outcomes
 use Rattle.evaluation.specs.declared.condition.Quantifier.{Quantifier}
 
 -- the opposite truth, or the same refusal

@@ -1,4 +1,1 @@
-pub mod Judge
-pub mod Answers
-pub mod Entry
 pub mod Conditions

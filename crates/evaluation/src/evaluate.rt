@@ -1,19 +1,19 @@
 // A condition of an accepted sheet, from outside every binder.
-use crate::comparison::Outcome;
-use operands::frames::Frames;
-use operands::roots::Roots;
+use comparison::comparison::Outcome;
+use paths::frames::Frames;
+use paths::roots::Roots;
 use sheet::shape::Members;
 ghost use mathlib.Core.List.{[]};
 ghost use mathlib.Core.Path.{_≡_};
 ghost use Prim.Native.Nat.{_≤_};
 ghost use lib.ListN.{length};
 ghost use Rattle.sheet.specs.Accepted.{Accepted, Gives, Known};
-ghost use Rattle.sheet.specs.Condition.{Condition, condition};
-ghost use Rattle.sheet.specs.Sheet.{Sheet};
+ghost use Rattle.members.specs.Condition.{Condition, condition};
+ghost use Rattle.members.specs.Sheet.{Sheet};
 ghost use Rattle.semantics.specs.Evaluate.{evaluate};
 ghost use Rattle.semantics.specs.Semantics.{kernel};
-ghost use Rattle.evaluation.specs.Answers.{EvaluatedAs};
-ghost use Rattle.evaluation.specs.Entry.{rootsOf};
+ghost use Rattle.comparison.specs.Answers.{EvaluatedAs};
+ghost use Rattle.comparison.specs.Entry.{rootsOf};
 
 // The nodes that expressions start from.
 fn roots_of(m: Members) -> Roots

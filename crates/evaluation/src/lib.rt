@@ -1,4 +1,3 @@
 // Evaluation of conditions over the reader's table. The definitions stand in specs/, the laws in proofs/.
-pub mod comparison;
 pub mod condition;
 pub mod evaluate;

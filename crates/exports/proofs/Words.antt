@@ -6,11 +6,11 @@ use Prim.Native.Nat.{ℕ, _%_, _<_, _/_, _≤_}
 use native.Mathlib.Omega.{arith}
 use Rattle.decision.proofs.Entries.{call-small}
 use Rattle.decision.specs.Called.{Called}
-use Rattle.rules.specs.Decide.{admitCall, decideCall, evaluateCall, invariantsCall, preconditionsCall, selectCall}
-use Rattle.decision.specs.Entry.{Reply, admit, checkInvariants, checkPreconditions, decide, evaluate, select}
-use Rattle.line.specs.Reply.{lineSize}
-use Rattle.line.specs.declared.emit.Sent.{Sent}
-use Rattle.reader.specs.Bytes.{Bytes}
+use Rattle.answers.specs.Decide.{admitCall, decideCall, evaluateCall, invariantsCall, preconditionsCall, selectCall}
+use Rattle.answers.specs.Entry.{Reply, admit, checkInvariants, checkPreconditions, decide, evaluate, select}
+use Rattle.answers.specs.Reply.{lineSize}
+use Rattle.writer.specs.declared.answer.Sent.{Sent}
+use Rattle.json.specs.Bytes.{Bytes}
 use Rattle.exports.specs.Exported.{Exported, wordOf}
 
 -- number and length fit a word

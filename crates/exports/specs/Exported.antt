@@ -3,9 +3,9 @@
 use mathlib.Core.List.{List}
 use mathlib.Core.Path.{_≡_}
 use Prim.Native.Nat.{ℕ, _*_, _+_, _<_}
-use Rattle.decision.specs.Entry.{Reply, outputAfter, workAfter}
-use Rattle.line.specs.Reply.{lineSize}
-use Rattle.reader.specs.Bytes.{Bytes}
+use Rattle.answers.specs.Entry.{Reply, outputAfter, workAfter}
+use Rattle.answers.specs.Reply.{lineSize}
+use Rattle.json.specs.Bytes.{Bytes}
 
 -- the number in the upper 32 bits of a word, the length in the lower ones
 abbrev pub wordOf : ℕ → ℕ → ℕ

@@ -5,11 +5,11 @@ use decision::sent::check_preconditions;
 use decision::sent::decide;
 use decision::sent::evaluate;
 use decision::sent::select_outcome;
-use line::emit::Sent;
+use writer::answer::Sent;
 ghost use mathlib.Core.Path.{_≡_};
 ghost use Prim.Native.Nat.{_<_, _≤_};
 ghost use lib.ListN.{length};
-ghost use Rattle.decision.specs.Entry.{admit, checkInvariants, checkPreconditions, decide, evaluate, select};
+ghost use Rattle.answers.specs.Entry.{admit, checkInvariants, checkPreconditions, decide, evaluate, select};
 ghost use Rattle.exports.specs.Exported.{Exported, wordOf};
 
 // The number of an answer and the bytes of its line in one word.

@@ -8,14 +8,14 @@ use native.Mathlib.Omega.{arith}
 use lib.ListN.{drop, length, length-append}
 use Rattle.decision.proofs.Entries.{call-no-line}
 use Rattle.decision.specs.Called.{Called}
-use Rattle.decision.specs.Entry.{Reply, decide, outputAfter}
+use Rattle.answers.specs.Entry.{Reply, decide, outputAfter}
 use Rattle.intake.specs.Printed.{intake, printed}
-use Rattle.line.specs.Laid.{Shown}
-use Rattle.line.specs.Line.{numberLine}
-use Rattle.line.specs.Reply.{lineSize}
-use Rattle.line.specs.declared.emit.Sent.{Sent}
-use Rattle.reader.specs.Bytes.{Bytes}
-use Rattle.rules.specs.Decide.{decideCall}
+use Rattle.writer.specs.Laid.{Shown}
+use Rattle.answers.specs.Line.{numberLine}
+use Rattle.answers.specs.Reply.{lineSize}
+use Rattle.writer.specs.declared.answer.Sent.{Sent}
+use Rattle.json.specs.Bytes.{Bytes}
+use Rattle.answers.specs.Decide.{decideCall}
 
 pub decide-no-line : (s : Bytes) (words size : ℕ) → lineSize (decide s words size) ≡ 0 → decide s words size .line ≡ none
 unfolding decide

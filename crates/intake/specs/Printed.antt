@@ -1,9 +1,9 @@
 -- What the program prints for the bytes of a sheet: the line of Decide, or the number by itself where there is no line.
 -- Assumes nothing.
 use mathlib.Core.Option.{none, some}
-use Rattle.decision.specs.Entry.{Reply, decide, workWords}
-use Rattle.line.specs.Line.{numberLine}
-use Rattle.reader.specs.Bytes.{Bytes}
+use Rattle.answers.specs.Entry.{Reply, decide, workWords}
+use Rattle.answers.specs.Line.{numberLine}
+use Rattle.json.specs.Bytes.{Bytes}
 
 abbrev pub printed : Reply → Bytes
 printed r = elim (r .line) [ none ↦ numberLine (r .number) | some line ↦ line ]

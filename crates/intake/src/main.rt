@@ -5,7 +5,7 @@ use libc::STDOUT_FILENO;
 use line::emit::number_line;
 ghost use mathlib.Core.Path.{_≡_};
 ghost use lib.ListN.{length};
-ghost use Rattle.line.specs.Laid.{Shown};
+ghost use Rattle.writer.specs.Laid.{Shown};
 ghost use Rattle.intake.specs.Printed.{intake};
 
 // One byte more than a sheet may have: a longer input is refused as too long however it goes on.

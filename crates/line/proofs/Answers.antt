@@ -9,16 +9,16 @@ use native.Mathlib.Omega.{arith}
 use borrow.Author.Tests.{le-leb, lt-leb}
 use lib.ListN.{drop, length, length-append, set}
 use lib.Seq.{sets, sets-eq}
-use Rattle.line.proofs.Laying.{sets-append}
-use Rattle.line.specs.Laid.{Laid}
-use Rattle.line.specs.Line.{endLine, falseNumber, refusalLine, refusalNumber, unknownNumber, verdictForm, verdictLine}
-use Rattle.line.specs.Meaning.{Emitted, Held, meaning, rulesOf}
-use Rattle.line.specs.Reply.{fitted, formOf, numberOf, orEmpty, reply}
-use Rattle.line.specs.Verdict.{Verdict}
-use Rattle.line.specs.declared.answer.Answer.{Answer}
-use Rattle.line.specs.declared.answer.Answer.the-variants as answers
-use Rattle.reader.specs.Bytes.{Bytes}
-use Rattle.reader.specs.Refusal.{Result, Rules, invariants, noInput, ok, preconditions, refused}
+use Rattle.writer.proofs.Laying.{sets-append}
+use Rattle.writer.specs.Laid.{Laid}
+use Rattle.answers.specs.Line.{endLine, falseNumber, refusalLine, refusalNumber, unknownNumber, verdictForm, verdictLine}
+use Rattle.writer.specs.Meaning.{Emitted, Held, meaning, rulesOf}
+use Rattle.answers.specs.Reply.{fitted, formOf, numberOf, orEmpty, reply}
+use Rattle.answers.specs.Verdict.{Verdict}
+use Rattle.writer.specs.declared.answer.Answer.{Answer}
+use Rattle.writer.specs.declared.answer.Answer.the-variants as answers
+use Rattle.json.specs.Bytes.{Bytes}
+use Rattle.json.specs.Refusal.{Result, Rules, invariants, noInput, ok, preconditions, refused}
 
 -- the form of an answer
 abbrev pub bare : Bytes → List ℕ → Answer → Bytes

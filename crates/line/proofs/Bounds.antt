@@ -9,19 +9,19 @@ use native.Mathlib.Omega.{arith}
 use borrow.Author.Tests.{leb-true}
 use lib.Dec.{leb}
 use lib.ListN.{length, length-append}
-use Rattle.line.specs.Line.{eachLine, endLine, falseNumber, refusalForm, refusalLine, refusalNumber, unknownNumber, verdictForm, verdictLine, decimalDigits, listed, messageOr, nameOr, names, quoted, quotedOr}
-use Rattle.reader.specs.Bytes.{Bytes, ascii}
-use Rattle.reader.specs.Refusal.{Refusal, Result, guardUnknown, invariants, lineTooLong, noId, noInput, noOutcome, notASource, notCarried, notJson, notUtf8, numberTooLong, ok, preconditions, refused, repeatedName, ruleFalse, ruleUnknown, tooDeep, tooLong, tooManyNodes, unknownExpression, workTooSmall, wrongShape, wrongSheet, wrongState}
-use Rattle.reader.specs.Spans.{textAt}
-use Rattle.reader.specs.Table.{valueAt}
-use Rattle.line.specs.Meaning.{Held, meaning, namesIn, rulesOf}
-use Rattle.line.specs.Reply.{Reply, fitted, formOf, lineSize, orEmpty, reply}
-use Rattle.line.specs.Verdict.{Verdict}
-use Rattle.line.specs.declared.answer.Answer.{Answer}
-use Rattle.line.specs.declared.answer.Answer.the-variants as answers
-use Rattle.line.specs.declared.quote.Text.{Text}
-use Rattle.line.specs.declared.quote.Text.the-variants as texts
-use Rattle.line.specs.Texts.{textOf, textsIn}
+use Rattle.answers.specs.Line.{eachLine, endLine, falseNumber, refusalForm, refusalLine, refusalNumber, unknownNumber, verdictForm, verdictLine, decimalDigits, listed, messageOr, nameOr, names, quoted, quotedOr}
+use Rattle.json.specs.Bytes.{Bytes, ascii}
+use Rattle.json.specs.Refusal.{Refusal, Result, guardUnknown, invariants, lineTooLong, noId, noInput, noOutcome, notASource, notCarried, notJson, notUtf8, numberTooLong, ok, preconditions, refused, repeatedName, ruleFalse, ruleUnknown, tooDeep, tooLong, tooManyNodes, unknownExpression, workTooSmall, wrongShape, wrongSheet, wrongState}
+use Rattle.json.specs.Spans.{textAt}
+use Rattle.json.specs.Table.{valueAt}
+use Rattle.writer.specs.Meaning.{Held, meaning, namesIn, rulesOf}
+use Rattle.answers.specs.Reply.{Reply, fitted, formOf, lineSize, orEmpty, reply}
+use Rattle.answers.specs.Verdict.{Verdict}
+use Rattle.writer.specs.declared.answer.Answer.{Answer}
+use Rattle.writer.specs.declared.answer.Answer.the-variants as answers
+use Rattle.writer.specs.declared.quote.Text.{Text}
+use Rattle.writer.specs.declared.quote.Text.the-variants as texts
+use Rattle.writer.specs.Texts.{textOf, textsIn}
 use Rattle.line.proofs.Lengths.{digits-short, form-short, names-short, quoted-short, sources-short, text-short}
 
 -- the line of an answer

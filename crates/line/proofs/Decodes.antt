@@ -9,14 +9,14 @@ use native.Mathlib.Omega.{arith}
 use borrow.Author.Tests.{eqb-false, eqb-true, le-leb, lt-leb, lt-ltb, ltb-false, ltb-true}
 use lib.Dec.{eqb, ltb}
 use lib.ListN.{length}
-use Rattle.line.proofs.Digits.{backslash-escaped, byte-itself, control-escaped, high-hex, low-hex, quote-escaped}
-use Rattle.line.specs.Line.{hexOf, quotedByte, quotedBytes}
-use Rattle.reader.proofs.Scans.{chars-enough}
-use Rattle.reader.specs.Bytes.{Bytes}
-use Rattle.reader.specs.Refusal.{Result, ok}
-use Rattle.reader.specs.Scan.{Read}
-use Rattle.reader.specs.Strings.{chars, escape, hex, hexDigit, ofUnit, plainUnit, unit16}
-use Rattle.reader.specs.Utf8.{encode}
+use Rattle.writer.proofs.Digits.{backslash-escaped, byte-itself, control-escaped, high-hex, low-hex, quote-escaped}
+use Rattle.answers.specs.Line.{hexOf, quotedByte, quotedBytes}
+use Rattle.tokens.proofs.Scans.{chars-enough}
+use Rattle.json.specs.Bytes.{Bytes}
+use Rattle.json.specs.Refusal.{Result, ok}
+use Rattle.json.specs.Scan.{Read}
+use Rattle.json.specs.Strings.{chars, escape, hex, hexDigit, ofUnit, plainUnit, unit16}
+use Rattle.json.specs.Utf8.{encode}
 
 abbrev pub gave : Bytes → Bytes → Result (Read Bytes)
 gave t rest = ok (record { got = t; rest = rest })

@@ -7,23 +7,23 @@ use Prim.Native.Nat.{Ordering, Ordering·eq, Ordering·gt, Ordering·lt, suc, ze
 use native.Mathlib.Omega.{arith}
 use lib.Dec.{eqb, ltb}
 use lib.ListN.{drop, length, length-append, length-drop}
-use Rattle.line.specs.Line.{hexOf, decimalDigits, digitsOf, eachQuoted, form, listed, names, numberLine, quotedByte, quotedBytes, spaced}
+use Rattle.answers.specs.Line.{hexOf, decimalDigits, digitsOf, eachQuoted, form, listed, names, numberLine, quotedByte, quotedBytes, spaced}
 use Rattle.semantics.specs.Names.{Names, ascending, insertName}
-use Rattle.reader.specs.Bytes.{Bytes, ascii, between, choose, orderBytes}
-use Rattle.reader.specs.Marks.{isMarked, marked, markedFrom}
-use Rattle.reader.specs.Refusal.{Result, notJson, ok, refused, _>>=_}
-use Rattle.reader.specs.Scan.{Read, word}
-use Rattle.reader.specs.Spans.{Node, Nodes, arr, erase, eraseIn, gotOf, isFalse, isNull, isNumber, isText, isTrue, leaf, noNode, node, obj, plain, size, sizeIn, textAt}
-use Rattle.reader.specs.Strings.{Char, Unit16, backslash, char, chars, control, escape, hex, highHalf, highUnit, lowHalf, lowUnit, ofUnit, other, plainUnit, quote, simpleEscape, unicode, unit16}
-use Rattle.reader.specs.Table.{startAt, valueAt}
-use Rattle.reader.specs.Utf8.{encode}
-use Rattle.line.proofs.Once.{all-marked}
-use Rattle.line.specs.Texts.{TextsHeld, orNone, textsIn}
-use Rattle.reader.proofs.Decoded.{size-pos}
-use Rattle.reader.proofs.Walk.{value-is}
-use Rattle.reader.specs.Json.{elements}
-use Rattle.reader.specs.Limits.{maxNodes}
-use Rattle.sheet.specs.Kinds.{aText, eachOf, someTexts}
+use Rattle.json.specs.Bytes.{Bytes, ascii, between, choose, orderBytes}
+use Rattle.json.specs.Marks.{isMarked, marked, markedFrom}
+use Rattle.json.specs.Refusal.{Result, notJson, ok, refused, _>>=_}
+use Rattle.json.specs.Scan.{Read, word}
+use Rattle.json.specs.Spans.{Node, Nodes, arr, erase, eraseIn, gotOf, isFalse, isNull, isNumber, isText, isTrue, leaf, noNode, node, obj, plain, size, sizeIn, textAt}
+use Rattle.json.specs.Strings.{Char, Unit16, backslash, char, chars, control, escape, hex, highHalf, highUnit, lowHalf, lowUnit, ofUnit, other, plainUnit, quote, simpleEscape, unicode, unit16}
+use Rattle.json.specs.Table.{startAt, valueAt}
+use Rattle.json.specs.Utf8.{encode}
+use Rattle.writer.proofs.Once.{all-marked}
+use Rattle.writer.specs.Texts.{TextsHeld, orNone, textsIn}
+use Rattle.json.proofs.Decoded.{size-pos}
+use Rattle.json.proofs.Walk.{value-is}
+use Rattle.json.specs.Json.{elements}
+use Rattle.json.specs.Limits.{maxNodes}
+use Rattle.members.specs.Kinds.{aText, eachOf, someTexts}
 
 -- a text in quotes
 byte-short : (c : ℕ) → length (quotedByte c) ≤ 6

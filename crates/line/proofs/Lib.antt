@@ -1,14 +1,4 @@
-pub mod Laying
-pub mod Digits
-pub mod Quotes
-pub mod Lists
-pub mod Texts
-pub mod Once
-pub mod Gathered
-pub mod Sourcing
-pub mod Forms
 pub mod Answers
-pub mod Samples
 pub mod Decodes
 pub mod Lengths
 pub mod Bounds

@@ -1,31 +1,26 @@
 // An answer's line, measured and then written by the same code: where it does not fit, the output is as it was.
-use crate::answer::Answer;
-use crate::form::false_number;
-use crate::form::guard_unknown;
-use crate::form::kept;
-use crate::form::not_a_source;
-use crate::form::refused;
-use crate::form::refused_text;
-use crate::form::rule_false;
-use crate::form::rule_unknown;
-use crate::form::truth;
-use crate::form::unknown_number;
-use crate::lay::bytes;
+use forms::form::false_number;
+use forms::form::guard_unknown;
+use forms::form::kept;
+use forms::form::not_a_source;
+use forms::form::refused;
+use forms::form::refused_text;
+use forms::form::rule_false;
+use forms::form::rule_unknown;
+use forms::form::truth;
+use forms::form::unknown_number;
+use writer::answer::Answer;
+use writer::answer::Sent;
+use writer::lay::bytes;
 ghost use mathlib.Core.List.{List};
 ghost use mathlib.Core.Path.{_≡_};
 ghost use Prim.Native.Nat.{ℕ, _≤_};
 ghost use lib.ListN.{length};
-ghost use Rattle.reader.specs.Bytes.{Bytes};
-ghost use Rattle.line.specs.Laid.{Laid, Room, Shown};
-ghost use Rattle.line.specs.Line.{numberLine};
-ghost use Rattle.line.specs.Meaning.{Emitted, Held, meaning};
-ghost use Rattle.line.specs.Reply.{formOf, numberOf, orEmpty};
-
-// The number of an answer, and the bytes of its line, 0 where it has none.
-pub struct Sent {
-    pub number: usize,
-    pub size: usize,
-}
+ghost use Rattle.json.specs.Bytes.{Bytes};
+ghost use Rattle.writer.specs.Laid.{Laid, Room, Shown};
+ghost use Rattle.answers.specs.Line.{numberLine};
+ghost use Rattle.writer.specs.Meaning.{Emitted, Held, meaning};
+ghost use Rattle.answers.specs.Reply.{formOf, numberOf, orEmpty};
 
 // The form of an answer; nothing where it has none.
 fn form(out: &mut [u8], limit: usize, at: usize, s: &[u8], work: &[u32], a: Answer) -> usize

@@ -14,8 +14,8 @@ use lib.ListN.{drop, getD, length, length-drop, length-replicate, length-set, re
 use lib.Seq.{drop-cons, drop-length, getD-drop, getD-set-other, getD-set-same, length-take-le, take-suc, take-suc-set}
 use Rattle.number.proofs.Exact.{natural-cons}
 use Rattle.number.specs.Places.{Digits, value}
-use Rattle.reader.proofs.Laws.{eqb-no, eqb-true}
-use Rattle.reader.specs.Bytes.{Bytes, natural}
+use Rattle.json.proofs.Laws.{eqb-no, eqb-true}
+use Rattle.json.specs.Bytes.{Bytes, natural}
 
 -- what the digits below a place and those above it stand for
 value-parts : (i : ℕ) (ds : List ℕ) → value ds ≡ value (take i ds) + 10 ^ i * value (drop i ds)

@@ -11,14 +11,14 @@ use lib.ListN.{length, length-append}
 use Rattle.number.proofs.Exact.{AreDigits, order-exact, rawDigits}
 use Rattle.number.specs.Compare.{numberOrder}
 use Rattle.number.specs.Decimal.{before, behind, decimal, exactOrder, fractionPart, isE, isPoint, unsigned, wholePart}
-use Rattle.reader.proofs.Complete.{first-number, from-next, number-length}
-use Rattle.reader.proofs.Laws.{eqb-false}
-use Rattle.reader.proofs.Sound.{DigitView, FirstView, From, between-in, digit-view, first-view, firstMinus, firstNone, firstNonzero, firstZero, vE, vMinus, vNonzero, vOther, vPlus, vPoint, vZero}
-use Rattle.reader.specs.Bytes.{Bytes, between}
-use Rattle.reader.specs.Grammar.{Number, Spells}
-use Rattle.reader.specs.Json.{number}
-use Rattle.reader.specs.Numerals
-use Rattle.reader.specs.Numerals.{Place, digit, onward}
+use Rattle.json.proofs.Complete.{first-number, from-next, number-length}
+use Rattle.json.proofs.Laws.{eqb-false}
+use Rattle.json.proofs.Sound.{DigitView, FirstView, From, between-in, digit-view, first-view, firstMinus, firstNone, firstNonzero, firstZero, vE, vMinus, vNonzero, vOther, vPlus, vPoint, vZero}
+use Rattle.json.specs.Bytes.{Bytes, between}
+use Rattle.json.specs.Grammar.{Number, Spells}
+use Rattle.json.specs.Json.{number}
+use Rattle.json.specs.Numerals
+use Rattle.json.specs.Numerals.{Place, digit, onward}
 
 -- a byte that is a digit is no `e` and no point
 abbrev Plain : ℕ → Type 0

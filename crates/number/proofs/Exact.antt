@@ -12,9 +12,9 @@ use lib.ListN.{length, length-append, length-replicate, replicate}
 use lib.Pow.{pow-add}
 use Rattle.number.specs.Compare.{Sign, isNegative, isNothing, isNought, isPositive, isZero, leading, numberOrder, put, scaled, scaledOrder, signOf, signedOrder, then, trim, trimEnd}
 use Rattle.number.specs.Decimal.{Decimal, below, decimal, exactOrder, exponent, fractionPart, magnitudes, minus, wholePart}
-use Rattle.reader.proofs.Laws.{eqb-false, eqb-no, eqb-true}
-use Rattle.reader.proofs.Sound.{leb-le, leb-lt}
-use Rattle.reader.specs.Bytes.{Bytes, natural, orderBytes}
+use Rattle.json.proofs.Laws.{eqb-false, eqb-no, eqb-true}
+use Rattle.json.proofs.Sound.{leb-le, leb-lt}
+use Rattle.json.specs.Bytes.{Bytes, natural, orderBytes}
 
 -- a comparison by what it says
 pub data Cmp (x y : ℕ) : Ordering → Type 0 where

@@ -16,8 +16,8 @@ use Rattle.number.specs.Compare.{isNothing, isZero, leading, put, trim, 
 use Rattle.number.specs.Decimal.{before, behind, exponentPart, fractionPart, isE, isPoint, isSign, minus, unsigned, wholePart}
 use Rattle.number.specs.Parts.{BehindTold, EndsTold, FractionOf, Parsed, ZerosTold, digitsAt, digitsFrom, lastOf, opens, startsPoint, stops, tail}
 use Rattle.number.specs.declared.text.Ends.{Ends}
-use Rattle.reader.proofs.Laws.{eqb-false, eqb-same, eqb-true}
-use Rattle.reader.specs.Bytes.{Bytes}
+use Rattle.json.proofs.Laws.{eqb-false, eqb-same, eqb-true}
+use Rattle.json.specs.Bytes.{Bytes}
 
 -- ---- definitions, one character more
 module _ (p : ℕ → Bool) (c : ℕ) (s : Bytes) where

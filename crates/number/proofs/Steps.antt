@@ -21,9 +21,9 @@ use Rattle.number.specs.declared.text.Ends.{Ends}
 use Rattle.number.specs.declared.text.Step.{Step}
 use Rattle.number.specs.declared.text.Step.the-variants as steps
 use Rattle.number.specs.declared.text.Taken.{Taken}
-use Rattle.reader.proofs.Cursor.{order-on}
-use Rattle.reader.proofs.Laws.{eqb-false}
-use Rattle.reader.specs.Bytes.{Bytes, natural, orderBytes}
+use Rattle.json.proofs.Cursor.{order-on}
+use Rattle.json.proofs.Laws.{eqb-false}
+use Rattle.json.specs.Bytes.{Bytes, natural, orderBytes}
 
 -- ---- a sign
 minus-nil : minus [] ≡ false

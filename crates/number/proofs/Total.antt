@@ -17,10 +17,10 @@ use Rattle.number.specs.Compare.{numberOrder}
 use Rattle.number.specs.Compared.{compared}
 use Rattle.number.specs.Decimal.{Decimal, Integer, SameValue, below, cross, decimal, exactOrder, magnitudes, signed, swapped}
 use Rattle.number.specs.Places.{Same, orderIntegers}
-use Rattle.reader.proofs.Laws.{eqb-no, eqb-true}
-use Rattle.reader.specs.Bytes.{Bytes}
-use Rattle.reader.specs.Grammar.{Number, Spells}
-use Rattle.reader.specs.Json.{number}
+use Rattle.json.proofs.Laws.{eqb-no, eqb-true}
+use Rattle.json.specs.Bytes.{Bytes}
+use Rattle.json.specs.Grammar.{Number, Spells}
+use Rattle.json.specs.Json.{number}
 
 -- ---- the exact order is that of the two values over one power of ten
 module _ (a b : Decimal) where

@@ -6,7 +6,7 @@ use Prim.Native.Nat.{Ordering, Ordering·eq, Ordering·gt, Ordering·lt, compare
 use lib.Dec.{eqb}
 use lib.ListN.{length}
 use Rattle.number.specs.Decimal.{Integer, exponent, fractionPart, minus, wholePart}
-use Rattle.reader.specs.Bytes.{Bytes, orderBytes}
+use Rattle.json.specs.Bytes.{Bytes, orderBytes}
 
 -- The comparison of number.rs: by the place of the first digit that is not 0, then by the digits from there on.
 abbrev pub isZero : ℕ → Bool

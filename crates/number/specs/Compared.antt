@@ -7,8 +7,8 @@ use lib.ListN.{length}
 use Rattle.number.specs.Compare.{numberOrder}
 use Rattle.number.specs.declared.Order.{Order}
 use Rattle.number.specs.declared.Order.the-variants as orders
-use Rattle.reader.specs.Bytes.{Bytes}
-use Rattle.reader.specs.Limits.{maxNumber}
+use Rattle.json.specs.Bytes.{Bytes}
+use Rattle.json.specs.Limits.{maxNumber}
 
 abbrev pub orderOf : Order → Ordering
 orderOf orders.Less = Ordering·lt

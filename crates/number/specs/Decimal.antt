@@ -6,7 +6,7 @@ use mathlib.Core.Path.{_≡_}
 use Prim.Native.Nat.{Ordering, Ordering·eq, Ordering·gt, Ordering·lt, compare, ℕ, _*_, _+_, _-_, _^_}
 use lib.Dec.{eqb}
 use lib.ListN.{length}
-use Rattle.reader.specs.Bytes.{Bytes, natural}
+use Rattle.json.specs.Bytes.{Bytes, natural}
 
 -- the characters before the first that passes a test, and those behind it
 unfoldable pub before : (ℕ → Bool) → Bytes → Bytes

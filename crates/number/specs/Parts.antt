@@ -14,7 +14,7 @@ use Rattle.number.specs.declared.text.Ends.{Ends}
 use Rattle.number.specs.declared.text.Signed.{Signed}
 use Rattle.number.specs.declared.text.Step.{Step}
 use Rattle.number.specs.declared.text.Step.the-variants as steps
-use Rattle.reader.specs.Bytes.{Bytes}
+use Rattle.json.specs.Bytes.{Bytes}
 
 -- a sign from a place on, and the place behind it
 pub record SignTold (s : Bytes) (at : ℕ) (r : Signed) : Type 0 where

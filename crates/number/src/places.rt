@@ -4,7 +4,7 @@ ghost use mathlib.Core.Path.{_≡_};
 ghost use mathlib.Core.Bool.{true};
 ghost use Prim.Native.Nat.{ℕ, compare, _+_, _-_, _≤_, _<_};
 ghost use lib.ListN.{length, drop};
-ghost use Rattle.reader.specs.Bytes.{natural};
+ghost use Rattle.json.specs.Bytes.{natural};
 ghost use Rattle.number.specs.Decimal.{signed};
 ghost use Rattle.number.specs.Places.{value, Digits, Tidy, Same, added, integer, orderIntegers};
 ghost use Rattle.number.specs.Compared.{orderOf};

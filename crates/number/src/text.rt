@@ -5,7 +5,7 @@ use crate::places::Integer;
 ghost use mathlib.Core.Path.{_≡_};
 ghost use Prim.Native.Nat.{_≤_};
 ghost use lib.ListN.{length, drop};
-ghost use Rattle.reader.specs.Bytes.{orderBytes};
+ghost use Rattle.json.specs.Bytes.{orderBytes};
 ghost use Rattle.number.specs.Compare.{scaled, scaledOrder, signOf};
 ghost use Rattle.number.specs.Places.{Tidy, Same, integer};
 ghost use Rattle.number.specs.Compared.{orderOf};

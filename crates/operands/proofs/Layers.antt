@@ -7,22 +7,22 @@ use mathlib.Core.Bool.{Bool, true, false, _||_, not}
 use Prim.Native.Nat.{ℕ, zero, suc, _≤_, _<_, Ordering}
 use native.Mathlib.Omega.{arith}
 use lib.ListN.{length}
-use Rattle.operands.specs.Comparing.{alike, holdsOf, nesting, shape}
-use Rattle.operands.specs.Lazy.{Frames, Operand, given, outer, partOf}
-use Rattle.operands.specs.Shape.{Shape, alikeIn, alikeOf, alikeShapes, asDigits, asItems, asWords, containedIn, digits, fields, holdsShapes, items, keysOf, nothing, oneAlike, partsIn, partsOf, shapeOf, truth, twoNumbers, twoTexts, words}
-use Rattle.operands.proofs.Stands.{EachIn, noPart, onePart, EachOf, noMember, oneMember, Stands, itself, inArray, inObject, Standing, standing-length, touch-stands, touched-outer, outer-length}
+use Rattle.paths.specs.Comparing.{alike, holdsOf, nesting, shape}
+use Rattle.paths.specs.Lazy.{Frames, Operand, given, outer, partOf}
+use Rattle.paths.specs.Shape.{Shape, alikeIn, alikeOf, alikeShapes, asDigits, asItems, asWords, containedIn, digits, fields, holdsShapes, items, keysOf, nothing, oneAlike, partsIn, partsOf, shapeOf, truth, twoNumbers, twoTexts, words}
+use Rattle.paths.proofs.Stands.{EachIn, noPart, onePart, EachOf, noMember, oneMember, Stands, itself, inArray, inObject, Standing, standing-length, touch-stands, touched-outer, outer-length}
 use Rattle.semantics.specs.Equality.{equal, equalIn, equalOf}
 use Rattle.semantics.specs.Expression.{Env}
 use Rattle.semantics.specs.Forms.{contained, ends, holds, isElement, isGreater, isLess, isPart, memberOf, numbers, texts}
 use Rattle.semantics.specs.Operand.{present, resolve}
 use Rattle.semantics.specs.Semantics.{isSame, kernel}
 use Rattle.number.specs.Compare.{numberOrder}
-use Rattle.reader.specs.Bytes.{Bytes, begins, isOneOf}
-use Rattle.reader.specs.Json.{Members, Value, Values, array, asNumber, asText, bool, cons, empty, keys, member, nil, null, number, object, text}
-use Rattle.reader.specs.Limits.{depth, depthIn, depthOf}
-use Rattle.reader.specs.Refusal.{ok}
-use Rattle.sheet.specs.Condition.{Form, contains, endsWith, eq, gt, gte, isIn, lt, lte, ne, startsWith}
-use Rattle.sheet.specs.Sheet.{Sheet}
+use Rattle.json.specs.Bytes.{Bytes, begins, isOneOf}
+use Rattle.json.specs.Json.{Members, Value, Values, array, asNumber, asText, bool, cons, empty, keys, member, nil, null, number, object, text}
+use Rattle.json.specs.Limits.{depth, depthIn, depthOf}
+use Rattle.json.specs.Refusal.{ok}
+use Rattle.members.specs.Condition.{Form, contains, endsWith, eq, gt, gte, isIn, lt, lte, ne, startsWith}
+use Rattle.members.specs.Sheet.{Sheet}
 
 -- one layer, its parts related
 pub data FitsIn (R : Operand → Value → Type 0) : List Operand → Values → Type 0 where

@@ -6,29 +6,29 @@ use mathlib.Core.Path.{ap, refl, subst, sym, _∙_, _≡_}
 use Prim.Native.Nat.{Ordering, Ordering·eq, Ordering·gt, Ordering·lt, ℕ}
 use lib.ListN.{length}
 use Rattle.number.specs.Compare.{numberOrder}
-use Rattle.reader.specs.Bytes.{Bytes, isOneOf, sameBytes}
-use Rattle.reader.specs.Held.{HasNode}
-use Rattle.reader.specs.Links.{Linked}
-use Rattle.reader.specs.Spans.{textAt}
-use Rattle.reader.specs.Table.{startAt}
-use Rattle.sheet.specs.Condition as condition
-use Rattle.sheet.specs.Condition.{Condition}
-use Rattle.sheet.specs.Sheet.{Sheet}
-use Rattle.operands.specs.Children.{ChildAt, ChildrenAt, Given, Named, begun, childrenOf}
+use Rattle.json.specs.Bytes.{Bytes, isOneOf, sameBytes}
+use Rattle.json.specs.Held.{HasNode}
+use Rattle.json.specs.Links.{Linked}
+use Rattle.json.specs.Spans.{textAt}
+use Rattle.json.specs.Table.{startAt}
+use Rattle.members.specs.Condition as condition
+use Rattle.members.specs.Condition.{Condition}
+use Rattle.members.specs.Sheet.{Sheet}
+use Rattle.paths.specs.Children.{ChildAt, ChildrenAt, Given, Named, begun, childrenOf}
 use Rattle.semantics.specs.Forms.{isGreater, isLess}
-use Rattle.operands.specs.Comparing.{alike, holdsOf, nesting}
-use Rattle.operands.specs.Layered.{TextPlace, classOf, digitsOf, eachName, eachNode, kids, partAt, shapeOf, wordsOf}
-use Rattle.operands.specs.Lazy as lazy
-use Rattle.operands.specs.Matched.{Holds, NumbersTold, TextsTold, found, inOrder, namesOf}
+use Rattle.paths.specs.Comparing.{alike, holdsOf, nesting}
+use Rattle.paths.specs.Layered.{TextPlace, classOf, digitsOf, eachName, eachNode, kids, partAt, shapeOf, wordsOf}
+use Rattle.paths.specs.Lazy as lazy
+use Rattle.paths.specs.Matched.{Holds, NumbersTold, TextsTold, found, inOrder, namesOf}
 use Rattle.semantics.specs.Semantics.{isSame}
-use Rattle.operands.specs.Shape.{Shape, containedIn, digits, fields, holdsShapes, items, keysOf, nothing, oneAlike, truth, twoNumbers, twoTexts, words}
-use Rattle.operands.specs.Stored.{operandOf}
-use Rattle.operands.specs.declared.children.Children.{Children}
-use Rattle.operands.specs.declared.holds.Where.{Where}
-use Rattle.operands.specs.declared.holds.Where.the-variants as wheres
-use Rattle.operands.specs.declared.operand.Operand.{Operand}
-use Rattle.operands.proofs.Alike.{walk-begins, walk-kids, walk-named}
-use Rattle.operands.proofs.Layered.{array-is, class-is, number-is, object-is, shape-kind, shapeClass, text-is}
+use Rattle.paths.specs.Shape.{Shape, containedIn, digits, fields, holdsShapes, items, keysOf, nothing, oneAlike, truth, twoNumbers, twoTexts, words}
+use Rattle.paths.specs.Stored.{operandOf}
+use Rattle.paths.specs.declared.children.Children.{Children}
+use Rattle.paths.specs.declared.operand.Where.{Where}
+use Rattle.paths.specs.declared.operand.Where.the-variants as wheres
+use Rattle.paths.specs.declared.operand.Operand.{Operand}
+use Rattle.resolving.proofs.Alike.{walk-begins, walk-kids, walk-named}
+use Rattle.resolving.proofs.Layered.{array-is, class-is, number-is, object-is, shape-kind, shapeClass, text-is}
 
 -- a walk that looks for one child
 pub record Looking (s : Bytes) (t : List ℕ) (named : Bool) (whole : Bool) (f : List ℕ → Bool) (c : Children) : Type 0 where

@@ -1,21 +1,21 @@
 // Equality of two operands: layer by layer, a number falling that bounds how deep resolved values nest.
-use crate::children::Child;
-use crate::children::Children;
-use crate::frames::Frames;
-use crate::layer::class_of;
-use crate::layer::names_agree;
-use crate::layer::part_of;
-use crate::layer::same_leaf;
-use crate::layer::value_node;
-use crate::operand::Operand;
-use crate::roots::Roots;
+use paths::children::Child;
+use paths::children::Children;
+use paths::frames::Frames;
+use paths::operand::Operand;
+use paths::roots::Roots;
+use resolving::layer::class_of;
+use resolving::layer::names_agree;
+use resolving::layer::part_of;
+use resolving::layer::same_leaf;
+use resolving::layer::value_node;
 ghost use mathlib.Core.Path.{_≡_};
-ghost use Rattle.operands.specs.Comparing.{alike};
-ghost use Rattle.operands.specs.Layered.{alikeNodes, kids, partAt};
-ghost use Rattle.operands.specs.Matched.{Paired};
-ghost use Rattle.operands.specs.Ready.{Ready};
-ghost use Rattle.operands.specs.Rooted.{sheetIn};
-ghost use Rattle.operands.specs.Stored.{OperandAt, framesOf, operandOf, table};
+ghost use Rattle.paths.specs.Comparing.{alike};
+ghost use Rattle.paths.specs.Layered.{alikeNodes, kids, partAt};
+ghost use Rattle.paths.specs.Matched.{Paired};
+ghost use Rattle.paths.specs.Ready.{Ready};
+ghost use Rattle.members.specs.Sheet.{sheetIn};
+ghost use Rattle.paths.specs.Stored.{OperandAt, framesOf, operandOf, table};
 
 pub fn equal_at(
     s: &[u8],

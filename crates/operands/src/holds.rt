@@ -1,33 +1,27 @@
 // The pair forms on two present operands, by a match on the operator.
-use crate::children::Child;
-use crate::children::Children;
-use crate::frames::Frames;
-use crate::operand::Operand;
-use crate::roots::Roots;
-use sheet::condition::Form;
+use members::told::Form;
+use paths::children::Child;
+use paths::children::Children;
+use paths::frames::Frames;
+use paths::operand::Operand;
+use paths::operand::Where;
+use paths::roots::Roots;
 ghost use mathlib.Core.Bool.{false, true};
 ghost use mathlib.Core.Path.{_≡_};
 ghost use Prim.Native.Nat.{_≤_};
-ghost use Rattle.reader.specs.Bytes.{isOneOf};
-ghost use Rattle.reader.specs.Cursor.{OnText};
-ghost use Rattle.reader.specs.Links.{Linked};
-ghost use Rattle.reader.specs.Spans.{textAt};
-ghost use Rattle.sheet.specs.Answers.{formOf};
-ghost use Rattle.sheet.specs.Condition.{contains, isIn};
-ghost use Rattle.operands.specs.Comparing.{alike, holdsOf, nesting};
-ghost use Rattle.operands.specs.Layered.{eachNode, kids, partAt};
-ghost use Rattle.operands.specs.Matched.{Holds, NumbersTold, TextsTold, inOrder, namesOf};
-ghost use Rattle.operands.specs.Ready.{Ready};
-ghost use Rattle.operands.specs.Rooted.{sheetIn};
-ghost use Rattle.operands.specs.Shape.{oneAlike};
-ghost use Rattle.operands.specs.Stored.{OperandAt, Room, framesOf, operandOf, table};
-
-// How two texts are compared.
-pub enum Where {
-    Start,
-    Anywhere,
-    End,
-}
+ghost use Rattle.json.specs.Bytes.{isOneOf};
+ghost use Rattle.json.specs.Cursor.{OnText};
+ghost use Rattle.json.specs.Links.{Linked};
+ghost use Rattle.json.specs.Spans.{textAt};
+ghost use Rattle.members.specs.Answers.{formOf};
+ghost use Rattle.members.specs.Condition.{contains, isIn};
+ghost use Rattle.paths.specs.Comparing.{alike, holdsOf, nesting};
+ghost use Rattle.paths.specs.Layered.{eachNode, kids, partAt};
+ghost use Rattle.paths.specs.Matched.{Holds, NumbersTold, TextsTold, inOrder, namesOf};
+ghost use Rattle.paths.specs.Ready.{Ready};
+ghost use Rattle.members.specs.Sheet.{sheetIn};
+ghost use Rattle.paths.specs.Shape.{oneAlike};
+ghost use Rattle.paths.specs.Stored.{OperandAt, Room, framesOf, operandOf, table};
 
 // Whether an element of an array equals an operand.
 fn is_element(
@@ -49,7 +43,7 @@ fn is_element(
                 return false;
             }
             Child::Is(x) => {
-                let part = crate::layer::part_of(s, work, roots, frames, whole, x.node);
+                let part = resolving::layer::part_of(s, work, roots, frames, whole, x.node);
                 if crate::equal::equal_at(s, work, roots, frames, part, o, left) {
                     return true;
                 }
@@ -71,7 +65,7 @@ fn has_key(s: &[u8], work: &[u32], node: usize, key: usize) -> bool
                 return false;
             }
             Child::Is(x) => {
-                if reader::text::same(s, key, crate::rows::start_at(work, x.node)) {
+                if strings::text::same(s, key, paths::rows::start_at(work, x.node)) {
                     return true;
                 }
                 c = x.rest;
@@ -95,13 +89,13 @@ fn two_numbers(
 {
     let x = a.kind;
     let y = b.kind;
-    if crate::layer::class_of(x) != 3 {
+    if resolving::layer::class_of(x) != 3 {
         return false;
     }
-    if crate::layer::class_of(y) != 3 {
+    if resolving::layer::class_of(y) != 3 {
         return false;
     }
-    match crate::layer::number_order(s, work, a.node, b.node) {
+    match resolving::layer::number_order(s, work, a.node, b.node) {
         number::Order::Less => less,
         number::Order::Equal => same,
         number::Order::Greater => greater,
@@ -115,14 +109,14 @@ fn two_texts(s: &[u8], work: &[u32], a: Operand, b: Operand, place: Where) -> bo
 {
     let x = a.kind;
     let y = b.kind;
-    if crate::layer::class_of(x) != 4 {
+    if resolving::layer::class_of(x) != 4 {
         return false;
     }
-    if crate::layer::class_of(y) != 4 {
+    if resolving::layer::class_of(y) != 4 {
         return false;
     }
-    let text = crate::layer::text_place(s, work, a);
-    let part = crate::layer::text_place(s, work, b);
+    let text = resolving::layer::text_place(s, work, a);
+    let part = resolving::layer::text_place(s, work, b);
     match place {
         Where::Start => search::start::starts_with(s, text, part),
         Where::Anywhere => search::part::has_part(s, text, part),
@@ -145,7 +139,7 @@ fn contains(s: &[u8], work: &[u32], roots: Roots, frames: Frames, a: Operand, b:
 {
     let x = a.kind;
     let y = b.kind;
-    let class = crate::layer::class_of(x);
+    let class = resolving::layer::class_of(x);
     if class == 4 {
         return two_texts(s, work, a, b, Where::Anywhere);
     }
@@ -155,10 +149,10 @@ fn contains(s: &[u8], work: &[u32], roots: Roots, frames: Frames, a: Operand, b:
     if class != 6 {
         return false;
     }
-    if crate::layer::class_of(y) != 4 {
+    if resolving::layer::class_of(y) != 4 {
         return false;
     }
-    has_key(s, work, a.node, crate::layer::text_place(s, work, b))
+    has_key(s, work, a.node, resolving::layer::text_place(s, work, b))
 }
 
 // An array's element; without an array false.
@@ -167,7 +161,7 @@ fn is_in(s: &[u8], work: &[u32], roots: Roots, frames: Frames, a: Operand, b: Op
     ensures { λ r. ⌜ r ≡ holdsOf (sheetIn (now (s .entry))) (framesOf (now (s .entry)) (table (now (work .entry))) frames) isIn (operandOf (now (s .entry)) (table (now (work .entry))) a) (operandOf (now (s .entry)) (table (now (work .entry))) b) ⌝ }
 {
     let y = b.kind;
-    if crate::layer::class_of(y) != 5 {
+    if resolving::layer::class_of(y) != 5 {
         return false;
     }
     is_element(s, work, roots, frames, a, b, nesting(frames.depth))

@@ -11,14 +11,14 @@ use lib.Seq.{drop-cons}
 use native.Mathlib.Omega.{arith}
 use borrow.Author.Tests.{not-true}
 use Rattle.order.specs.ByText.{TextNode, TextNodes, byKey, insert, keyAt}
-use Rattle.reader.proofs.Sorted.{OrderView, isEq′, isGt, isLt, order-view}
-use Rattle.reader.proofs.KeyOrder.{Each, each-inOrder}
-use Rattle.reader.proofs.Laws.{both-true, sameBytes-refl}
-use Rattle.reader.specs.Bytes.{Bytes, isOneOf, orderBytes, sameBytes}
-use Rattle.reader.specs.Json.{Members, Value, keys}
-use Rattle.reader.specs.KeyOrder.{inOrder, namesAt, namesBy, nodesOf, put}
-use Rattle.reader.specs.Limits.{tidy, tidyOf}
-use Rattle.reader.specs.Table.{afterAt, membersAt, membersBy, valueAt}
+use Rattle.json.proofs.Sorted.{OrderView, isEq′, isGt, isLt, order-view}
+use Rattle.json.proofs.KeyOrder.{Each, each-inOrder}
+use Rattle.json.proofs.Laws.{both-true, sameBytes-refl}
+use Rattle.json.specs.Bytes.{Bytes, isOneOf, orderBytes, sameBytes}
+use Rattle.json.specs.Json.{Members, Value, keys}
+use Rattle.json.specs.KeyOrder.{inOrder, namesAt, namesBy, nodesOf, put}
+use Rattle.json.specs.Limits.{tidy, tidyOf}
+use Rattle.json.specs.Table.{afterAt, membersAt, membersBy, valueAt}
 
 -- ---- the same nodes
 module _ (key : ℕ → Bytes) where

@@ -11,9 +11,9 @@ use lib.Dec.{ltb}
 use lib.ListN.{drop, drop-of-length-le, getD, length, length-set, take}
 use lib.Seq.{drop-cons, drop-set-lt, getD-set-other, getD-set-same, take-set-le}
 use borrow.Author.Tests.{le-ltb, lt-ltb}
-use Rattle.reader.specs.Limits.{maxNodes}
-use Rattle.reader.specs.Links.{linkAt, linkedBy}
-use Rattle.reader.specs.Marks.{firstMark}
+use Rattle.json.specs.Limits.{maxNodes}
+use Rattle.json.specs.Links.{linkAt, linkedBy}
+use Rattle.json.specs.Marks.{firstMark}
 use Rattle.order.proofs.Distinct.{Distinct, oneMore}
 use Rattle.order.specs.Chained.{AllSmall, chained, linked}
 

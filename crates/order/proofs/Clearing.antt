@@ -9,7 +9,7 @@ use lib.Dec.{eqb}
 use lib.ListN.{drop, getD, length, length-set, set, take}
 use lib.Seq.{drop-drop, drop-set-lt, getD-set-other, getD-set-same, take-set-le}
 use borrow.Author.Tests.{eqb-false, eqb-true}
-use Rattle.reader.specs.Marks.{firstMark}
+use Rattle.json.specs.Marks.{firstMark}
 use Rattle.order.specs.Chained.{ClearedBehind}
 
 pub record Clearing (w₀ : List ℕ) (count : ℕ) (w : List ℕ) (k : ℕ) : Type 0 where

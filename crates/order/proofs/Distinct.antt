@@ -5,7 +5,7 @@ use mathlib.Core.Logic.{⊎-elim}
 use mathlib.Core.Path.{refl, sym, _≡_}
 use Prim.Native.Nat.{Ordering, Ordering·eq, Ordering·gt, Ordering·lt, ℕ}
 use native.Mathlib.Omega.{arith}
-use Rattle.reader.specs.Bytes.{Bytes, orderBytes}
+use Rattle.json.specs.Bytes.{Bytes, orderBytes}
 use Rattle.order.proofs.ByText.{byKey-within}
 use Rattle.order.proofs.Names.{Ascends}
 use Rattle.order.specs.ByText.{byKey, insert}

@@ -9,11 +9,11 @@ use native.Mathlib.Omega.{arith}
 use lib.Dec.{ltb}
 use lib.ListN.{length, length-set, set, take}
 use lib.Seq.{take-suc-set}
-use Rattle.reader.proofs.Walk.{members-more, ordered-members}
-use Rattle.reader.specs.Bytes.{Bytes}
-use Rattle.reader.specs.Held.{HasMembers}
-use Rattle.reader.specs.KeyOrder.{namesAt, namesBy, nodesOf}
-use Rattle.reader.specs.Table.{afterAt}
+use Rattle.json.proofs.Walk.{members-more, ordered-members}
+use Rattle.json.specs.Bytes.{Bytes}
+use Rattle.json.specs.Held.{HasMembers}
+use Rattle.json.specs.KeyOrder.{namesAt, namesBy, nodesOf}
+use Rattle.json.specs.Table.{afterAt}
 use Rattle.order.proofs.Names.{names-done, names-more}
 use Rattle.order.specs.Chained.{CanGather, Gathered}
 

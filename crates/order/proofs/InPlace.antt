@@ -10,7 +10,7 @@ use lib.ListN.{drop, drop-of-length-le, getD, length, length-set, set, take, tak
 use lib.Seq.{append-snoc, drop-cons, drop-set-lt, take-suc-set}
 use Rattle.order.proofs.Merging.{Rising, above-some, first-left, first-right, rising-byKey, risingMore, sorted-rises}
 use Rattle.order.specs.ByText.{Halves, TextNodes, byKey, isAbove, keyAt}
-use Rattle.reader.specs.Bytes.{Bytes}
+use Rattle.json.specs.Bytes.{Bytes}
 
 -- the left from i on and the nodes from j on are still to come; the nodes before k are done
 pub record Merging (s : Bytes) (w left nodes₀ nodes : List ℕ) (i j k : ℕ) : Type 0 where

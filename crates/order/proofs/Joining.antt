@@ -12,7 +12,7 @@ use lib.Seq.{drop-at, drop-cons, drop-length, getD-take, length-take-le, take-at
 use Rattle.order.proofs.ByText.{length-byKey, text-append, text-drop, text-nodes-sorted, text-take}
 use Rattle.order.proofs.Merging.{AtMost, byKey-parts, byKey-rising, not-after, rising-byKey, rising-join, sorted-rises}
 use Rattle.order.specs.ByText.{Halves, Joinable, TextNodes, byKey, isAfter, keyAt}
-use Rattle.reader.specs.Bytes.{Bytes}
+use Rattle.json.specs.Bytes.{Bytes}
 
 module _ (s : Bytes) (w nodes : List ℕ) (mid : ℕ) (j : Joinable s w nodes mid) where
   pub front : length (take mid nodes) ≡ mid

@@ -6,21 +6,21 @@ use Prim.Native.Nat.{ℕ, _*_, _+_, _-_, _<_, _≤_}
 use native.Mathlib.Omega.{arith}
 use lib.ListN.{drop, take}
 use lib.Seq.{take-take}
-use Rattle.reader.proofs.Walk.{after-node, ordered-members}
-use Rattle.reader.specs.Bytes.{Bytes}
-use Rattle.reader.specs.Held.{HasMembers}
-use Rattle.reader.specs.KeyOrder.{inOrder, namesAt, nodesOf}
-use Rattle.reader.specs.Limits.{maxNodes, maxNumber}
-use Rattle.reader.specs.Links.{LinkedAt, linkAt, linkedBy}
-use Rattle.reader.specs.Marks.{firstMark}
-use Rattle.reader.specs.Table.{afterAt, kindAt}
+use Rattle.json.proofs.Walk.{after-node, ordered-members}
+use Rattle.json.specs.Bytes.{Bytes}
+use Rattle.json.specs.Held.{HasMembers}
+use Rattle.json.specs.KeyOrder.{inOrder, namesAt, nodesOf}
+use Rattle.json.specs.Limits.{maxNodes, maxNumber}
+use Rattle.json.specs.Links.{LinkedAt, linkAt, linkedBy}
+use Rattle.json.specs.Marks.{firstMark}
+use Rattle.json.specs.Table.{afterAt, kindAt}
 use Rattle.order.proofs.ByText.{byKey-within, length-byKey, names-sorted, text-all, text-getD, text-nodes-sorted}
 use Rattle.order.proofs.Chains.{chained-further, chained-leads, chained-other, chained-rows, leads-still}
 use Rattle.order.proofs.Distinct.{Distinct, distinct-sorted, oneMore}
 use Rattle.order.proofs.Names.{name-row, names-ascend, names-few}
 use Rattle.order.proofs.Owned.{owned}
 use Rattle.order.proofs.Prefix.{names-rows}
-use Rattle.reader.proofs.Prefix.{word-prefix}
+use Rattle.json.proofs.Prefix.{word-prefix}
 use Rattle.order.proofs.Rows.{ObjectRow, object-row}
 use Rattle.order.specs.ByText.{TextNodes, byKey, keyAt}
 use Rattle.order.specs.Chained.{AllSmall, orderedAt}

@@ -9,8 +9,8 @@ use lib.Dec.{ltb}
 use lib.ListN.{drop, drop-of-length-le, getD, length}
 use borrow.Author.Tests.{ltb-false, ltb-true}
 use Rattle.order.specs.ByText.{byKey, insert, isAbove, isAfter, isMore}
-use Rattle.reader.proofs.Sorted.{Less, OrderView, isEq′, isGt, isLt, less-order, less-trans, more-order, order-view, same-order}
-use Rattle.reader.specs.Bytes.{Bytes, orderBytes}
+use Rattle.json.proofs.Sorted.{Less, OrderView, isEq′, isGt, isLt, less-order, less-trans, more-order, order-view, same-order}
+use Rattle.json.specs.Bytes.{Bytes, orderBytes}
 
 -- ---- a key that is not above another
 pub data AtMost (a b : Bytes) : Type 0 where

@@ -10,12 +10,12 @@ use native.Mathlib.Omega.{arith}
 use lib.Dec.{ltb}
 use lib.ListN.{length}
 use borrow.Author.Tests.{le-ltb, lt-ltb, ltb-true}
-use Rattle.reader.proofs.Walk.{members-more}
-use Rattle.reader.specs.Bytes.{Bytes}
-use Rattle.reader.specs.Held.{AreMembers, HasMembers, HasNode}
-use Rattle.reader.specs.KeyOrder.{namesAt, namesBy, nodesOf}
-use Rattle.reader.specs.Spans.{textAt}
-use Rattle.reader.specs.Table.{afterAt, endAt, kindAt, startAt}
+use Rattle.json.proofs.Walk.{members-more}
+use Rattle.json.specs.Bytes.{Bytes}
+use Rattle.json.specs.Held.{AreMembers, HasMembers, HasNode}
+use Rattle.json.specs.KeyOrder.{namesAt, namesBy, nodesOf}
+use Rattle.json.specs.Spans.{textAt}
+use Rattle.json.specs.Table.{afterAt, endAt, kindAt, startAt}
 use Rattle.order.specs.ByText.{TextNode}
 
 -- each less than those behind it

@@ -8,18 +8,18 @@ use native.Mathlib.Omega.{arith}
 use lib.Dec.{eqb, ltb}
 use lib.ListN.{length, take}
 use borrow.Author.Tests.{eqb-false, eqb-true, ltb-false, ltb-true}
-use Rattle.reader.proofs.Decoded.{size-pos}
-use Rattle.reader.proofs.Walk.{after-node}
-use Rattle.reader.specs.Bytes.{Bytes}
-use Rattle.reader.specs.Held.{HasMembers, IsNode}
-use Rattle.reader.specs.Limits.{maxDepth, maxNodes, maxNumber, tidy}
-use Rattle.reader.specs.Links.{LinkedAt}
-use Rattle.reader.specs.Marks.{firstMark}
-use Rattle.reader.specs.Table.{afterAt, kindAt, valueAt}
+use Rattle.json.proofs.Decoded.{size-pos}
+use Rattle.json.proofs.Walk.{after-node}
+use Rattle.json.specs.Bytes.{Bytes}
+use Rattle.json.specs.Held.{HasMembers, IsNode}
+use Rattle.json.specs.Limits.{maxDepth, maxNodes, maxNumber, tidy}
+use Rattle.json.specs.Links.{LinkedAt}
+use Rattle.json.specs.Marks.{firstMark}
+use Rattle.json.specs.Table.{afterAt, kindAt, valueAt}
 use Rattle.order.proofs.Clearing.{cleared-further}
 use Rattle.order.proofs.Linking.{count-small, fewer, further-words, linked-here, linked-there, object, rows}
 use Rattle.order.proofs.Prefix.{node-rows}
-use Rattle.reader.proofs.Prefix.{word-prefix}
+use Rattle.json.proofs.Prefix.{word-prefix}
 use Rattle.order.specs.Chained.{ClearedBehind, orderedAt}
 use Rattle.order.specs.Ordered.{LinkedUpto, Ordered, Unordered}
 

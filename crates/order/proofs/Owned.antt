@@ -6,11 +6,11 @@ use mathlib.Core.Path.{ap, _≡_}
 use Prim.Native.Nat.{ℕ, _+_, _<_, _≤_}
 use native.Mathlib.Decide.{decLt}
 use native.Mathlib.Omega.{arith}
-use Rattle.reader.proofs.Walk.{members-more}
-use Rattle.reader.specs.Bytes.{Bytes}
-use Rattle.reader.specs.Held.{AreMembers, HasMembers, IsNode}
-use Rattle.reader.specs.KeyOrder.{namesAt, nodesOf}
-use Rattle.reader.specs.Table.{afterAt, kindAt}
+use Rattle.json.proofs.Walk.{members-more}
+use Rattle.json.specs.Bytes.{Bytes}
+use Rattle.json.specs.Held.{AreMembers, HasMembers, IsNode}
+use Rattle.json.specs.KeyOrder.{namesAt, nodesOf}
+use Rattle.json.specs.Table.{afterAt, kindAt}
 use Rattle.order.proofs.Names.{by-members, name-cases, name-none, name-row}
 use Rattle.order.proofs.Rows.{nested, object-members}
 

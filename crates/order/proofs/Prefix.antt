@@ -5,13 +5,13 @@ use mathlib.Core.Path.{sym, _∙_, _≡_}
 use Prim.Native.Nat.{ℕ, _*_, _+_, _<_}
 use native.Mathlib.Omega.{arith}
 use lib.ListN.{take}
-use Rattle.reader.proofs.Decoded.{length-rows, length-rowsOf, node-after}
-use Rattle.reader.proofs.Prefix.{begins-prefix, word-prefix}
-use Rattle.reader.proofs.Walk.{members-more, value-is}
-use Rattle.reader.specs.Bytes.{Bytes}
-use Rattle.reader.specs.Held.{AreMembers, HasMembers, IsNode, NodeAt}
-use Rattle.reader.specs.KeyOrder.{namesAt}
-use Rattle.reader.specs.Table.{afterAt, rows, rowsOf, valueAt}
+use Rattle.json.proofs.Decoded.{length-rows, length-rowsOf, node-after}
+use Rattle.json.proofs.Prefix.{begins-prefix, word-prefix}
+use Rattle.json.proofs.Walk.{members-more, value-is}
+use Rattle.json.specs.Bytes.{Bytes}
+use Rattle.json.specs.Held.{AreMembers, HasMembers, IsNode, NodeAt}
+use Rattle.json.specs.KeyOrder.{namesAt}
+use Rattle.json.specs.Table.{afterAt, rows, rowsOf, valueAt}
 use Rattle.order.proofs.Names.{by-members, names-done, names-more}
 
 module _ (s : Bytes) (w v : List ℕ) where

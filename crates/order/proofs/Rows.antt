@@ -6,14 +6,14 @@ use mathlib.Core.Path.{ap, subst, sym, _∙_, _≡_}
 use Prim.Native.Nat.{ℕ, _+_, _-_, _<_, _≤_}
 use native.Mathlib.Decide.{decLt}
 use native.Mathlib.Omega.{arith}
-use Rattle.reader.proofs.Decoded.{arr-parts, fields-parts, node-after, nodes-parts, obj-parts, size-pos}
-use Rattle.reader.proofs.Walk.{View, after-node, isArray, isObject, isPlain, value-is, view}
-use Rattle.reader.specs.Bytes.{Bytes, isOneOf}
-use Rattle.reader.specs.Held.{FieldsAt, HasMembers, HasNode, IsNode, NodeAt, NodesAt}
-use Rattle.reader.specs.Json.{keys, object}
-use Rattle.reader.specs.Limits.{maxDepth, maxNodes, maxNumber, tidy, tidyIn, tidyOf}
-use Rattle.reader.specs.Spans.{Fields, Node, Nodes, Plain, arr, erase, eraseIn, eraseOf, field, isFalse, isNull, isNumber, isText, isTrue, leaf, noField, noNode, node, obj, size, textAt}
-use Rattle.reader.specs.Table.{afterAt, code, kindAt, membersAt, valueAt}
+use Rattle.json.proofs.Decoded.{arr-parts, fields-parts, node-after, nodes-parts, obj-parts, size-pos}
+use Rattle.json.proofs.Walk.{View, after-node, isArray, isObject, isPlain, value-is, view}
+use Rattle.json.specs.Bytes.{Bytes, isOneOf}
+use Rattle.json.specs.Held.{FieldsAt, HasMembers, HasNode, IsNode, NodeAt, NodesAt}
+use Rattle.json.specs.Json.{keys, object}
+use Rattle.json.specs.Limits.{maxDepth, maxNodes, maxNumber, tidy, tidyIn, tidyOf}
+use Rattle.json.specs.Spans.{Fields, Node, Nodes, Plain, arr, erase, eraseIn, eraseOf, field, isFalse, isNull, isNumber, isText, isTrue, leaf, noField, noNode, node, obj, size, textAt}
+use Rattle.json.specs.Table.{afterAt, code, kindAt, membersAt, valueAt}
 
 -- row i of a tree that ends before node e and is tidy or not: a member's name, or a node, tidy if the tree is
 data RowOf (s : Bytes) (w : List ℕ) (e : ℕ) (isTidy : Bool) (i : ℕ) : Type 0 where

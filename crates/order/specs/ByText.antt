@@ -5,11 +5,11 @@ use mathlib.Core.List.{List, [], _∷_}
 use mathlib.Core.Path.{_≡_}
 use Prim.Native.Nat.{Ordering, Ordering·eq, Ordering·gt, Ordering·lt, ℕ, _<_, _≤_}
 use lib.ListN.{drop, length, take}
-use Rattle.reader.specs.Bytes.{Bytes, orderBytes}
-use Rattle.reader.specs.Cursor.{OnText}
-use Rattle.reader.specs.Limits.{maxNodes}
-use Rattle.reader.specs.Spans.{textAt}
-use Rattle.reader.specs.Table.{startAt}
+use Rattle.json.specs.Bytes.{Bytes, orderBytes}
+use Rattle.json.specs.Cursor.{OnText}
+use Rattle.json.specs.Limits.{maxNodes}
+use Rattle.json.specs.Spans.{textAt}
+use Rattle.json.specs.Table.{startAt}
 
 -- a node's text
 abbrev pub keyAt : Bytes → List ℕ → ℕ → Bytes

@@ -5,12 +5,12 @@ use mathlib.Core.Path.{_≡_}
 use Prim.Native.Nat.{ℕ, _*_, _+_, _<_, _≤_}
 use lib.ListN.{drop, getD, length, set, take}
 use Rattle.order.specs.ByText.{byKey, keyAt}
-use Rattle.reader.specs.Bytes.{Bytes}
-use Rattle.reader.specs.Held.{HasMembers}
-use Rattle.reader.specs.KeyOrder.{namesAt, nodesOf}
-use Rattle.reader.specs.Limits.{maxNodes}
-use Rattle.reader.specs.Marks.{firstMark}
-use Rattle.reader.specs.Table.{afterAt}
+use Rattle.json.specs.Bytes.{Bytes}
+use Rattle.json.specs.Held.{HasMembers}
+use Rattle.json.specs.KeyOrder.{namesAt, nodesOf}
+use Rattle.json.specs.Limits.{maxNodes}
+use Rattle.json.specs.Marks.{firstMark}
+use Rattle.json.specs.Table.{afterAt}
 
 -- a node that can be linked to another, or to the end
 pub record CanLink (w : List ℕ) (node next : ℕ) : Type 0 where

@@ -5,12 +5,12 @@ use mathlib.Core.List.{List}
 use mathlib.Core.Path.{_≡_}
 use Prim.Native.Nat.{ℕ, _*_, _<_, _≤_}
 use lib.ListN.{drop, getD, length, take}
-use Rattle.reader.specs.Bytes.{Bytes}
-use Rattle.reader.specs.Held.{IsNode}
-use Rattle.reader.specs.Limits.{maxDepth, maxNumber, tidy}
-use Rattle.reader.specs.Links.{Linked, LinkedAt}
-use Rattle.reader.specs.Marks.{firstMark}
-use Rattle.reader.specs.Table.{afterAt, kindAt, valueAt}
+use Rattle.json.specs.Bytes.{Bytes}
+use Rattle.json.specs.Held.{IsNode}
+use Rattle.json.specs.Limits.{maxDepth, maxNumber, tidy}
+use Rattle.json.specs.Links.{Linked, LinkedAt}
+use Rattle.json.specs.Marks.{firstMark}
+use Rattle.json.specs.Table.{afterAt, kindAt, valueAt}
 
 -- the table holds a tree from node 0 on, in which no object has a name twice
 pub record Unordered (s : Bytes) (w : List ℕ) : Type 0 where

@@ -1,5 +1,5 @@
 // Links through the members of every object.
-use reader::rows::after_at;
+use strings::rows::after_at;
 ghost use mathlib.Core.Path.{_≡_};
 ghost use Prim.Native.Nat.{_≤_};
 ghost use lib.ListN.{length};

@@ -1,6 +1,6 @@
 // Nodes by the bytes of their texts, ascending: a merge sort.
-use reader::rows::start_at;
-use reader::text::Order;
+use strings::rows::start_at;
+use strings::text::Order;
 ghost use mathlib.Core.List.{_++_};
 ghost use mathlib.Core.Path.{_≡_};
 ghost use Prim.Native.Nat.{_<_, _≤_};
@@ -14,7 +14,7 @@ fn is_after(s: &[u8], work: &[u32], a: usize, b: usize) -> bool
 {
     let x = start_at(work, a);
     let y = start_at(work, b);
-    match reader::text::compare(s, x, y) {
+    match strings::text::compare(s, x, y) {
         Order::Less => false,
         Order::Same => false,
         Order::More => true,

@@ -7,29 +7,29 @@ use Prim.Native.Nat.{suc, ℕ, _*_, _+_, _-_, _<_, _≤_}
 use native.Mathlib.Omega.{arith}
 use lib.ListN.{drop, length}
 use lib.Seq.{length-sets, sets}
-use Rattle.reader.proofs.Agree.{ValueAgrees, read-facts}
-use Rattle.reader.proofs.Decoded.{length-rowsIn}
-use Rattle.reader.proofs.Loops.{Reading, array-opens, array-shut, item-ends, item-fails, item-on, item-refused, joined, past-end, sizeIn-more}
-use Rattle.reader.proofs.Values.{told-bad}
+use Rattle.json.proofs.Agree.{ValueAgrees, read-facts}
+use Rattle.json.proofs.Decoded.{length-rowsIn}
+use Rattle.leaves.proofs.Loops.{Reading, array-opens, array-shut, item-ends, item-fails, item-on, item-refused, joined, past-end, sizeIn-more}
+use Rattle.leaves.proofs.Values.{told-bad}
 use Rattle.reader.proofs.Words.{drop-sets, words-arr, words-item}
-use Rattle.reader.specs.Answers.{refusalOf}
-use Rattle.reader.specs.Bytes.{Bytes}
-use Rattle.reader.specs.Laid.{Continues, Opens, ParsedTold, RowLaid, Rows}
-use Rattle.reader.specs.Limits.{maxNodes}
-use Rattle.reader.specs.Naming.{Grown}
-use Rattle.reader.specs.Placing.{Placed, arrAt, readAt}
-use Rattle.reader.specs.Json.{Value}
-use Rattle.reader.specs.Reader.{Parsed}
-use Rattle.reader.specs.Refusal.{Result, notJson, ok, refused}
-use Rattle.reader.specs.Spans.{Node, Nodes, arr, noNode, node, sizeIn}
-use Rattle.reader.specs.Table.{rowsIn}
-use Rattle.reader.specs.declared.answer.Parsed.{Parsed as Answer}
-use Rattle.reader.specs.declared.answer.Parsed.the-variants as parseds
-use Rattle.reader.specs.declared.answer.Place.{Place}
-use Rattle.reader.specs.declared.answer.Refusal.{Refusal as Why}
-use Rattle.reader.specs.declared.answer.Refusal.the-variants as whys
-use Rattle.reader.specs.declared.bracket.Sep.{Sep}
-use Rattle.reader.specs.declared.bracket.Sep.the-variants as seps
+use Rattle.strings.specs.Answers.{refusalOf}
+use Rattle.json.specs.Bytes.{Bytes}
+use Rattle.leaves.specs.Laid.{Continues, Opens, ParsedTold, RowLaid, Rows}
+use Rattle.json.specs.Limits.{maxNodes}
+use Rattle.json.specs.Naming.{Grown}
+use Rattle.json.specs.Placing.{Placed, arrAt, readAt}
+use Rattle.json.specs.Json.{Value}
+use Rattle.json.specs.Reader.{Parsed}
+use Rattle.json.specs.Refusal.{Result, notJson, ok, refused}
+use Rattle.json.specs.Spans.{Node, Nodes, arr, noNode, node, sizeIn}
+use Rattle.json.specs.Table.{rowsIn}
+use Rattle.strings.specs.declared.answer.Parsed.{Parsed as Answer}
+use Rattle.strings.specs.declared.answer.Parsed.the-variants as parseds
+use Rattle.strings.specs.declared.answer.Place.{Place}
+use Rattle.strings.specs.declared.answer.Refusal.{Refusal as Why}
+use Rattle.strings.specs.declared.answer.Refusal.the-variants as whys
+use Rattle.leaves.specs.declared.bracket.Sep.{Sep}
+use Rattle.leaves.specs.declared.bracket.Sep.the-variants as seps
 
 -- what falls with each turn of a loop over separators
 unfoldable pub reach : Bytes → Sep → ℕ

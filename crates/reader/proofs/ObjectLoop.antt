@@ -8,40 +8,40 @@ use native.Mathlib.Omega.{arith}
 use lib.Dec.{eqb}
 use lib.ListN.{List·getD-eq-default, drop, getD, length, take}
 use lib.Seq.{drop-at, length-sets, length-take-le, sets, sets-eq}
-use Rattle.reader.proofs.Agree.{ValueAgrees, read-facts}
+use Rattle.json.proofs.Agree.{ValueAgrees, read-facts}
 use Rattle.reader.proofs.ArrayLoop.{past-rows}
-use Rattle.reader.proofs.Decoded.{length-rowsOf}
-use Rattle.reader.proofs.Laws.{ok-injective, sameBytes-true}
-use Rattle.reader.proofs.Loops.{Naming, closesOf, joinedOf, keys-more, member-ends, member-fails, member-on, object-opens, object-shut, one-more, sizeOf-more, value-refused}
-use Rattle.reader.proofs.MemberName.{byte-inside, no-quote, skip-past}
-use Rattle.reader.proofs.Sound.{bind-inv, newName-sound, oneNode-sound}
-use Rattle.reader.proofs.Texts.{text-read}
-use Rattle.reader.proofs.Values.{told-bad}
-use Rattle.reader.proofs.Walk.{members-are}
+use Rattle.json.proofs.Decoded.{length-rowsOf}
+use Rattle.json.proofs.Laws.{ok-injective, sameBytes-true}
+use Rattle.leaves.proofs.Loops.{Naming, closesOf, joinedOf, keys-more, member-ends, member-fails, member-on, object-opens, object-shut, one-more, sizeOf-more, value-refused}
+use Rattle.leaves.proofs.MemberName.{byte-inside, no-quote, skip-past}
+use Rattle.json.proofs.Sound.{bind-inv, newName-sound, oneNode-sound}
+use Rattle.json.proofs.Texts.{text-read}
+use Rattle.leaves.proofs.Values.{told-bad}
+use Rattle.json.proofs.Walk.{members-are}
 use Rattle.reader.proofs.Words.{words-member, words-obj}
-use Rattle.reader.specs.Answers.{refusalOf}
-use Rattle.reader.specs.Bytes.{Bytes, isOneOf, sameBytes}
-use Rattle.reader.specs.Fits.{Fits, FitsOf, Text, fitsEmpty, fitsField}
-use Rattle.reader.specs.Held.{Begins, FieldsAt, HasMembers}
-use Rattle.reader.specs.Json.{Value, keys}
-use Rattle.reader.specs.Laid.{Continues, NameLaid, NameTold, Opens, ParsedTold, RowLaid, Rows, earlier}
-use Rattle.reader.specs.Limits.{maxDepth, maxNodes}
-use Rattle.reader.specs.Naming.{Grown, NameSpan, Noted, hashed, nameAt}
-use Rattle.reader.specs.Placing.{Placed, Placer, byteAt, charsAt, fieldsAt, objAt, readAt, skipAt}
-use Rattle.reader.specs.Reader.{Parsed, newName, oneNode}
-use Rattle.reader.specs.Refusal.{Refusal, Result, notJson, ok, refused, _>>=_}
-use Rattle.reader.specs.Spans.{Fields, Node, deep, deepOf, eraseOf, field, noField, obj, sizeOf, textAt}
-use Rattle.reader.specs.Table.{rowsOf}
-use Rattle.reader.specs.declared.answer.Parsed.{Parsed as Answer}
-use Rattle.reader.specs.declared.answer.Parsed.the-variants as parseds
-use Rattle.reader.specs.declared.answer.Place.{Place}
-use Rattle.reader.specs.declared.answer.Refusal.{Refusal as Why}
-use Rattle.reader.specs.declared.answer.Refusal.the-variants as whys
-use Rattle.reader.specs.declared.names.Named.{Named}
-use Rattle.reader.specs.declared.names.Named.the-variants as nameds
-use Rattle.reader.specs.declared.names.Spelt.{Spelt}
-use Rattle.reader.specs.declared.bracket.Sep.{Sep}
-use Rattle.reader.specs.declared.bracket.Sep.the-variants as seps
+use Rattle.strings.specs.Answers.{refusalOf}
+use Rattle.json.specs.Bytes.{Bytes, isOneOf, sameBytes}
+use Rattle.json.specs.Fits.{Fits, FitsOf, Text, fitsEmpty, fitsField}
+use Rattle.json.specs.Held.{Begins, FieldsAt, HasMembers}
+use Rattle.json.specs.Json.{Value, keys}
+use Rattle.leaves.specs.Laid.{Continues, NameLaid, NameTold, Opens, ParsedTold, RowLaid, Rows, earlier}
+use Rattle.json.specs.Limits.{maxDepth, maxNodes}
+use Rattle.json.specs.Naming.{Grown, NameSpan, Noted, hashed, nameAt}
+use Rattle.json.specs.Placing.{Placed, Placer, byteAt, charsAt, fieldsAt, objAt, readAt, skipAt}
+use Rattle.json.specs.Reader.{Parsed, newName, oneNode}
+use Rattle.json.specs.Refusal.{Refusal, Result, notJson, ok, refused, _>>=_}
+use Rattle.json.specs.Spans.{Fields, Node, deep, deepOf, eraseOf, field, noField, obj, sizeOf, textAt}
+use Rattle.json.specs.Table.{rowsOf}
+use Rattle.strings.specs.declared.answer.Parsed.{Parsed as Answer}
+use Rattle.strings.specs.declared.answer.Parsed.the-variants as parseds
+use Rattle.strings.specs.declared.answer.Place.{Place}
+use Rattle.strings.specs.declared.answer.Refusal.{Refusal as Why}
+use Rattle.strings.specs.declared.answer.Refusal.the-variants as whys
+use Rattle.leaves.specs.declared.names.Named.{Named}
+use Rattle.leaves.specs.declared.names.Named.the-variants as nameds
+use Rattle.leaves.specs.declared.names.Spelt.{Spelt}
+use Rattle.leaves.specs.declared.bracket.Sep.{Sep}
+use Rattle.leaves.specs.declared.bracket.Sep.the-variants as seps
 use borrow.Author.Tests.{eqb-true}
 
 -- ---- a name that was refused, and one that was read

@@ -7,30 +7,30 @@ use Prim.Native.Nat.{ℕ, _-_, _<_, _≤_}
 use native.Mathlib.Omega.{arith}
 use lib.Dec.{leb}
 use lib.ListN.{drop, length}
-use Rattle.reader.proofs.Agree.{erased, json-erased, read-facts}
+use Rattle.json.proofs.Agree.{erased, json-erased, read-facts}
 use Rattle.reader.proofs.ArrayLoop.{past-rows}
-use Rattle.reader.proofs.Decoded.{length-rows, node-after}
-use Rattle.reader.proofs.Laws.{bind-ok}
-use Rattle.reader.proofs.Loops.{bind-refused}
-use Rattle.reader.proofs.MemberName.{skip-past}
-use Rattle.reader.proofs.Walk.{accepted, stored, value-is}
-use Rattle.reader.specs.Answers.{refusalOf}
-use Rattle.reader.specs.Bytes.{Bytes}
-use Rattle.reader.specs.Json.{Value}
-use Rattle.reader.specs.Laid.{ParsedTold, Rows}
-use Rattle.reader.specs.Limits.{maxBytes, maxDepth, nodes, nodesIn, nodesOf}
-use Rattle.reader.specs.Placing.{Placed, readAt, skipAt, spanned, wholeAt}
-use Rattle.reader.specs.Reader.{json}
-use Rattle.reader.specs.Reads.{HoldsOf, ReadTold, readOf, reading}
-use Rattle.reader.specs.Refusal.{Refusal, Result, notJson, notUtf8, ok, refused, tooLong, _>>=_}
-use Rattle.reader.specs.Spans.{Fields, Node, Nodes, Plain, arr, erase, eraseIn, eraseOf, field, isFalse, isNull, isNumber, isText, isTrue, leaf, noField, noNode, node, obj, plain, size, sizeIn, sizeOf}
-use Rattle.reader.specs.Table.{rows, valueAt}
-use Rattle.reader.specs.Utf8.{scalar, utf8}
-use Rattle.reader.specs.declared.answer.Parsed.the-variants as parseds
-use Rattle.reader.specs.declared.answer.Place.{Place}
-use Rattle.reader.specs.declared.answer.Read.the-variants as reads
-use Rattle.reader.specs.declared.answer.Refusal.{Refusal as Why}
-use Rattle.reader.specs.declared.answer.Refusal.the-variants as whys
+use Rattle.json.proofs.Decoded.{length-rows, node-after}
+use Rattle.json.proofs.Laws.{bind-ok}
+use Rattle.leaves.proofs.Loops.{bind-refused}
+use Rattle.leaves.proofs.MemberName.{skip-past}
+use Rattle.json.proofs.Walk.{accepted, stored, value-is}
+use Rattle.strings.specs.Answers.{refusalOf}
+use Rattle.json.specs.Bytes.{Bytes}
+use Rattle.json.specs.Json.{Value}
+use Rattle.leaves.specs.Laid.{ParsedTold, Rows}
+use Rattle.json.specs.Limits.{maxBytes, maxDepth, nodes, nodesIn, nodesOf}
+use Rattle.json.specs.Placing.{Placed, readAt, skipAt, spanned, wholeAt}
+use Rattle.json.specs.Reader.{json}
+use Rattle.strings.specs.Reads.{HoldsOf, ReadTold, readOf, reading}
+use Rattle.json.specs.Refusal.{Refusal, Result, notJson, notUtf8, ok, refused, tooLong, _>>=_}
+use Rattle.json.specs.Spans.{Fields, Node, Nodes, Plain, arr, erase, eraseIn, eraseOf, field, isFalse, isNull, isNumber, isText, isTrue, leaf, noField, noNode, node, obj, plain, size, sizeIn, sizeOf}
+use Rattle.json.specs.Table.{rows, valueAt}
+use Rattle.json.specs.Utf8.{scalar, utf8}
+use Rattle.strings.specs.declared.answer.Parsed.the-variants as parseds
+use Rattle.strings.specs.declared.answer.Place.{Place}
+use Rattle.strings.specs.declared.answer.Read.the-variants as reads
+use Rattle.strings.specs.declared.answer.Refusal.{Refusal as Why}
+use Rattle.strings.specs.declared.answer.Refusal.the-variants as whys
 use borrow.Author.Tests.{eq-eqb, le-leb, lt-leb, ne-eqb}
 
 -- ---- each value and each name is a node

@@ -7,10 +7,10 @@ use native.Mathlib.Nat.{add-zero}
 use native.Mathlib.Omega.{arith}
 use lib.ListN.{drop, length, set}
 use lib.Seq.{drop-set-lt, set-comm, sets}
-use Rattle.reader.proofs.Decoded.{length-rowsIn, length-rowsOf}
-use Rattle.reader.proofs.Loops.{joined, joinedOf, rowsIn-more, rowsOf-more}
-use Rattle.reader.specs.Spans.{Fields, Node, Nodes, arr, field, noField, noNode, node, obj, sizeIn, sizeOf}
-use Rattle.reader.specs.Table.{rows, rowsIn, rowsOf}
+use Rattle.json.proofs.Decoded.{length-rowsIn, length-rowsOf}
+use Rattle.leaves.proofs.Loops.{joined, joinedOf, rowsIn-more, rowsOf-more}
+use Rattle.json.specs.Spans.{Fields, Node, Nodes, arr, field, noField, noNode, node, obj, sizeIn, sizeOf}
+use Rattle.json.specs.Table.{rows, rowsIn, rowsOf}
 
 -- one run after another
 pub sets-append : (vs ws l : List ℕ) (i : ℕ) → sets l i (vs ++ ws) ≡ sets (sets l i vs) (i + length vs) ws

@@ -1,12 +1,12 @@
 // Values of the sheet, laid out in the table. A value, an array and an object call each other; the brackets that may still be open fall.
-use crate::answer::Parsed;
-use crate::answer::Refusal;
-use crate::bracket::Sep;
-use crate::names::Named;
+use leaves::bracket::Sep;
+use leaves::names::Named;
+use strings::answer::Parsed;
+use strings::answer::Refusal;
 ghost use Prim.Native.Nat.{_<_};
 ghost use lib.ListN.{length};
-ghost use Rattle.reader.specs.Placing.{arrAt, objAt, readAt};
-ghost use Rattle.reader.specs.Laid.{ParsedTold, Ready, Told, TreeReady};
+ghost use Rattle.json.specs.Placing.{arrAt, objAt, readAt};
+ghost use Rattle.leaves.specs.Laid.{ParsedTold, Ready, Told, TreeReady};
 
 // The value at a place, in which `left` brackets may be open at once.
 pub fn value(
@@ -21,16 +21,16 @@ pub fn value(
     ensures { λ r. ⌜ Told (readAt left (now (s .entry)) node at) (now (work .entry)) (now (work .exit)) (now (seen .entry)) (now (seen .exit)) node r ⌝ }
 {
     if left == 0 {
-        return crate::leaf::leaf(s, work, at, node);
+        return leaves::leaf::leaf(s, work, at, node);
     }
-    let c = crate::scan::byte_at(s, at);
+    let c = tokens::scan::byte_at(s, at);
     if c == b'[' {
         return array(s, work, seen, at, node, left - 1);
     }
     if c == b'{' {
         return object(s, work, seen, at, node, left - 1);
     }
-    crate::leaf::leaf(s, work, at, node)
+    leaves::leaf::leaf(s, work, at, node)
 }
 
 // The sheet's value, with no mark of a name set.
@@ -58,15 +58,15 @@ fn array(
         return Parsed::Bad(Refusal::TooManyNodes);
     }
     let mut count = node + 1;
-    let mut sep = crate::bracket::opening(s, at, b']');
+    let mut sep = leaves::bracket::opening(s, at, b']');
     loop {
         match sep {
             Sep::Neither => return Parsed::Bad(Refusal::NotJson),
-            Sep::Shut(end) => return crate::leaf::lay(work, node, 5, at, end, count, end),
+            Sep::Shut(end) => return leaves::leaf::lay(work, node, 5, at, end, count, end),
             Sep::On(here) => match value(s, work, seen, here, count, left) {
                 Parsed::Bad(n) => return Parsed::Bad(n),
                 Parsed::Done(p) => {
-                    sep = crate::bracket::following(s, p.at, b']');
+                    sep = leaves::bracket::following(s, p.at, b']');
                     count = p.node;
                 }
             },
@@ -90,17 +90,17 @@ fn object(
         return Parsed::Bad(Refusal::TooManyNodes);
     }
     let mut count = node + 1;
-    let mut sep = crate::bracket::opening(s, at, b'}');
+    let mut sep = leaves::bracket::opening(s, at, b'}');
     loop {
         match sep {
             Sep::Neither => return Parsed::Bad(Refusal::NotJson),
-            Sep::Shut(end) => return crate::leaf::lay(work, node, 6, at, end, count, end),
-            Sep::On(here) => match crate::names::name(s, work, seen, node, here, count) {
+            Sep::Shut(end) => return leaves::leaf::lay(work, node, 6, at, end, count, end),
+            Sep::On(here) => match leaves::names::name(s, work, seen, node, here, count) {
                 Named::Bad(n) => return Parsed::Bad(n),
                 Named::Is(k) => match value(s, work, seen, k.value, count + 1, left) {
                     Parsed::Bad(n) => return Parsed::Bad(n),
                     Parsed::Done(p) => {
-                        sep = crate::bracket::following(s, p.at, b'}');
+                        sep = leaves::bracket::following(s, p.at, b'}');
                         count = p.node;
                     }
                 },

@@ -1,7 +1,7 @@
 // Reads texts on standard input, each behind a line with its length, and answers each in a line: the number of its refusal, or `ok` and for
 // each node its kind, where it starts and ends, and the node after it.
-use reader::answer::Read;
-use reader::answer::Refusal;
+use strings::answer::Read;
+use strings::answer::Refusal;
 ghost use Prim.Native.Nat.{_+_, _*_, _≤_, _<_};
 ghost use lib.ListN.{length};
 

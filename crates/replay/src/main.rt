@@ -7,7 +7,6 @@ use decision::sent::decide;
 use decision::sent::evaluate;
 use decision::sent::select_outcome;
 use libc::STDOUT_FILENO;
-use line::emit::Sent;
 use records::behind;
 use records::end;
 use records::find;
@@ -17,6 +16,7 @@ use records::number;
 use records::start;
 use records::whole;
 use std::num::wrapping_add_u64;
+use writer::answer::Sent;
 ghost use Prim.Native.Nat.{_≤_, _<_};
 ghost use lib.ListN.{length};
 

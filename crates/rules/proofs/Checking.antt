@@ -5,24 +5,24 @@ use mathlib.Core.Path.{refl, subst, sym, _∙_, _≡_}
 use Prim.Native.Nat.{ℕ, _*_, _+_, _<_, _≤_}
 use native.Mathlib.Omega.{arith}
 use lib.ListN.{length}
-use Rattle.line.specs.Meaning.{Held, meaning, rulesOf}
-use Rattle.line.specs.Verdict.{Verdict}
-use Rattle.line.specs.declared.answer.Answer.{Answer}
-use Rattle.line.specs.declared.answer.Answer.the-variants as answers
-use Rattle.line.specs.declared.answer.Rules.{Rules}
-use Rattle.reader.proofs.Laws.{ok-injective}
-use Rattle.reader.specs.Bytes.{Bytes}
-use Rattle.reader.specs.Refusal.{Result}
-use Rattle.reader.specs.Table.{afterAt}
+use Rattle.writer.specs.Meaning.{Held, meaning, rulesOf}
+use Rattle.answers.specs.Verdict.{Verdict}
+use Rattle.writer.specs.declared.answer.Answer.{Answer}
+use Rattle.writer.specs.declared.answer.Answer.the-variants as answers
+use Rattle.writer.specs.declared.answer.Rules.{Rules}
+use Rattle.json.proofs.Laws.{ok-injective}
+use Rattle.json.specs.Bytes.{Bytes}
+use Rattle.json.specs.Refusal.{Result}
+use Rattle.json.specs.Table.{afterAt}
 use Rattle.sheet.specs.Accepted.{Accepted, EachGives, Gives, Known}
-use Rattle.sheet.specs.Condition.{Condition, condition}
-use Rattle.sheet.specs.Kinds.{anArrayOf}
-use Rattle.sheet.specs.Rule.{Rule, aRule}
-use Rattle.sheet.specs.Sheet.{Sheet}
+use Rattle.members.specs.Condition.{Condition, condition}
+use Rattle.members.specs.Kinds.{anArrayOf}
+use Rattle.members.specs.Rule.{Rule, aRule}
+use Rattle.members.specs.Sheet.{Sheet}
 use Rattle.sheet.specs.declared.shape.Members.{Members}
 use Rattle.rules.specs.Alone.{OnlyMarks}
 use Rattle.rules.specs.Ruled.{Ruled, RuledAs}
-use Rattle.rules.specs.Rules.{check}
+use Rattle.answers.specs.Rules.{check}
 use Rattle.rules.specs.Told.{Answered, Told}
 use Rattle.rules.specs.declared.rules.Ruling.{Ruling}
 use Rattle.rules.specs.declared.rules.Ruling.the-variants as rulings

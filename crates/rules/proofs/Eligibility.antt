@@ -7,26 +7,26 @@ use mathlib.Core.Path.{ap, refl, subst, sym, _∙_, _≡_}
 use Prim.Native.Nat.{ℕ, _*_, _+_, _<_, _≤_}
 use lib.Dec.{eqb}
 use lib.ListN.{length}
-use Rattle.reader.specs.Bytes.{Bytes, sameBytes}
-use Rattle.reader.specs.Cursor.{OnText}
-use Rattle.reader.specs.Json.{Value, array, bool, null, number, object, text}
-use Rattle.reader.specs.Refusal.{Result, ok, wrongSheet}
-use Rattle.reader.specs.Sorted.{sorted}
-use Rattle.reader.specs.Spans.{textAt}
-use Rattle.reader.specs.Table.{kindAt, startAt, valueAt}
-use Rattle.reader.specs.declared.rows.Found.{Found}
-use Rattle.reader.specs.declared.rows.Found.the-variants as founds
+use Rattle.json.specs.Bytes.{Bytes, sameBytes}
+use Rattle.json.specs.Cursor.{OnText}
+use Rattle.json.specs.Json.{Value, array, bool, null, number, object, text}
+use Rattle.json.specs.Refusal.{Result, ok, wrongSheet}
+use Rattle.json.specs.Sorted.{sorted}
+use Rattle.json.specs.Spans.{textAt}
+use Rattle.json.specs.Table.{kindAt, startAt, valueAt}
+use Rattle.strings.specs.declared.rows.Found.{Found}
+use Rattle.strings.specs.declared.rows.Found.the-variants as founds
 use Rattle.sheet.proofs.Given.{text-given}
-use Rattle.sheet.proofs.Verdicts.{never}
-use Rattle.sheet.proofs.Shapes.{tag, tag-at}
-use Rattle.sheet.proofs.Walks.{room}
+use Rattle.members.proofs.Verdicts.{never}
+use Rattle.members.proofs.Shapes.{tag, tag-at}
+use Rattle.members.proofs.Walks.{room}
 use Rattle.sheet.specs.Accepted.{Gives, MayGive, OutcomeGives}
-use Rattle.sheet.specs.Condition.{Condition}
-use Rattle.sheet.specs.Kinds.{aBool, aText}
-use Rattle.sheet.specs.Outcome.{Outcome, orFalse}
+use Rattle.members.specs.Condition.{Condition}
+use Rattle.members.specs.Kinds.{aBool, aText}
+use Rattle.members.specs.Outcome.{Outcome, orFalse}
 use Rattle.sheet.specs.declared.outcome.OutcomeMembers.{OutcomeMembers}
 use Rattle.sheet.specs.Accepted.{Known}
-use Rattle.rules.specs.Outcomes.{eligible, fits}
+use Rattle.answers.specs.Outcomes.{eligible, fits}
 
 -- ---- a member that may be missing
 module _ {A : Type 0} (kind : Value → Result A) (s : Bytes) (w : List ℕ) {f : Found} where

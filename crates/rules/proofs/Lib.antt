@@ -1,13 +1,6 @@
 pub mod Walking
-pub mod Among
 pub mod Eligibility
 pub mod Starting
-pub mod Seeking
-pub mod Admitting
-pub mod Calls
 pub mod Unmarking
 pub mod Settling
 pub mod Checking
-pub mod Evaluating
-pub mod Trying
-pub mod Deciding

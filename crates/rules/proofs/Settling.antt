@@ -6,27 +6,27 @@ use mathlib.Core.Path.{ap, refl, subst, sym, _∙_, _≡_}
 use Prim.Native.Nat.{ℕ, _+_, _≤_}
 use native.Mathlib.Omega.{arith}
 use lib.ListN.{length}
-use Rattle.evaluation.specs.Answers.{outcomeOf}
-use Rattle.evaluation.specs.declared.comparison.Outcome.{Outcome}
-use Rattle.evaluation.specs.declared.comparison.Outcome.the-variants as outcomes
-use Rattle.line.specs.Meaning.{Held, meaning, namesIn, rulesOf}
-use Rattle.line.specs.Texts.{IsText, NamesHeld, TextTold, textOf}
-use Rattle.line.specs.Verdict.{Verdict}
-use Rattle.line.specs.declared.answer.Answer.{Answer as Reply}
-use Rattle.line.specs.declared.answer.Answer.the-variants as answers
-use Rattle.line.specs.declared.answer.Rule.{Rule as Entry}
-use Rattle.line.specs.declared.answer.Rules.{Rules as Kind}
-use Rattle.line.specs.declared.quote.Text.the-variants as texts
-use Rattle.operands.proofs.Ordered.{node-below}
-use Rattle.operands.proofs.Trees.{text-row}
-use Rattle.operands.specs.Stored.{HasKind, Room, table}
-use Rattle.reader.specs.Bytes.{Bytes}
-use Rattle.reader.specs.Cursor.{OnText}
-use Rattle.reader.specs.Refusal.{Result, Rules, ok, refused, ruleFalse, ruleUnknown, unknownExpression, _>>=_}
-use Rattle.reader.specs.Spans.{textAt}
-use Rattle.reader.specs.Table.{afterAt, membersAt, startAt}
-use Rattle.reader.specs.declared.rows.Found.{Found}
-use Rattle.reader.specs.declared.rows.Found.the-variants as founds
+use Rattle.comparison.specs.Answers.{outcomeOf}
+use Rattle.comparison.specs.declared.comparison.Outcome.{Outcome}
+use Rattle.comparison.specs.declared.comparison.Outcome.the-variants as outcomes
+use Rattle.writer.specs.Meaning.{Held, meaning, namesIn, rulesOf}
+use Rattle.writer.specs.Texts.{IsText, NamesHeld, TextTold, textOf}
+use Rattle.answers.specs.Verdict.{Verdict}
+use Rattle.writer.specs.declared.answer.Answer.{Answer as Reply}
+use Rattle.writer.specs.declared.answer.Answer.the-variants as answers
+use Rattle.writer.specs.declared.answer.Rule.{Rule as Entry}
+use Rattle.writer.specs.declared.answer.Rules.{Rules as Kind}
+use Rattle.writer.specs.declared.quote.Text.the-variants as texts
+use Rattle.paths.proofs.Ordered.{node-below}
+use Rattle.paths.proofs.Trees.{text-row}
+use Rattle.paths.specs.Stored.{HasKind, Room, table}
+use Rattle.json.specs.Bytes.{Bytes}
+use Rattle.json.specs.Cursor.{OnText}
+use Rattle.json.specs.Refusal.{Result, Rules, ok, refused, ruleFalse, ruleUnknown, unknownExpression, _>>=_}
+use Rattle.json.specs.Spans.{textAt}
+use Rattle.json.specs.Table.{afterAt, membersAt, startAt}
+use Rattle.strings.specs.declared.rows.Found.{Found}
+use Rattle.strings.specs.declared.rows.Found.the-variants as founds
 use Rattle.semantics.specs.Evaluate.{Answer, evaluate}
 use Rattle.semantics.specs.Names.{ascending}
 use Rattle.semantics.specs.Semantics.{kernel}
@@ -36,15 +36,15 @@ use Rattle.semantics.specs.declared.truth.Truth.{Truth}
 use Rattle.semantics.specs.declared.truth.Truth.the-variants as truths
 use Rattle.sheet.proofs.Given.{ObjectHere, rule-given}
 use Rattle.sheet.specs.Accepted.{Gives, Known, MayGive, RuleGives}
-use Rattle.sheet.specs.Condition.{Condition, condition}
-use Rattle.sheet.specs.Kinds.{aText}
+use Rattle.members.specs.Condition.{Condition, condition}
+use Rattle.members.specs.Kinds.{aText}
 use Rattle.sheet.specs.Named.{RuleNamed}
-use Rattle.sheet.specs.Rule.{Rule, aRule}
-use Rattle.sheet.specs.Sheet.{Sheet}
+use Rattle.members.specs.Rule.{Rule, aRule}
+use Rattle.members.specs.Sheet.{Sheet}
 use Rattle.sheet.specs.declared.rule.RuleMembers.{RuleMembers}
 use Rattle.rules.specs.Alone.{Alone, OwnMarks}
 use Rattle.rules.specs.Ruled.{RuleEntered, Ruled}
-use Rattle.rules.specs.Rules.{check}
+use Rattle.answers.specs.Rules.{check}
 use Rattle.rules.specs.Told.{Told}
 use Rattle.rules.specs.declared.rules.Ruling.the-variants as rulings
 use Rattle.rules.proofs.Eligibility.{missing, state-on-text, state-text}

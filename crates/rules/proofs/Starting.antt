@@ -6,23 +6,23 @@ use mathlib.Core.Option.{Option}
 use mathlib.Core.Path.{ap, subst, sym, _∙_, _≡_}
 use Prim.Native.Nat.{ℕ, _+_, _<_, _≤_}
 use native.Mathlib.Omega.{arith}
-use Rattle.reader.specs.Answers.{FoundTold}
-use Rattle.reader.specs.Bytes.{Bytes, ascii, find, isOneOf}
-use Rattle.reader.specs.Held.{AreMembers}
-use Rattle.reader.specs.Json.{Value, entries}
-use Rattle.reader.specs.Refusal.{Result}
-use Rattle.reader.specs.Table.{afterAt, kindAt, membersAt}
-use Rattle.reader.specs.declared.rows.Found.{Found}
-use Rattle.reader.specs.declared.rows.Found.the-variants as founds
+use Rattle.strings.specs.Answers.{FoundTold}
+use Rattle.json.specs.Bytes.{Bytes, ascii, find, isOneOf}
+use Rattle.json.specs.Held.{AreMembers}
+use Rattle.json.specs.Json.{Value, entries}
+use Rattle.json.specs.Refusal.{Result}
+use Rattle.json.specs.Table.{afterAt, kindAt, membersAt}
+use Rattle.strings.specs.declared.rows.Found.{Found}
+use Rattle.strings.specs.declared.rows.Found.the-variants as founds
 use Rattle.sheet.proofs.Given.{EffectHere, ObjectHere, byMove, byWord, effect-given, move-given, outcome-given}
 use Rattle.sheet.specs.Accepted.{EachGives, Given, Gives, MayGive, OutcomeGives, nodeOf}
-use Rattle.sheet.specs.Condition.{Condition, condition}
-use Rattle.sheet.specs.Kinds.{someTexts}
+use Rattle.members.specs.Condition.{Condition, condition}
+use Rattle.members.specs.Kinds.{someTexts}
 use Rattle.sheet.specs.Named.{MoveNamed, OutcomeNamed}
-use Rattle.sheet.specs.Outcome.{Effect, Outcome, aMove, anEffect, anOutcome, orStays, stays}
+use Rattle.members.specs.Outcome.{Effect, Outcome, aMove, anEffect, anOutcome, orStays, stays}
 use Rattle.sheet.specs.declared.outcome.MoveMembers.{MoveMembers}
 use Rattle.sheet.specs.declared.outcome.OutcomeMembers.{OutcomeMembers}
-use Rattle.rules.specs.Admission.{isSource, sources}
+use Rattle.answers.specs.Admission.{isSource, sources}
 use Rattle.sheet.specs.Accepted.{Known}
 use Rattle.rules.specs.Given.{SourcesAt}
 use Rattle.rules.proofs.Eligibility.{missing, there}

@@ -10,19 +10,19 @@ use lib.Dec.{eqb}
 use lib.ListN.{getD, length, length-set, set}
 use lib.Seq.{drop-set-lt, getD-set-other, getD-set-same}
 use borrow.Author.Tests.{eqb-false, eqb-true}
-use Rattle.evaluation.specs.Answers.{EvaluatedAs, Marks, outcomeOf}
-use Rattle.evaluation.specs.declared.comparison.Outcome.{Outcome}
-use Rattle.evaluation.specs.declared.comparison.Outcome.the-variants as outcomes
-use Rattle.line.specs.Texts.{NamesHeld}
-use Rattle.operands.proofs.Trees.{text-row}
-use Rattle.operands.proofs.Words.{row-word, same-row-word, table-set}
-use Rattle.operands.specs.Marks.{Left}
-use Rattle.operands.specs.Stored.{HasKind, table}
-use Rattle.reader.specs.Bytes.{Bytes}
-use Rattle.reader.specs.Cursor.{OnText}
-use Rattle.reader.specs.Json.{Value}
-use Rattle.reader.specs.Refusal.{Result}
-use Rattle.reader.specs.Table.{afterAt, startAt}
+use Rattle.comparison.specs.Answers.{EvaluatedAs, Marks, outcomeOf}
+use Rattle.comparison.specs.declared.comparison.Outcome.{Outcome}
+use Rattle.comparison.specs.declared.comparison.Outcome.the-variants as outcomes
+use Rattle.writer.specs.Texts.{NamesHeld}
+use Rattle.paths.proofs.Trees.{text-row}
+use Rattle.paths.proofs.Words.{row-word, same-row-word, table-set}
+use Rattle.paths.specs.Marks.{Left}
+use Rattle.paths.specs.Stored.{HasKind, table}
+use Rattle.json.specs.Bytes.{Bytes}
+use Rattle.json.specs.Cursor.{OnText}
+use Rattle.json.specs.Json.{Value}
+use Rattle.json.specs.Refusal.{Result}
+use Rattle.json.specs.Table.{afterAt, startAt}
 use Rattle.semantics.specs.Evaluate.{Answer}
 use Rattle.semantics.specs.Names.{Names, ascending}
 use Rattle.sheet.specs.Accepted.{Accepted, Gives, Known}

@@ -5,14 +5,14 @@ use mathlib.Core.Path.{ap, subst, sym, _∙_, _≡_}
 use Prim.Native.Nat.{ℕ, _*_, _+_, _<_, _≤_}
 use native.Mathlib.Omega.{arith}
 use lib.ListN.{length}
-use Rattle.reader.specs.Bytes.{Bytes}
-use Rattle.reader.specs.Json.{Value}
-use Rattle.reader.specs.Refusal.{Result, ok}
-use Rattle.reader.specs.Table.{afterAt}
+use Rattle.json.specs.Bytes.{Bytes}
+use Rattle.json.specs.Json.{Value}
+use Rattle.json.specs.Refusal.{Result, ok}
+use Rattle.json.specs.Table.{afterAt}
 use Rattle.sheet.proofs.Given.{NextGives, array-given, each-done, each-next}
-use Rattle.sheet.proofs.Walks.{room}
+use Rattle.members.proofs.Walks.{room}
 use Rattle.sheet.specs.Accepted.{EachGives, Gives}
-use Rattle.sheet.specs.Kinds.{anArrayOf}
+use Rattle.members.specs.Kinds.{anArrayOf}
 use Rattle.sheet.specs.Accepted.{Known}
 
 -- nodes give one list only

@@ -4,14 +4,14 @@ use mathlib.Core.List.{List}
 use mathlib.Core.Path.{_≡_}
 use Prim.Native.Nat.{ℕ, _%_, _<_, _≤_}
 use lib.ListN.{drop, getD, length}
-use Rattle.evaluation.specs.Answers.{outcomeOf}
-use Rattle.evaluation.specs.declared.comparison.Outcome.{Outcome}
-use Rattle.evaluation.specs.declared.comparison.Outcome.the-variants as outcomes
-use Rattle.line.specs.Meaning.{namesIn}
-use Rattle.line.specs.Texts.{NamesHeld}
-use Rattle.operands.specs.Stored.{HasKind, table}
-use Rattle.reader.specs.Bytes.{Bytes}
-use Rattle.reader.specs.Refusal.{Result}
+use Rattle.comparison.specs.Answers.{outcomeOf}
+use Rattle.comparison.specs.declared.comparison.Outcome.{Outcome}
+use Rattle.comparison.specs.declared.comparison.Outcome.the-variants as outcomes
+use Rattle.writer.specs.Meaning.{namesIn}
+use Rattle.writer.specs.Texts.{NamesHeld}
+use Rattle.paths.specs.Stored.{HasKind, table}
+use Rattle.json.specs.Bytes.{Bytes}
+use Rattle.json.specs.Refusal.{Result}
 use Rattle.semantics.specs.Evaluate.{Answer}
 use Rattle.semantics.specs.Names.{Names, ascending}
 

@@ -3,12 +3,12 @@
 use mathlib.Core.List.{List}
 use mathlib.Core.Path.{_≡_}
 use Prim.Native.Nat.{ℕ}
-use Rattle.reader.specs.Bytes.{Bytes}
-use Rattle.reader.specs.declared.rows.Found.{Found}
-use Rattle.reader.specs.declared.rows.Found.the-variants as founds
+use Rattle.json.specs.Bytes.{Bytes}
+use Rattle.strings.specs.declared.rows.Found.{Found}
+use Rattle.strings.specs.declared.rows.Found.the-variants as founds
 use Rattle.sheet.specs.Accepted.{Gives}
-use Rattle.sheet.specs.Kinds.{someTexts}
-use Rattle.sheet.specs.Outcome.{Effect, moves, stays}
+use Rattle.members.specs.Kinds.{someTexts}
+use Rattle.members.specs.Outcome.{Effect, moves, stays}
 
 -- where an effect may start from: the node of a move's texts, and nothing where the state is left
 unfoldable pub SourcesAt : Bytes → List ℕ → Effect → Found → Type 0

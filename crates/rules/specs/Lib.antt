@@ -1,11 +1,4 @@
 pub mod Given
-pub mod Rules
-pub mod Outcomes
-pub mod Places
-pub mod Admission
-pub mod Decide
 pub mod Told
-pub mod Selection
 pub mod Alone
 pub mod Ruled
-pub mod Trying

@@ -3,16 +3,16 @@
 use mathlib.Core.List.{List, _∷_}
 use mathlib.Core.Path.{_≡_}
 use Prim.Native.Nat.{ℕ, _+_}
-use Rattle.line.specs.Texts.{TextTold}
-use Rattle.line.specs.declared.answer.Rule.{Rule as Entry}
-use Rattle.line.specs.declared.answer.Rules.{Rules as Kind}
-use Rattle.reader.specs.Bytes.{Bytes}
-use Rattle.reader.specs.Refusal.{Rules}
-use Rattle.sheet.specs.Condition.{Condition}
-use Rattle.sheet.specs.Rule.{Rule}
-use Rattle.sheet.specs.Sheet.{Sheet}
+use Rattle.writer.specs.Texts.{TextTold}
+use Rattle.writer.specs.declared.answer.Rule.{Rule as Entry}
+use Rattle.writer.specs.declared.answer.Rules.{Rules as Kind}
+use Rattle.json.specs.Bytes.{Bytes}
+use Rattle.json.specs.Refusal.{Rules}
+use Rattle.members.specs.Condition.{Condition}
+use Rattle.members.specs.Rule.{Rule}
+use Rattle.members.specs.Sheet.{Sheet}
 use Rattle.rules.specs.Alone.{OnlyMarks}
-use Rattle.rules.specs.Rules.{check}
+use Rattle.answers.specs.Rules.{check}
 use Rattle.rules.specs.Told.{Told}
 use Rattle.rules.specs.declared.rules.Ruling.{Ruling}
 use Rattle.rules.specs.declared.rules.Ruling.the-variants as rulings

@@ -4,20 +4,20 @@ use mathlib.Core.List.{List}
 use mathlib.Core.Path.{_≡_}
 use Prim.Native.Nat.{ℕ}
 use lib.ListN.{drop, length}
-use Rattle.line.specs.Meaning.{Held, meaning}
-use Rattle.line.specs.Verdict.{Verdict}
-use Rattle.line.specs.declared.answer.Answer.{Answer}
-use Rattle.line.specs.declared.answer.Answer.the-variants as answers
-use Rattle.line.specs.declared.answer.Outcome.{Outcome as Entry}
-use Rattle.operands.specs.Stored.{table}
-use Rattle.reader.specs.Bytes.{Bytes}
-use Rattle.reader.specs.Cursor.{OnText}
-use Rattle.reader.specs.Refusal.{Result, _>>=_, ok}
-use Rattle.reader.specs.Spans.{textAt}
+use Rattle.writer.specs.Meaning.{Held, meaning}
+use Rattle.answers.specs.Verdict.{Verdict}
+use Rattle.writer.specs.declared.answer.Answer.{Answer}
+use Rattle.writer.specs.declared.answer.Answer.the-variants as answers
+use Rattle.writer.specs.declared.answer.Outcome.{Outcome as Entry}
+use Rattle.paths.specs.Stored.{table}
+use Rattle.json.specs.Bytes.{Bytes}
+use Rattle.json.specs.Cursor.{OnText}
+use Rattle.json.specs.Refusal.{Result, _>>=_, ok}
+use Rattle.json.specs.Spans.{textAt}
 use Rattle.semantics.specs.declared.truth.Truth.{Truth}
 use Rattle.semantics.specs.declared.truth.Truth.the-variants as truths
-use Rattle.rules.specs.Decide.{asAdmitted}
-use Rattle.rules.specs.Outcomes.{Placed}
+use Rattle.answers.specs.Decide.{asAdmitted}
+use Rattle.answers.specs.Outcomes.{Placed}
 
 -- the verdict on an outcome that is kept
 abbrev pub admission : Result Placed → Result Verdict

@@ -1,6 +1,6 @@
 // A condition evaluated alone.
 use crate::marks::clear_marks;
-use evaluation::comparison::Outcome;
+use comparison::comparison::Outcome;
 use evaluation::evaluate::evaluate_condition;
 use sheet::shape::Members;
 ghost use mathlib.Core.List.{[]};
@@ -9,8 +9,8 @@ ghost use lib.ListN.{length};
 ghost use Rattle.semantics.specs.Evaluate.{evaluate};
 ghost use Rattle.semantics.specs.Semantics.{kernel};
 ghost use Rattle.sheet.specs.Accepted.{Accepted, Gives, Known};
-ghost use Rattle.sheet.specs.Condition.{Condition, condition};
-ghost use Rattle.sheet.specs.Sheet.{Sheet};
+ghost use Rattle.members.specs.Condition.{Condition, condition};
+ghost use Rattle.members.specs.Sheet.{Sheet};
 ghost use Rattle.rules.specs.Alone.{Alone};
 
 // A condition's truth with its own names marked and no others, or 13 or 14.

@@ -1,32 +1,32 @@
 // Rules in order: the first that is not True settles.
 use crate::alone::evaluate_alone;
-use evaluation::comparison::Outcome;
-use line::answer::Answer;
-use line::answer::Rule;
-use line::answer::Rules;
-use line::quote::Text;
-use reader::rows::Found;
-use reader::rows::after_at;
+use comparison::comparison::Outcome;
 use semantics::truth::Truth;
 use sheet::rule::RuleMembers;
 use sheet::rule::members;
 use sheet::shape::Members;
 use sheet::shape::node_of;
+use strings::rows::Found;
+use strings::rows::after_at;
+use writer::answer::Answer;
+use writer::answer::Rule;
+use writer::answer::Rules;
+use writer::quote::Text;
 ghost use mathlib.Core.List.{List};
 ghost use mathlib.Core.Option.{Option};
 ghost use Prim.Native.Nat.{_≤_};
 ghost use lib.ListN.{length};
-ghost use Rattle.line.specs.Meaning.{rulesOf};
-ghost use Rattle.line.specs.Texts.{TextTold};
-ghost use Rattle.reader.specs.Bytes.{Bytes};
+ghost use Rattle.writer.specs.Meaning.{rulesOf};
+ghost use Rattle.writer.specs.Texts.{TextTold};
+ghost use Rattle.json.specs.Bytes.{Bytes};
 ghost use Rattle.sheet.specs.Accepted.{Accepted, Gives, Known, MayGive, RuleGives};
-ghost use Rattle.sheet.specs.Condition.{Condition, condition};
-ghost use Rattle.sheet.specs.Kinds.{aText, anArrayOf};
-ghost use Rattle.sheet.specs.Rule as all;
-ghost use Rattle.sheet.specs.Rule.{aRule};
-ghost use Rattle.sheet.specs.Sheet.{Sheet};
+ghost use Rattle.members.specs.Condition.{Condition, condition};
+ghost use Rattle.members.specs.Kinds.{aText, anArrayOf};
+ghost use Rattle.members.specs.Rule as all;
+ghost use Rattle.members.specs.Rule.{aRule};
+ghost use Rattle.members.specs.Sheet.{Sheet};
 ghost use Rattle.rules.specs.Ruled.{RuleEntered, Ruled};
-ghost use Rattle.rules.specs.Rules.{check};
+ghost use Rattle.answers.specs.Rules.{check};
 ghost use Rattle.rules.specs.Told.{Answered};
 
 // That a rule holds, or the answer that it settles.
@@ -42,7 +42,7 @@ fn text_of(work: &[u32], found: Found) -> Text
 {
     match found {
         Found::Nothing => Text::Missing,
-        Found::At(n) => Text::At(reader::rows::start_at(work, n)),
+        Found::At(n) => Text::At(strings::rows::start_at(work, n)),
     }
 }
 
@@ -72,7 +72,7 @@ fn judge(s: &[u8], work: &mut [u32], m: Members, rules: Rules, place: usize, nod
     let assert = r.assert;
     match evaluate_alone(s, work, m, node_of(assert)) {
         Outcome::Unknown(n) => {
-            Ruling::Settles(Answer::UnknownExpression(operands::rows::start_at(work, n)))
+            Ruling::Settles(Answer::UnknownExpression(paths::rows::start_at(work, n)))
         }
         Outcome::NoId => Ruling::Settles(Answer::NoId),
         Outcome::Judged(t) => match t {

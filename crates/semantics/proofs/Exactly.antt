@@ -9,9 +9,9 @@ use Prim.Native.Nat.{Ordering}
 use Rattle.number.proofs.Digits.{numbers-exact}
 use Rattle.number.specs.Compare.{numberOrder}
 use Rattle.number.specs.Decimal.{decimal, exactOrder}
-use Rattle.reader.specs.Bytes.{Bytes, find, sameBytes}
-use Rattle.reader.specs.Json.{Members, Value, Values, array, asArray, asNumber, asObject, bool, cons, elements, empty, entries, isNull, member, nil, null, number, object, text}
-use Rattle.reader.specs.Refusal.{Refusal, Result, ok, refused, unknownExpression, _>>=_}
+use Rattle.json.specs.Bytes.{Bytes, find, sameBytes}
+use Rattle.json.specs.Json.{Members, Value, Values, array, asArray, asNumber, asObject, bool, cons, elements, empty, entries, isNull, member, nil, null, number, object, text}
+use Rattle.json.specs.Refusal.{Refusal, Result, ok, refused, unknownExpression, _>>=_}
 use Rattle.semantics.proofs.Parts.{All, Entries, Operands, OperandsIn, SheetHas, find-entry, none-some}
 use Rattle.semantics.proofs.Spelled.{numbers-in, numbers-of, read-numbers}
 use Rattle.semantics.specs.Equality.{equalBy, equalIn, equalOf}
@@ -23,8 +23,8 @@ use Rattle.semantics.specs.Operand.{Resolved, Written, both, escaped, ex
 use Rattle.semantics.specs.Semantics.{exactKernel, isSame, kernel, memberStep}
 use Rattle.semantics.specs.Spelled.{AllNumbers, AllNumbersIn, AllNumbersOf, ConditionOf, IsNumber}
 use Rattle.semantics.specs.Truth.{settles}
-use Rattle.sheet.specs.Condition.{Condition, Conditions, Form, Mode, also, contains, endsWith, eq, exists, gt, gte, isIn, junction, literal, lt, lte, ne, negation, noMore, pair, quantified, startsWith}
-use Rattle.sheet.specs.Sheet.{Sheet, readSheet}
+use Rattle.members.specs.Condition.{Condition, Conditions, Form, Mode, also, contains, endsWith, eq, exists, gt, gte, isIn, junction, literal, lt, lte, ne, negation, noMore, pair, quantified, startsWith}
+use Rattle.members.specs.Sheet.{Sheet, readSheet}
 
 -- ---- two numbers, and the values of each kind
 pub order-exactly : (x y : Bytes) → IsNumber x → IsNumber y → numberOrder x y ≡ exactOrder (decimal x) (decimal y)

@@ -10,11 +10,11 @@ use Rattle.semantics.specs.Expression.{Env}
 use Rattle.semantics.specs.Names.{noNames}
 use Rattle.semantics.specs.Semantics.{Semantics}
 use Rattle.semantics.specs.Truth.{False, True, Truth, Unknown, and, join, negate, or, settles, start}
-use Rattle.reader.proofs.Laws.{bind-ok}
-use Rattle.reader.specs.Json.{Value}
-use Rattle.reader.specs.Refusal.{Result, ok}
-use Rattle.sheet.specs.Condition.{Condition, Conditions, Mode, also, every, noMore}
-use Rattle.sheet.specs.Sheet.{Sheet}
+use Rattle.json.proofs.Laws.{bind-ok}
+use Rattle.json.specs.Json.{Value}
+use Rattle.json.specs.Refusal.{Result, ok}
+use Rattle.members.specs.Condition.{Condition, Conditions, Mode, also, every, noMore}
+use Rattle.members.specs.Sheet.{Sheet}
 
 -- Kleene's strong tables: the least, the greatest and the opposite in the order False, Unknown, True.
 abbrev pub rank : Truth → ℕ

@@ -13,12 +13,12 @@ use Rattle.semantics.specs.Operand.{Resolved, Written, both, escaped, ex
 use Rattle.semantics.specs.Semantics.{Semantics}
 use Rattle.semantics.specs.Readings.{Reading, allKnown, allReadings, isAnswer, isTakenBy, operandReadings, readings, readingsIn, readingsOf, textReadings}
 use Rattle.semantics.specs.Truth.{False, True, Truth, Unknown, join, negate, settles}
-use Rattle.reader.proofs.Laws.{bind-ok, both-true, find-none, find-some, namesOf}
-use Rattle.reader.specs.Bytes.{Bytes, find}
-use Rattle.reader.specs.Json.{Members, Value, Values, array, bool, cons, empty, isNull, member, nil, null, number, object, text}
-use Rattle.reader.specs.Refusal.{Result, ok, refused, _>>=_}
-use Rattle.sheet.specs.Condition.{Condition, Conditions, Form, Mode, also, every, exists, junction, literal, negation, noMore, pair, quantified}
-use Rattle.sheet.specs.Sheet.{Sheet}
+use Rattle.json.proofs.Laws.{bind-ok, both-true, find-none, find-some, namesOf}
+use Rattle.json.specs.Bytes.{Bytes, find}
+use Rattle.json.specs.Json.{Members, Value, Values, array, bool, cons, empty, isNull, member, nil, null, number, object, text}
+use Rattle.json.specs.Refusal.{Result, ok, refused, _>>=_}
+use Rattle.members.specs.Condition.{Condition, Conditions, Form, Mode, also, every, exists, junction, literal, negation, noMore, pair, quantified}
+use Rattle.members.specs.Sheet.{Sheet}
 
 -- a statement about each member of a list
 abbrev pub Every : {A : Type 0} → (A → Type 0) → List A → Type 0

@@ -6,9 +6,9 @@ use mathlib.Core.Logic.{inl, inr, ⊎-elim, _⊎_, _↔_}
 use mathlib.Core.Path.{refl, subst, sym, _∙_, _≡_}
 use Prim.Native.Nat.{Ordering, Ordering·eq, Ordering·gt, Ordering·lt}
 use Rattle.semantics.specs.Names.{Ascends, Named, Names, ascending, follow, insertName, noneFollow}
-use Rattle.reader.proofs.Laws.{orderBytes-eq}
-use Rattle.reader.proofs.Sorted.{Less, less-order, less-trans, same-order, OrderView, isEq′, isGt, isLt, order-view}
-use Rattle.reader.specs.Bytes.{Bytes, orderBytes}
+use Rattle.json.proofs.Laws.{orderBytes-eq}
+use Rattle.json.proofs.Sorted.{Less, less-order, less-trans, same-order, OrderView, isEq′, isGt, isLt, order-view}
+use Rattle.json.specs.Bytes.{Bytes, orderBytes}
 
 -- names keep their members when they are put in order
 pub insertName-here : (n : Bytes) (ms : Names) → List·Memᴰ n (insertName n ms)

@@ -9,17 +9,17 @@ use Prim.Native.Nat.{ℕ}
 use native.Mathlib.Omega.{arith}
 use lib.Dec.{eqb}
 use lib.ListN.{length}
-use Rattle.reader.proofs.Laws.{ok-injective}
-use Rattle.reader.proofs.Sound.{bind-inv, bind-with, not-ok}
-use Rattle.reader.specs.Bytes.{Bytes, ascii, find, sameBytes}
-use Rattle.reader.specs.Json.{Members, Value, Values, array, asText, bool, cons, elements, empty, entries, keys, member, nil, null, number, object, text}
-use Rattle.reader.specs.Refusal.{Refusal, Result, ok, orElse, refused, wrongShape, wrongSheet, notCarried, _>>=_}
+use Rattle.json.proofs.Laws.{ok-injective}
+use Rattle.json.proofs.Sound.{bind-inv, bind-with, not-ok}
+use Rattle.json.specs.Bytes.{Bytes, ascii, find, sameBytes}
+use Rattle.json.specs.Json.{Members, Value, Values, array, asText, bool, cons, elements, empty, entries, keys, member, nil, null, number, object, text}
+use Rattle.json.specs.Refusal.{Refusal, Result, ok, orElse, refused, wrongShape, wrongSheet, notCarried, _>>=_}
 use Rattle.semantics.specs.Spelled.{ConditionOf, guard, invariant, itsOwn, precondition}
-use Rattle.sheet.specs.Condition.{Condition, Conditions, Form, Mode, Operator, also, condition, conditionArray, conditionObject, conditionsIn, conditionsOf, exists, junction, literal, negation, noMore, oneMember, opExists, opJunction, opNegation, opNotCarried, opPair, opQuantified, operators, pair, quantified, quantifier, twoOf}
-use Rattle.sheet.specs.Kinds.{aBool, aText, aVersion, anArrayOf, anObject, eachOf, isVersion, only, optional, required}
-use Rattle.sheet.specs.Outcome.{Outcome, anEffect, anOutcome}
-use Rattle.sheet.specs.Rule.{Rule, aRule}
-use Rattle.sheet.specs.Sheet.{Sheet, aSheet}
+use Rattle.members.specs.Condition.{Condition, Conditions, Form, Mode, Operator, also, condition, conditionArray, conditionObject, conditionsIn, conditionsOf, exists, junction, literal, negation, noMore, oneMember, opExists, opJunction, opNegation, opNotCarried, opPair, opQuantified, operators, pair, quantified, quantifier, twoOf}
+use Rattle.members.specs.Kinds.{aBool, aText, aVersion, anArrayOf, anObject, eachOf, isVersion, only, optional, required}
+use Rattle.members.specs.Outcome.{Outcome, anEffect, anOutcome}
+use Rattle.members.specs.Rule.{Rule, aRule}
+use Rattle.members.specs.Sheet.{Sheet, aSheet}
 
 -- ---- of each in a list, and of each entry of a table
 abbrev pub All : {A : Type 0} → (A → Type 0) → List A → Type 0

@@ -12,12 +12,12 @@ use Rattle.semantics.specs.Expression.{Env, gives, givesParts}
 use Rattle.semantics.specs.Forms.{holds, isGreater, isLess, numbers}
 use Rattle.semantics.specs.Operand.{present, resolve}
 use Rattle.semantics.specs.Semantics.{Semantics, isSame}
-use Rattle.reader.proofs.Laws.{bind-ok}
-use Rattle.reader.specs.Bytes.{Bytes, ascii, find}
-use Rattle.reader.specs.Json.{Value, asNumber, null, text}
-use Rattle.reader.specs.Refusal.{Refusal, ok, refused, _>>=_}
-use Rattle.sheet.specs.Condition.{Condition, Conditions, Form, Mode, also, gt, gte, lt, lte}
-use Rattle.sheet.specs.Sheet.{Sheet}
+use Rattle.json.proofs.Laws.{bind-ok}
+use Rattle.json.specs.Bytes.{Bytes, ascii, find}
+use Rattle.json.specs.Json.{Value, asNumber, null, text}
+use Rattle.json.specs.Refusal.{Refusal, ok, refused, _>>=_}
+use Rattle.members.specs.Condition.{Condition, Conditions, Form, Mode, also, gt, gte, lt, lte}
+use Rattle.members.specs.Sheet.{Sheet}
 
 module _ (sem : Semantics) {C : Type 0} (sheet : Sheet C) where
   -- whatever the first child's truth, a refusal of a later one is not lost

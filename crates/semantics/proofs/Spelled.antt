@@ -2,19 +2,19 @@
 -- Assumes nothing.
 use mathlib.Core.Path.{refl, _≡_}
 use Prim.Native.Nat.{Ordering, Ordering·eq, Ordering·gt, Ordering·lt}
-use Rattle.reader.proofs.Complete.{read-exactly}
-use Rattle.reader.proofs.Sound.{bind-with}
-use Rattle.reader.specs.Bytes.{Bytes, orderBytes}
-use Rattle.reader.specs.Grammar.{Elements, MembersOf, MoreElements, MoreMembers, Spells}
-use Rattle.reader.specs.Json.{Members, Value, Values, array, bool, cons, elements, empty, entries, member, nil, null, number, object, text}
-use Rattle.reader.specs.Reader.{json}
-use Rattle.reader.specs.Refusal.{ok}
-use Rattle.reader.specs.Sorted.{insert, sorted, sortedIn, sortedOf}
+use Rattle.json.proofs.Complete.{read-exactly}
+use Rattle.json.proofs.Sound.{bind-with}
+use Rattle.json.specs.Bytes.{Bytes, orderBytes}
+use Rattle.json.specs.Grammar.{Elements, MembersOf, MoreElements, MoreMembers, Spells}
+use Rattle.json.specs.Json.{Members, Value, Values, array, bool, cons, elements, empty, entries, member, nil, null, number, object, text}
+use Rattle.json.specs.Reader.{json}
+use Rattle.json.specs.Refusal.{ok}
+use Rattle.json.specs.Sorted.{insert, sorted, sortedIn, sortedOf}
 use Rattle.semantics.proofs.Parts.{All, Entries, Hereditary, SheetHas, sheet-has}
 use Rattle.semantics.specs.Spelled.{AllNumbers, AllNumbersIn, AllNumbersOf}
-use Rattle.sheet.specs.Condition.{Condition}
-use Rattle.sheet.specs.Kinds.{anObject, notNull}
-use Rattle.sheet.specs.Sheet.{Sheet, aSheet, readSheet, sound, written}
+use Rattle.members.specs.Condition.{Condition}
+use Rattle.members.specs.Kinds.{anObject, notNull}
+use Rattle.members.specs.Sheet.{Sheet, aSheet, readSheet, sound, written}
 
 -- what the grammar spells
 mutual

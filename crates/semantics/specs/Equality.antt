@@ -4,8 +4,8 @@ use mathlib.Core.Bool.{Bool, false, not, true, _&&_}
 use mathlib.Core.Option.{none, some}
 use Rattle.semantics.specs.Semantics.{Semantics}
 use Rattle.number.specs.Compare.{numberOrder}
-use Rattle.reader.specs.Bytes.{Bytes, sameBytes}
-use Rattle.reader.specs.Json.{Members, Value, Values, array, asArray, asBool, asNumber, asObject, asText, bool, cons, empty, isNull, member, nil, null, number, object, text}
+use Rattle.json.specs.Bytes.{Bytes, sameBytes}
+use Rattle.json.specs.Json.{Members, Value, Values, array, asArray, asBool, asNumber, asObject, asText, bool, cons, empty, isNull, member, nil, null, number, object, text}
 
 -- A sheet keeps sorted trees (`sorted`), so that equal objects are equal place by place.
 module _ (numbers : Bytes → Bytes → Bool) where

@@ -9,10 +9,10 @@ use Rattle.semantics.specs.Names.{Names, joinNames, noNames}
 use Rattle.semantics.specs.Semantics.{Semantics}
 use Rattle.semantics.specs.Operand.{Resolved, missing, present, resolve}
 use Rattle.semantics.specs.Truth.{Truth, Unknown, join, negate, ofBool, settles, start}
-use Rattle.reader.specs.Json.{Members, Value, array, bool, elements, empty, member, null, number, object, text}
-use Rattle.reader.specs.Refusal.{Result, ok, _>>=_}
-use Rattle.sheet.specs.Condition.{Condition, Conditions, Form, Mode, also, exists, junction, literal, negation, noMore, pair, quantified}
-use Rattle.sheet.specs.Sheet.{Sheet}
+use Rattle.json.specs.Json.{Members, Value, array, bool, elements, empty, member, null, number, object, text}
+use Rattle.json.specs.Refusal.{Result, ok, _>>=_}
+use Rattle.members.specs.Condition.{Condition, Conditions, Form, Mode, also, exists, junction, literal, negation, noMore, pair, quantified}
+use Rattle.members.specs.Sheet.{Sheet}
 
 -- A truth with the names met on the way, in the order met.
 pub record Answer : Type 0 where

@@ -5,11 +5,11 @@ use mathlib.Core.List.{List, [], _∷_}
 use mathlib.Core.Option.{Option, none, some}
 use Prim.Native.Nat.{ℕ}
 use lib.Dec.{eqb}
-use Rattle.reader.specs.Bytes.{Bytes, ascii, find}
-use Rattle.reader.specs.Json.{Members, Value, number, object, text}
-use Rattle.reader.specs.Refusal.{Result, noId, ok, refused, unknownExpression}
+use Rattle.json.specs.Bytes.{Bytes, ascii, find}
+use Rattle.json.specs.Json.{Members, Value, number, object, text}
+use Rattle.json.specs.Refusal.{Result, noId, ok, refused, unknownExpression}
 use Rattle.semantics.specs.Semantics.{Semantics}
-use Rattle.sheet.specs.Sheet.{Sheet}
+use Rattle.members.specs.Sheet.{Sheet}
 
 -- the binders in force with their values, innermost first
 abbrev pub Env : Type 0

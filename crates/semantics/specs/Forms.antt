@@ -7,9 +7,9 @@ use Prim.Native.Nat.{Ordering, Ordering·eq, Ordering·gt, Ordering·lt}
 use Rattle.semantics.specs.Equality.{equal}
 use Rattle.semantics.specs.Semantics.{Semantics, isSame}
 use Rattle.number.specs.Compare.{numberOrder}
-use Rattle.reader.specs.Bytes.{Bytes, begins, isOneOf, sameBytes}
-use Rattle.reader.specs.Json.{Members, Value, Values, array, asArray, asNumber, asText, bool, cons, keys, nil, null, number, object, text}
-use Rattle.sheet.specs.Condition.{Form, contains, endsWith, eq, gt, gte, isIn, lt, lte, ne, startsWith}
+use Rattle.json.specs.Bytes.{Bytes, begins, isOneOf, sameBytes}
+use Rattle.json.specs.Json.{Members, Value, Values, array, asArray, asNumber, asText, bool, cons, keys, nil, null, number, object, text}
+use Rattle.members.specs.Condition.{Form, contains, endsWith, eq, gt, gte, isIn, lt, lte, ne, startsWith}
 
 abbrev pub isLess : Ordering → Bool
 isLess Ordering·lt = true

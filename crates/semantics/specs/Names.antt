@@ -4,7 +4,7 @@
 use mathlib.Core.List.{List, List·Memᴰ, [], _++_, _∷_}
 use mathlib.Core.Path.{_≡_}
 use Prim.Native.Nat.{Ordering·eq, Ordering·gt, Ordering·lt}
-use Rattle.reader.specs.Bytes.{Bytes, orderBytes}
+use Rattle.json.specs.Bytes.{Bytes, orderBytes}
 
 abbrev pub Names : Type 0
 Names = List Bytes

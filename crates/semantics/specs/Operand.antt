@@ -7,10 +7,10 @@ use lib.Dec.{eqb}
 use Rattle.semantics.specs.Expression.{Env, gives}
 use Rattle.semantics.specs.Names.{Names, joinNames, oneName}
 use Rattle.semantics.specs.Semantics.{Semantics}
-use Rattle.reader.specs.Bytes.{Bytes}
-use Rattle.reader.specs.Json.{Members, Value, Values, array, bool, cons, empty, isNull, member, nil, null, number, object, text}
-use Rattle.reader.specs.Refusal.{Result, ok, _>>=_}
-use Rattle.sheet.specs.Sheet.{Sheet}
+use Rattle.json.specs.Bytes.{Bytes}
+use Rattle.json.specs.Json.{Members, Value, Values, array, bool, cons, empty, isNull, member, nil, null, number, object, text}
+use Rattle.json.specs.Refusal.{Result, ok, _>>=_}
+use Rattle.members.specs.Sheet.{Sheet}
 
 -- A written text is itself, a text less one `$`, or an expression.
 pub data Written : Type 0 where

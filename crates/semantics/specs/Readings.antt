@@ -6,13 +6,13 @@ use mathlib.Core.Option.{Option, none, some}
 use Rattle.semantics.specs.Expression.{gives, parts}
 use Rattle.semantics.specs.Operand.{escaped, expression, plain, readText}
 use Rattle.semantics.specs.Semantics.{Semantics}
-use Rattle.reader.specs.Bytes.{Bytes, isOneOf}
-use Rattle.reader.specs.Json.{Members, Value, Values, array, bool, cons, empty, member, nil, null, number, object, text}
-use Rattle.reader.specs.Refusal.{Result, ok, refused}
-use Rattle.sheet.specs.Condition.{Condition, Conditions, also, exists, junction, literal, negation, noMore, pair, quantified}
-use Rattle.sheet.specs.Outcome.{Outcome}
-use Rattle.sheet.specs.Rule.{Rule}
-use Rattle.sheet.specs.Sheet.{Sheet}
+use Rattle.json.specs.Bytes.{Bytes, isOneOf}
+use Rattle.json.specs.Json.{Members, Value, Values, array, bool, cons, empty, member, nil, null, number, object, text}
+use Rattle.json.specs.Refusal.{Result, ok, refused}
+use Rattle.members.specs.Condition.{Condition, Conditions, also, exists, junction, literal, negation, noMore, pair, quantified}
+use Rattle.members.specs.Outcome.{Outcome}
+use Rattle.members.specs.Rule.{Rule}
+use Rattle.members.specs.Sheet.{Sheet}
 
 -- A reading: the text after `$` of an expression that no binder in force takes. It is exact where a repeated decision must find it exactly as before:
 -- where it stands under `exists`, which answers by whether it is there.

@@ -6,8 +6,8 @@ use mathlib.Core.Option.{Option, none, some}
 use Prim.Native.Nat.{Ordering, Ordering·eq, Ordering·gt, Ordering·lt}
 use Rattle.number.specs.Compare.{numberOrder}
 use Rattle.number.specs.Decimal.{decimal, exactOrder}
-use Rattle.reader.specs.Bytes.{Bytes, find}
-use Rattle.reader.specs.Json.{Value, asObject, entries}
+use Rattle.json.specs.Bytes.{Bytes, find}
+use Rattle.json.specs.Json.{Value, asObject, entries}
 
 pub record Semantics : Type 0 where
   pub step : Bytes → Value → Option Value

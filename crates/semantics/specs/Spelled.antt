@@ -3,13 +3,13 @@
 use mathlib.Core.List.{List·Memᴰ}
 use mathlib.Core.Option.{some}
 use mathlib.Core.Path.{_≡_}
-use Rattle.reader.specs.Bytes.{Bytes}
-use Rattle.reader.specs.Grammar.{Spells}
-use Rattle.reader.specs.Json.{Members, Value, Values, array, bool, cons, empty, member, nil, null, number, object, text}
-use Rattle.sheet.specs.Condition.{Condition}
-use Rattle.sheet.specs.Outcome.{Outcome}
-use Rattle.sheet.specs.Rule.{Rule}
-use Rattle.sheet.specs.Sheet.{Sheet}
+use Rattle.json.specs.Bytes.{Bytes}
+use Rattle.json.specs.Grammar.{Spells}
+use Rattle.json.specs.Json.{Members, Value, Values, array, bool, cons, empty, member, nil, null, number, object, text}
+use Rattle.members.specs.Condition.{Condition}
+use Rattle.members.specs.Outcome.{Outcome}
+use Rattle.members.specs.Rule.{Rule}
+use Rattle.members.specs.Sheet.{Sheet}
 
 -- some text begins with it, and the grammar spells it there as a number
 abbrev pub IsNumber : Bytes → Type 0

@@ -1,7 +1,7 @@
 -- Kleene's strong truth tables, and how `all` and `any` start, join and settle.
 -- Assumes nothing.
 use mathlib.Core.Bool.{Bool, false, true}
-use Rattle.sheet.specs.Condition.{Mode, any, every}
+use Rattle.members.specs.Condition.{Mode, any, every}
 
 pub data Truth : Type 0 where
   True False Unknown : Truth

@@ -6,34 +6,34 @@ use mathlib.Core.Option.{Option, none, some}
 use mathlib.Core.Path.{ap, refl, subst, sym, _∙_, _≡_}
 use Prim.Native.Nat.{ℕ}
 use native.Mathlib.Omega.{arith}
-use Rattle.reader.proofs.Complete.{read-exactly}
-use Rattle.reader.proofs.Laws.{bind-ok}
-use Rattle.reader.specs.Answers.{FoundIn, FoundTold, foundOf}
-use Rattle.reader.specs.Bytes.{Bytes, ascii, find}
-use Rattle.reader.specs.Json.{Members, Value, entries, object}
-use Rattle.reader.specs.Limits.{maxNumber, tidy, tidyOf}
-use Rattle.reader.specs.Refusal.{Refusal, Result, ok, orElse, refused, wrongSheet, _>>=_}
-use Rattle.reader.specs.Sorted.{sorted, sortedOf}
-use Rattle.reader.specs.Table.{afterAt, kindAt, membersAt, valueAt}
-use Rattle.reader.specs.declared.rows.Found.{Found}
-use Rattle.reader.specs.declared.rows.Found.the-variants as founds
-use Rattle.sheet.proofs.Nine.{nine, sheet-nine}
+use Rattle.json.proofs.Complete.{read-exactly}
+use Rattle.json.proofs.Laws.{bind-ok}
+use Rattle.strings.specs.Answers.{FoundIn, FoundTold, foundOf}
+use Rattle.json.specs.Bytes.{Bytes, ascii, find}
+use Rattle.json.specs.Json.{Members, Value, entries, object}
+use Rattle.json.specs.Limits.{maxNumber, tidy, tidyOf}
+use Rattle.json.specs.Refusal.{Refusal, Result, ok, orElse, refused, wrongSheet, _>>=_}
+use Rattle.json.specs.Sorted.{sorted, sortedOf}
+use Rattle.json.specs.Table.{afterAt, kindAt, membersAt, valueAt}
+use Rattle.strings.specs.declared.rows.Found.{Found}
+use Rattle.strings.specs.declared.rows.Found.the-variants as founds
+use Rattle.members.proofs.Nine.{nine, sheet-nine}
 use Rattle.sheet.proofs.Rules.{no-object, object-is}
-use Rattle.sheet.proofs.Shapes.{tagged}
+use Rattle.members.proofs.Shapes.{tagged}
 use Rattle.sheet.proofs.SortedKinds.{bind-inv, okay}
 use Rattle.sheet.proofs.SortedMembers.{find-sorted, find-tidy, mapped}
 use Rattle.sheet.proofs.SortedSheet.{SheetParts, sheet-sorted}
-use Rattle.sheet.proofs.Soundness.{soundnessOf}
-use Rattle.sheet.proofs.Walks.{full}
-use Rattle.sheet.proofs.Verdicts.{never}
+use Rattle.members.proofs.Soundness.{soundnessOf}
+use Rattle.members.proofs.Walks.{full}
+use Rattle.members.proofs.Verdicts.{never}
 use Rattle.sheet.specs.Accepted.{Accepted, Gives, MayGive, Shaped, Stored, membersOf, nodeOf}
-use Rattle.sheet.specs.Condition.{Condition, condition}
-use Rattle.sheet.specs.Kinds.{aText, aVersion, anArrayOf, anObject, notNull, optional, required}
+use Rattle.members.specs.Condition.{Condition, condition}
+use Rattle.members.specs.Kinds.{aText, aVersion, anArrayOf, anObject, notNull, optional, required}
 use Rattle.sheet.specs.Named.{SheetNamed}
-use Rattle.sheet.specs.Outcome.{anOutcome}
-use Rattle.sheet.specs.Rule.{aRule}
-use Rattle.sheet.specs.Sheet.{Sheet, aSheet, checked, readSheet, sound, written}
-use Rattle.sheet.specs.Verdicts.{faultOf, isOk}
+use Rattle.members.specs.Outcome.{anOutcome}
+use Rattle.members.specs.Rule.{aRule}
+use Rattle.members.specs.Sheet.{Sheet, aSheet, checked, readSheet, sound, written}
+use Rattle.members.specs.Verdicts.{faultOf, isOk}
 use Rattle.sheet.specs.declared.shape.Members.{Members as SheetPlaces}
 use Rattle.sheet.specs.declared.shape.Shape.the-variants as shapes
 use Rattle.sheet.specs.declared.sheet.SheetMembers.{SheetMembers}

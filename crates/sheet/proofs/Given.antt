@@ -7,32 +7,32 @@ use mathlib.Core.Path.{ap, refl, subst, sym, _∙_, _≡_}
 use Prim.Native.Nat.{ℕ, _+_, _<_, _≤_}
 use native.Mathlib.Omega.{arith}
 use lib.Seq.{slice}
-use Rattle.reader.proofs.Laws.{bind-ok}
-use Rattle.reader.proofs.Walk.{values-done, values-more}
-use Rattle.reader.specs.Answers.{FoundTold, foundOf}
-use Rattle.reader.specs.Bytes.{Bytes, ascii, find, sameBytes}
-use Rattle.reader.specs.Cursor.{OnText}
-use Rattle.reader.specs.Held.{AreMembers, IsNode}
-use Rattle.reader.specs.Json.{Members, Value, Values, array, bool, cons, elements, entries, keys, null, number, object, text}
-use Rattle.reader.specs.Limits.{maxNumber, tidy, tidyIn, tidyOf}
-use Rattle.reader.specs.Refusal.{Result, ok, orElse, refused, wrongSheet, _>>=_}
-use Rattle.reader.specs.Sorted.{sorted, sortedIn, sortedOf}
-use Rattle.reader.specs.Spans.{textAt}
-use Rattle.reader.specs.Table.{afterAt, endAt, kindAt, membersAt, startAt, valueAt, valuesAt}
-use Rattle.reader.specs.declared.rows.Found.{Found}
-use Rattle.reader.specs.declared.rows.Found.the-variants as founds
+use Rattle.json.proofs.Laws.{bind-ok}
+use Rattle.json.proofs.Walk.{values-done, values-more}
+use Rattle.strings.specs.Answers.{FoundTold, foundOf}
+use Rattle.json.specs.Bytes.{Bytes, ascii, find, sameBytes}
+use Rattle.json.specs.Cursor.{OnText}
+use Rattle.json.specs.Held.{AreMembers, IsNode}
+use Rattle.json.specs.Json.{Members, Value, Values, array, bool, cons, elements, entries, keys, null, number, object, text}
+use Rattle.json.specs.Limits.{maxNumber, tidy, tidyIn, tidyOf}
+use Rattle.json.specs.Refusal.{Result, ok, orElse, refused, wrongSheet, _>>=_}
+use Rattle.json.specs.Sorted.{sorted, sortedIn, sortedOf}
+use Rattle.json.specs.Spans.{textAt}
+use Rattle.json.specs.Table.{afterAt, endAt, kindAt, membersAt, startAt, valueAt, valuesAt}
+use Rattle.strings.specs.declared.rows.Found.{Found}
+use Rattle.strings.specs.declared.rows.Found.the-variants as founds
 use Rattle.sheet.proofs.Accepted.{gives, may-give}
-use Rattle.sheet.proofs.Shapes.{array-at, number-at, object-at, tag, tag-at, text-at}
+use Rattle.members.proofs.Shapes.{array-at, number-at, object-at, tag, tag-at, text-at}
 use Rattle.sheet.proofs.SortedKinds.{Okay, aText-sorted, aVersion-sorted, bind-inv}
 use Rattle.sheet.proofs.SortedMembers.{and-first, and-second, find-sorted, mapped}
-use Rattle.sheet.proofs.Walks.{full-members, full-nodes}
-use Rattle.sheet.proofs.Verdicts.{never}
+use Rattle.members.proofs.Walks.{full-members, full-nodes}
+use Rattle.members.proofs.Verdicts.{never}
 use Rattle.sheet.specs.Accepted.{EachGives, Given, Gives, MoveGives, OutcomeGives, RuleGives, nodeOf}
-use Rattle.sheet.specs.Condition.{Condition, condition}
-use Rattle.sheet.specs.Kinds.{aBool, aText, aVersion, anArrayOf, anObject, eachOf, isVersion, only, optional, required, someTexts}
+use Rattle.members.specs.Condition.{Condition, condition}
+use Rattle.members.specs.Kinds.{aBool, aText, aVersion, anArrayOf, anObject, eachOf, isVersion, only, optional, required, someTexts}
 use Rattle.sheet.specs.Named.{MoveNamed, OutcomeNamed, RuleNamed}
-use Rattle.sheet.specs.Outcome.{Effect, Outcome, aMove, anEffect, anOutcome, effectWords, moves, orFalse, orStays, stays}
-use Rattle.sheet.specs.Rule.{Rule, aRule}
+use Rattle.members.specs.Outcome.{Effect, Outcome, aMove, anEffect, anOutcome, effectWords, moves, orFalse, orStays, stays}
+use Rattle.members.specs.Rule.{Rule, aRule}
 use Rattle.sheet.specs.declared.outcome.MoveMembers.{MoveMembers}
 use Rattle.sheet.specs.declared.outcome.OutcomeMembers.{OutcomeMembers}
 use Rattle.sheet.specs.declared.rule.RuleMembers.{RuleMembers}

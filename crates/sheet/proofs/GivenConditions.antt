@@ -9,38 +9,38 @@ use native.Mathlib.Omega.{arith}
 use lib.Dec.{eqb, ltb}
 use lib.ListN.{length}
 use borrow.Author.Tests.{ltb-false, ltb-true}
-use Rattle.reader.proofs.Laws.{bind-ok, eqb-no, eqb-true}
-use Rattle.reader.proofs.Walk.{values-done, values-more}
-use Rattle.reader.specs.Answers.{FoundIn, FoundTold, foundOf}
-use Rattle.reader.specs.Bytes.{Bytes, ascii, find, orderBytes}
-use Rattle.reader.specs.Cursor.{OnText}
-use Rattle.reader.specs.Held.{AreNodes, IsNode}
-use Rattle.reader.specs.Json.{Members, Value, Values, array, bool, cons, empty, entries, member, nil, null, number, object, text}
-use Rattle.reader.specs.Limits.{maxNumber, tidy, tidyIn, tidyOf}
-use Rattle.reader.specs.Refusal.{Refusal, Result, notCarried, ok, orElse, refused, wrongSheet, wrongShape, _>>=_}
-use Rattle.reader.specs.Sorted.{sorted, sortedIn, sortedOf}
-use Rattle.reader.specs.Spans.{textAt}
-use Rattle.reader.specs.Table.{afterAt, kindAt, membersAt, startAt, valueAt, valuesAt}
-use Rattle.reader.specs.declared.rows.Found.{Found}
-use Rattle.reader.specs.declared.rows.Found.the-variants as founds
-use Rattle.sheet.proofs.Conditions.{exactly, find-conditions, not-one}
-use Rattle.sheet.proofs.Faults.{alone, inner-name, inner-node, name-place}
+use Rattle.json.proofs.Laws.{bind-ok, eqb-no, eqb-true}
+use Rattle.json.proofs.Walk.{values-done, values-more}
+use Rattle.strings.specs.Answers.{FoundIn, FoundTold, foundOf}
+use Rattle.json.specs.Bytes.{Bytes, ascii, find, orderBytes}
+use Rattle.json.specs.Cursor.{OnText}
+use Rattle.json.specs.Held.{AreNodes, IsNode}
+use Rattle.json.specs.Json.{Members, Value, Values, array, bool, cons, empty, entries, member, nil, null, number, object, text}
+use Rattle.json.specs.Limits.{maxNumber, tidy, tidyIn, tidyOf}
+use Rattle.json.specs.Refusal.{Refusal, Result, notCarried, ok, orElse, refused, wrongSheet, wrongShape, _>>=_}
+use Rattle.json.specs.Sorted.{sorted, sortedIn, sortedOf}
+use Rattle.json.specs.Spans.{textAt}
+use Rattle.json.specs.Table.{afterAt, kindAt, membersAt, startAt, valueAt, valuesAt}
+use Rattle.strings.specs.declared.rows.Found.{Found}
+use Rattle.strings.specs.declared.rows.Found.the-variants as founds
+use Rattle.members.proofs.Conditions.{exactly, find-conditions, not-one}
+use Rattle.syntax.proofs.Faults.{alone, inner-name, inner-node, name-place}
 use Rattle.sheet.proofs.Given.{ObjectHere, object-here}
-use Rattle.sheet.proofs.Shapes.{array-at, tag, tag-at}
+use Rattle.members.proofs.Shapes.{array-at, tag, tag-at}
 use Rattle.sheet.proofs.SortedConditions.{Parts, parts}
 use Rattle.sheet.proofs.SortedKinds.{bind-inv}
 use Rattle.sheet.proofs.SortedMembers.{and-first, and-second, find-sorted, find-tidy, length-sorted, mapped, unrepeated}
-use Rattle.sheet.proofs.Verdicts.{never}
-use Rattle.sheet.proofs.Walks.{full, full-nodes}
+use Rattle.members.proofs.Verdicts.{never}
+use Rattle.members.proofs.Walks.{full, full-nodes}
 use Rattle.sheet.specs.Accepted.{ConditionsGive, Gives}
-use Rattle.sheet.specs.Answers.{formOf, modeOf, operatorOf}
-use Rattle.sheet.specs.Condition.{Condition, Conditions, Form, Mode, Operator, also, condition, conditionArray, conditionObject, conditionsIn, conditionsOf, exists, formed, junction, literal, negation, noMore, oneMember, operators, pair, quantified, quantifier, twoOf}
-use Rattle.sheet.specs.Kinds.{aText}
-use Rattle.sheet.specs.Verdicts.{faultOf}
-use Rattle.sheet.specs.declared.condition.Form.{Form as CodeForm}
-use Rattle.sheet.specs.declared.condition.Mode.{Mode as CodeMode}
-use Rattle.sheet.specs.declared.condition.Operator.{Operator as CodeOperator}
-use Rattle.sheet.specs.declared.condition.Operator.the-variants as ops
+use Rattle.members.specs.Answers.{formOf, modeOf, operatorOf}
+use Rattle.members.specs.Condition.{Condition, Conditions, Form, Mode, Operator, also, condition, conditionArray, conditionObject, conditionsIn, conditionsOf, exists, formed, junction, literal, negation, noMore, oneMember, operators, pair, quantified, quantifier, twoOf}
+use Rattle.members.specs.Kinds.{aText}
+use Rattle.members.specs.Verdicts.{faultOf}
+use Rattle.members.specs.declared.told.Form.{Form as CodeForm}
+use Rattle.members.specs.declared.told.Mode.{Mode as CodeMode}
+use Rattle.members.specs.declared.told.Operator.{Operator as CodeOperator}
+use Rattle.members.specs.declared.told.Operator.the-variants as ops
 
 -- ---- by its kind
 literal-of : (v : Value) (b : Bool) (c : Condition) → v ≡ bool b → condition (sorted v) ≡ ok c → c ≡ literal b

@@ -6,30 +6,30 @@ use mathlib.Core.Option.{Option}
 use mathlib.Core.Path.{ap, refl, subst, sym, _∙_, _≡_}
 use Prim.Native.Nat.{ℕ, _+_}
 use native.Mathlib.Omega.{arith}
-use Rattle.reader.proofs.Laws.{find-none, find-some}
-use Rattle.reader.specs.Answers.{foundOf}
-use Rattle.reader.specs.Bytes.{Bytes, ascii, find}
-use Rattle.reader.specs.Cursor.{OnText}
-use Rattle.reader.specs.Held.{AreMembers, IsNode}
-use Rattle.reader.specs.Json.{Members, Value, array, bool, entries, keys, null, number, object, text}
-use Rattle.reader.specs.Refusal.{Result, orElse, wrongSheet, _>>=_}
-use Rattle.reader.specs.Spans.{textAt}
-use Rattle.reader.specs.Table.{afterAt, endAt, kindAt, membersAt, startAt, valueAt}
-use Rattle.reader.specs.declared.rows.Found.{Found}
-use Rattle.reader.specs.declared.rows.Found.the-variants as founds
-use Rattle.sheet.proofs.Names.{listed, unlisted}
-use Rattle.sheet.proofs.Shapes.{object-at, tag, tagged, text-at}
-use Rattle.sheet.proofs.Verdicts.{ok-bind, ok-last, optional-ok, required-ok}
-use Rattle.sheet.proofs.Walks.{full-members}
-use Rattle.sheet.specs.Answers.{placeOf}
-use Rattle.sheet.specs.Kinds.{aBool, aText, anObject, notNull, only, optional, required, someTexts}
+use Rattle.json.proofs.Laws.{find-none, find-some}
+use Rattle.strings.specs.Answers.{foundOf}
+use Rattle.json.specs.Bytes.{Bytes, ascii, find}
+use Rattle.json.specs.Cursor.{OnText}
+use Rattle.json.specs.Held.{AreMembers, IsNode}
+use Rattle.json.specs.Json.{Members, Value, array, bool, entries, keys, null, number, object, text}
+use Rattle.json.specs.Refusal.{Result, orElse, wrongSheet, _>>=_}
+use Rattle.json.specs.Spans.{textAt}
+use Rattle.json.specs.Table.{afterAt, endAt, kindAt, membersAt, startAt, valueAt}
+use Rattle.strings.specs.declared.rows.Found.{Found}
+use Rattle.strings.specs.declared.rows.Found.the-variants as founds
+use Rattle.members.proofs.Names.{listed, unlisted}
+use Rattle.members.proofs.Shapes.{object-at, tag, tagged, text-at}
+use Rattle.members.proofs.Verdicts.{ok-bind, ok-last, optional-ok, required-ok}
+use Rattle.members.proofs.Walks.{full-members}
+use Rattle.members.specs.Answers.{placeOf}
+use Rattle.members.specs.Kinds.{aBool, aText, anObject, notNull, only, optional, required, someTexts}
 use Rattle.sheet.specs.Named.{MoveNamed, OutcomeNamed, RuleNamed}
-use Rattle.sheet.specs.Outcome.{Effect, aMove, anEffect, anOutcome, effectWords}
-use Rattle.sheet.specs.Rule.{aRule}
-use Rattle.sheet.specs.Verdicts.{isOk}
-use Rattle.sheet.specs.Wants.{allowed, meets, needed}
-use Rattle.sheet.specs.Words.{position}
-use Rattle.sheet.specs.declared.kinds.Want.the-variants as wants
+use Rattle.members.specs.Outcome.{Effect, aMove, anEffect, anOutcome, effectWords}
+use Rattle.members.specs.Rule.{aRule}
+use Rattle.members.specs.Verdicts.{isOk}
+use Rattle.members.specs.Wants.{allowed, meets, needed}
+use Rattle.members.specs.Words.{position}
+use Rattle.members.specs.declared.kinds.Want.the-variants as wants
 use Rattle.sheet.specs.declared.outcome.MoveMembers.{MoveMembers}
 use Rattle.sheet.specs.declared.outcome.OutcomeMembers.{OutcomeMembers}
 use Rattle.sheet.specs.declared.rule.RuleMembers.{RuleMembers}

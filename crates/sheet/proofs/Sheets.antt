@@ -4,25 +4,25 @@ use mathlib.Core.Bool.{Bool, false, true, _&&_}
 use mathlib.Core.List.{List}
 use mathlib.Core.Path.{ap, refl, sym, _∙_, _≡_}
 use Prim.Native.Nat.{ℕ, _+_}
-use Rattle.reader.specs.Answers.{foundOf}
-use Rattle.reader.specs.Bytes.{Bytes, ascii, find}
-use Rattle.reader.specs.Json.{Members, Value, Values, array, bool, entries, keys, null, number, object, text}
-use Rattle.reader.specs.Refusal.{Result}
-use Rattle.reader.specs.Table.{afterAt, kindAt, valueAt, valuesAt}
-use Rattle.reader.specs.Held.{IsNode}
+use Rattle.strings.specs.Answers.{foundOf}
+use Rattle.json.specs.Bytes.{Bytes, ascii, find}
+use Rattle.json.specs.Json.{Members, Value, Values, array, bool, entries, keys, null, number, object, text}
+use Rattle.json.specs.Refusal.{Result}
+use Rattle.json.specs.Table.{afterAt, kindAt, valueAt, valuesAt}
+use Rattle.json.specs.Held.{IsNode}
 use Rattle.sheet.proofs.Rules.{left3}
-use Rattle.sheet.proofs.Shapes.{array-at, tag, tagged}
-use Rattle.sheet.proofs.Verdicts.{array-ok, ok-bind, ok-last, optional-ok, required-ok}
-use Rattle.sheet.specs.Kinds.{aText, aVersion, anArrayOf, anObject, notNull, only, optional, required}
+use Rattle.members.proofs.Shapes.{array-at, tag, tagged}
+use Rattle.members.proofs.Verdicts.{array-ok, ok-bind, ok-last, optional-ok, required-ok}
+use Rattle.members.specs.Kinds.{aText, aVersion, anArrayOf, anObject, notNull, only, optional, required}
 use Rattle.sheet.specs.Named.{SheetNamed}
-use Rattle.sheet.specs.Outcome.{anOutcome}
-use Rattle.sheet.specs.Rule.{aRule}
-use Rattle.sheet.specs.Sheet.{aSheet, sheetNames}
-use Rattle.sheet.specs.Verdicts.{allOf, isOk}
-use Rattle.sheet.specs.Wants.{allowed, arrayOk, elementOk, meets, needed}
-use Rattle.sheet.specs.declared.kinds.Want.the-variants as wants
-use Rattle.sheet.specs.declared.sheet.Element.{Element}
-use Rattle.sheet.specs.declared.sheet.Element.the-variants as elements
+use Rattle.members.specs.Outcome.{anOutcome}
+use Rattle.members.specs.Rule.{aRule}
+use Rattle.members.specs.Sheet.{aSheet, sheetNames}
+use Rattle.members.specs.Verdicts.{allOf, isOk}
+use Rattle.members.specs.Wants.{allowed, arrayOk, elementOk, meets, needed}
+use Rattle.members.specs.declared.kinds.Want.the-variants as wants
+use Rattle.members.specs.declared.kinds.Element.{Element}
+use Rattle.members.specs.declared.kinds.Element.the-variants as elements
 use Rattle.sheet.specs.declared.sheet.SheetMembers.{SheetMembers}
 
 -- ---- an array of rules, or of outcomes

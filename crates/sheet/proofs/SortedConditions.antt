@@ -7,17 +7,17 @@ use Prim.Native.Nat.{ℕ}
 use native.Mathlib.Omega.{arith}
 use lib.Dec.{eqb}
 use lib.ListN.{length}
-use Rattle.reader.proofs.Laws.{eqb-true, eqb-no}
-use Rattle.reader.specs.Bytes.{Bytes, ascii, find, orderBytes, sameBytes}
-use Rattle.reader.specs.Json.{Members, Value, Values, array, asText, bool, cons, empty, entries, member, nil, null, number, object, text}
-use Rattle.reader.specs.Limits.{maxNumber, tidy, tidyIn, tidyOf}
-use Rattle.reader.specs.Refusal.{Refusal}
-use Rattle.reader.specs.Sorted.{sorted, sortedIn, sortedOf}
-use Rattle.sheet.proofs.Conditions.{conditions-first, faultsIn, firstOf, made, made-junction, made-negation, made-pair, made-quantified, no-as, no-in, no-name, no-that, several, the-body, quantifier-of}
+use Rattle.json.proofs.Laws.{eqb-true, eqb-no}
+use Rattle.json.specs.Bytes.{Bytes, ascii, find, orderBytes, sameBytes}
+use Rattle.json.specs.Json.{Members, Value, Values, array, asText, bool, cons, empty, entries, member, nil, null, number, object, text}
+use Rattle.json.specs.Limits.{maxNumber, tidy, tidyIn, tidyOf}
+use Rattle.json.specs.Refusal.{Refusal}
+use Rattle.json.specs.Sorted.{sorted, sortedIn, sortedOf}
+use Rattle.members.proofs.Conditions.{conditions-first, faultsIn, firstOf, made, made-junction, made-negation, made-pair, made-quantified, no-as, no-in, no-name, no-that, several, the-body, quantifier-of}
 use Rattle.sheet.proofs.SortedMembers.{Unrepeated, and-first, and-second, find-sorted, length-sorted, mapped, unrepeated}
-use Rattle.sheet.specs.Condition.{Mode, Operator, condition, conditionArray, conditionObject, conditionsIn, conditionsOf, every, oneMember, opExists, opJunction, opNegation, opNotCarried, opPair, opQuantified, operators, quantifier}
-use Rattle.sheet.specs.Faults.{pairFault, quantifierFault}
-use Rattle.sheet.specs.Verdicts.{faultOf}
+use Rattle.members.specs.Condition.{Mode, Operator, condition, conditionArray, conditionObject, conditionsIn, conditionsOf, every, oneMember, opExists, opJunction, opNegation, opNotCarried, opPair, opQuantified, operators, quantifier}
+use Rattle.members.specs.Faults.{pairFault, quantifierFault}
+use Rattle.members.specs.Verdicts.{faultOf}
 
 never : {A : Type 0} (r : Refusal) → some r ≡ none → A
 never r e = let z : _≡_ {A = ℕ} 0 1 = cc in absurd (omega arith)

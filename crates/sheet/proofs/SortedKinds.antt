@@ -6,18 +6,18 @@ use mathlib.Core.Option.{Option, none, some}
 use mathlib.Core.Path.{ap, refl, subst, sym, _∙_, _≡_}
 use Prim.Native.Nat.{ℕ}
 use native.Mathlib.Omega.{arith}
-use Rattle.reader.proofs.Laws.{bind-ok}
-use Rattle.reader.specs.Bytes.{Bytes, ascii, find}
-use Rattle.reader.specs.Json.{Members, Value, Values, array, bool, cons, elements, entries, keys, nil, null, number, object, text}
-use Rattle.reader.specs.Limits.{maxNumber, tidy, tidyOf}
-use Rattle.reader.specs.Refusal.{Result, ok, orElse, refused, wrongSheet, _>>=_}
-use Rattle.reader.specs.Sorted.{sorted, sortedIn, sortedOf}
+use Rattle.json.proofs.Laws.{bind-ok}
+use Rattle.json.specs.Bytes.{Bytes, ascii, find}
+use Rattle.json.specs.Json.{Members, Value, Values, array, bool, cons, elements, entries, keys, nil, null, number, object, text}
+use Rattle.json.specs.Limits.{maxNumber, tidy, tidyOf}
+use Rattle.json.specs.Refusal.{Result, ok, orElse, refused, wrongSheet, _>>=_}
+use Rattle.json.specs.Sorted.{sorted, sortedIn, sortedOf}
 use Rattle.sheet.proofs.SortedConditions.{text-sorted}
 use Rattle.sheet.proofs.SortedMembers.{find-sorted, find-tidy, mapped, only-sorted}
-use Rattle.sheet.proofs.Verdicts.{never}
-use Rattle.sheet.specs.Kinds.{aBool, aText, aVersion, anArrayOf, anObject, eachOf, only, optional, required, someTexts}
-use Rattle.sheet.specs.Outcome.{aMove, anEffect}
-use Rattle.sheet.specs.Verdicts.{isOk}
+use Rattle.members.proofs.Verdicts.{never}
+use Rattle.members.specs.Kinds.{aBool, aText, aVersion, anArrayOf, anObject, eachOf, only, optional, required, someTexts}
+use Rattle.members.specs.Outcome.{aMove, anEffect}
+use Rattle.members.specs.Verdicts.{isOk}
 
 -- it gives a value
 abbrev pub Okay : {A : Type 0} → Result A → Type 0

@@ -7,13 +7,13 @@ use mathlib.Core.Path.{ap, refl, subst, sym, _∙_, _≡_}
 use Prim.Native.Nat.{Ordering, Ordering·eq, Ordering·gt, Ordering·lt, suc, ℕ}
 use native.Mathlib.Omega.{arith}
 use lib.ListN.{length}
-use Rattle.reader.proofs.Laws.{orderBytes-eq, sameBytes-refl, sameBytes-true}
-use Rattle.reader.specs.Bytes.{Bytes, find, isOneOf, orderBytes, sameBytes}
-use Rattle.reader.specs.Json.{Members, Value, empty, entries, keys, member}
-use Rattle.reader.specs.Limits.{maxNumber, tidy, tidyOf}
-use Rattle.reader.specs.Sorted.{insert, sorted, sortedOf}
-use Rattle.sheet.specs.Kinds.{only}
-use Rattle.sheet.specs.Verdicts.{isOk}
+use Rattle.json.proofs.Laws.{orderBytes-eq, sameBytes-refl, sameBytes-true}
+use Rattle.json.specs.Bytes.{Bytes, find, isOneOf, orderBytes, sameBytes}
+use Rattle.json.specs.Json.{Members, Value, empty, entries, keys, member}
+use Rattle.json.specs.Limits.{maxNumber, tidy, tidyOf}
+use Rattle.json.specs.Sorted.{insert, sorted, sortedOf}
+use Rattle.members.specs.Kinds.{only}
+use Rattle.members.specs.Verdicts.{isOk}
 
 pub and-first : (a b : Bool) → (a && b) ≡ true → a ≡ true
 and-first true b e = refl

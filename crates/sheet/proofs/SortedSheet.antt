@@ -6,24 +6,24 @@ use mathlib.Core.Option.{Option, none, some}
 use mathlib.Core.Path.{ap, refl, subst, sym, _∙_, _≡_}
 use Prim.Native.Nat.{ℕ}
 use native.Mathlib.Omega.{arith}
-use Rattle.reader.proofs.Laws.{bind-ok, sameBytes-true}
-use Rattle.reader.specs.Bytes.{Bytes, ascii, find, sameBytes}
-use Rattle.reader.specs.Json.{Members, Value, Values, array, bool, cons, elements, entries, keys, nil, null, number, object, text}
-use Rattle.reader.specs.Limits.{maxNumber, tidy, tidyIn, tidyOf}
-use Rattle.reader.specs.Refusal.{Refusal, Result, ok, refused, wrongSheet}
-use Rattle.reader.specs.Sorted.{sorted, sortedIn, sortedOf}
+use Rattle.json.proofs.Laws.{bind-ok, sameBytes-true}
+use Rattle.json.specs.Bytes.{Bytes, ascii, find, sameBytes}
+use Rattle.json.specs.Json.{Members, Value, Values, array, bool, cons, elements, entries, keys, nil, null, number, object, text}
+use Rattle.json.specs.Limits.{maxNumber, tidy, tidyIn, tidyOf}
+use Rattle.json.specs.Refusal.{Refusal, Result, ok, refused, wrongSheet}
+use Rattle.json.specs.Sorted.{sorted, sortedIn, sortedOf}
 use Rattle.sheet.proofs.SortedConditions.{first-none, sound-sorted}
 use Rattle.sheet.proofs.SortedKinds.{Kept, Okay, aBool-sorted, aText-sorted, aVersion-sorted, as-object, bind-inv, bind-okay, effect-sorted, kept, object-kept, okay, only-okay, optional-sorted, required-sorted, texts-sorted}
 use Rattle.sheet.proofs.SortedMembers.{and-first, and-second}
 use Rattle.sheet.proofs.Sheets.{sheet-parts}
-use Rattle.sheet.proofs.Soundness.{member-of, oneOf, sound-append, sound-one, soundness, soundnessOf}
-use Rattle.sheet.proofs.Verdicts.{never}
-use Rattle.sheet.specs.Condition.{Condition, condition}
-use Rattle.sheet.specs.Kinds.{aBool, aText, aVersion, anArrayOf, anObject, eachOf, notNull, only, optional, required}
-use Rattle.sheet.specs.Outcome.{anEffect, anOutcome}
-use Rattle.sheet.specs.Rule.{aRule}
-use Rattle.sheet.specs.Sheet.{Sheet, aSheet, heldBy, holders, inArray, memberOf, memberOfEach, sheetNames, written}
-use Rattle.sheet.specs.Verdicts.{faultOf, isOk}
+use Rattle.members.proofs.Soundness.{member-of, oneOf, sound-append, sound-one, soundness, soundnessOf}
+use Rattle.members.proofs.Verdicts.{never}
+use Rattle.members.specs.Condition.{Condition, condition}
+use Rattle.members.specs.Kinds.{aBool, aText, aVersion, anArrayOf, anObject, eachOf, notNull, only, optional, required}
+use Rattle.members.specs.Outcome.{anEffect, anOutcome}
+use Rattle.members.specs.Rule.{aRule}
+use Rattle.members.specs.Sheet.{Sheet, aSheet, heldBy, holders, inArray, memberOf, memberOfEach, sheetNames, written}
+use Rattle.members.specs.Verdicts.{faultOf, isOk}
 
 -- no fault: a condition
 fault-okay : {A : Type 0} (x : Result A) → faultOf x ≡ none → Okay x

@@ -5,22 +5,22 @@ use mathlib.Core.Option.{Option, none, some}
 use mathlib.Core.Bool.{Bool, true}
 use mathlib.Core.Path.{_≡_}
 use Prim.Native.Nat.{ℕ}
-use Rattle.reader.specs.Bytes.{Bytes}
-use Rattle.reader.specs.Held.{AreNodes, IsNode}
-use Rattle.reader.specs.Json.{Value, elements}
-use Rattle.reader.specs.Limits.{maxNumber, tidy, tidyIn}
-use Rattle.reader.specs.Links.{Linked}
-use Rattle.reader.specs.Reader.{json}
-use Rattle.reader.specs.Refusal.{Result, notCarried, ok, refused, wrongShape, wrongSheet}
-use Rattle.reader.specs.Sorted.{sorted, sortedIn}
-use Rattle.reader.specs.Table.{valueAt, valuesAt}
-use Rattle.reader.specs.declared.rows.Found.{Found}
-use Rattle.reader.specs.declared.rows.Found.the-variants as founds
-use Rattle.sheet.specs.Condition.{Condition, Conditions, condition, conditionsIn}
-use Rattle.sheet.specs.Kinds.{aBool, aText, aVersion, anArrayOf, anObject, eachOf, someTexts}
-use Rattle.sheet.specs.Outcome.{Effect, Outcome, anEffect, anOutcome, orFalse, orStays}
-use Rattle.sheet.specs.Rule.{Rule, aRule}
-use Rattle.sheet.specs.Sheet.{Sheet, readSheet}
+use Rattle.json.specs.Bytes.{Bytes}
+use Rattle.json.specs.Held.{AreNodes, IsNode}
+use Rattle.json.specs.Json.{Value, elements}
+use Rattle.json.specs.Limits.{maxNumber, tidy, tidyIn}
+use Rattle.json.specs.Links.{Linked}
+use Rattle.json.specs.Reader.{json}
+use Rattle.json.specs.Refusal.{Result, notCarried, ok, refused, wrongShape, wrongSheet}
+use Rattle.json.specs.Sorted.{sorted, sortedIn}
+use Rattle.json.specs.Table.{valueAt, valuesAt}
+use Rattle.strings.specs.declared.rows.Found.{Found}
+use Rattle.strings.specs.declared.rows.Found.the-variants as founds
+use Rattle.members.specs.Condition.{Condition, Conditions, condition, conditionsIn}
+use Rattle.members.specs.Kinds.{aBool, aText, aVersion, anArrayOf, anObject, eachOf, someTexts}
+use Rattle.members.specs.Outcome.{Effect, Outcome, anEffect, anOutcome, orFalse, orStays}
+use Rattle.members.specs.Rule.{Rule, aRule}
+use Rattle.members.specs.Sheet.{Sheet, readSheet}
 use Rattle.sheet.specs.declared.outcome.MoveMembers.{MoveMembers}
 use Rattle.sheet.specs.declared.outcome.OutcomeMembers.{OutcomeMembers}
 use Rattle.sheet.specs.declared.rule.RuleMembers.{RuleMembers}

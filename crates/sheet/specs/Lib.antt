@@ -1,12 +1,2 @@
 pub mod Accepted
-pub mod Answers
-pub mod Condition
-pub mod Faults
-pub mod Kinds
 pub mod Named
-pub mod Outcome
-pub mod Rule
-pub mod Sheet
-pub mod Verdicts
-pub mod Wants
-pub mod Words

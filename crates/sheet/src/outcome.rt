@@ -1,18 +1,18 @@
 // An outcome and its effect.
-use crate::kinds::Want;
-use crate::member::named;
-use crate::node::OBJECT;
-use crate::node::TEXT;
-use reader::rows::Found;
+use members::kinds::Want;
+use members::member::named;
+use members::node::OBJECT;
+use members::node::TEXT;
+use strings::rows::Found;
 ghost use mathlib.Core.Path.{_≡_};
-ghost use Rattle.reader.specs.Answers.{FoundIn, foundOf};
-ghost use Rattle.reader.specs.Held.{AreMembers, IsNode};
-ghost use Rattle.reader.specs.Table.{membersAt, valueAt};
-ghost use Rattle.sheet.specs.Kinds.{notNull};
+ghost use Rattle.strings.specs.Answers.{FoundIn, foundOf};
+ghost use Rattle.json.specs.Held.{AreMembers, IsNode};
+ghost use Rattle.json.specs.Table.{membersAt, valueAt};
+ghost use Rattle.members.specs.Kinds.{notNull};
 ghost use Rattle.sheet.specs.Named.{MoveNamed, OutcomeNamed};
-ghost use Rattle.sheet.specs.Outcome.{aMove, anEffect, anOutcome};
-ghost use Rattle.sheet.specs.Verdicts.{isOk};
-ghost use Rattle.sheet.specs.Wants.{allowed};
+ghost use Rattle.members.specs.Outcome.{aMove, anEffect, anOutcome};
+ghost use Rattle.members.specs.Verdicts.{isOk};
+ghost use Rattle.members.specs.Wants.{allowed};
 
 // The nodes of an outcome's members, and of a move's.
 pub struct OutcomeMembers {
@@ -58,17 +58,17 @@ pub fn is_move(s: &[u8], work: &[u32], node: usize) -> bool
     requires { ⌜ IsNode (now s) (now work) 64 node ⌝ }
     ensures { λ r. ⌜ r ≡ isOk (aMove (valueAt (now (s .entry)) (now (work .entry)) node)) ⌝ }
 {
-    if crate::node::kind_at(work, node) != OBJECT {
+    if members::node::kind_at(work, node) != OBJECT {
         return false;
     }
     let first = node + 1;
-    let end = reader::rows::after_at(work, node);
+    let end = strings::rows::after_at(work, node);
     let m = move_members(s, work, first, end);
     let to = m.to;
     let from = m.from;
-    crate::member::only(s, work, first, end, b"to,from,")
-        & crate::kinds::needs(s, work, to, Want::Text)
-        & crate::kinds::needs(s, work, from, Want::TextOrTexts)
+    members::member::only(s, work, first, end, b"to,from,")
+        & members::kinds::needs(s, work, to, Want::Text)
+        & members::kinds::needs(s, work, from, Want::TextOrTexts)
 }
 
 // Whether a node is an effect.
@@ -76,10 +76,10 @@ pub fn is_effect(s: &[u8], work: &[u32], node: usize) -> bool
     requires { ⌜ IsNode (now s) (now work) 64 node ⌝ }
     ensures { λ r. ⌜ r ≡ isOk (anEffect (valueAt (now (s .entry)) (now (work .entry)) node)) ⌝ }
 {
-    let kind = crate::node::kind_at(work, node);
+    let kind = members::node::kind_at(work, node);
     if kind == TEXT {
-        let at = reader::rows::start_at(work, node);
-        return match crate::word::which(s, at, b"none,creates,updates,") {
+        let at = strings::rows::start_at(work, node);
+        return match members::word::which(s, at, b"none,creates,updates,") {
             Found::Nothing => false,
             Found::At(_n) => true,
         };
@@ -88,8 +88,8 @@ pub fn is_effect(s: &[u8], work: &[u32], node: usize) -> bool
         return false;
     }
     let from = node + 1;
-    let end = reader::rows::after_at(work, node);
-    if !crate::member::only(s, work, from, end, b"moves,") {
+    let end = strings::rows::after_at(work, node);
+    if !members::member::only(s, work, from, end, b"moves,") {
         return false;
     }
     match named(s, work, from, end, b"moves") {
@@ -114,27 +114,27 @@ pub fn is_outcome(s: &[u8], work: &[u32], node: usize) -> bool
     requires { ⌜ IsNode (now s) (now work) 64 node ⌝ }
     ensures { λ r. ⌜ r ≡ isOk (anOutcome notNull (valueAt (now (s .entry)) (now (work .entry)) node)) ⌝ }
 {
-    if crate::node::kind_at(work, node) != OBJECT {
+    if members::node::kind_at(work, node) != OBJECT {
         return false;
     }
     let from = node + 1;
-    let end = reader::rows::after_at(work, node);
+    let end = strings::rows::after_at(work, node);
     let m = members(s, work, from, end);
     let name = m.name;
     let when = m.when;
     let in_state = m.in_state;
     let wrong_state = m.wrong_state;
     let effect = m.effect;
-    crate::member::only(
+    members::member::only(
         s,
         work,
         from,
         end,
         b"name,when,in_state,wrong_state,effect,",
     )
-        & crate::kinds::needs(s, work, name, Want::Text)
-        & crate::kinds::allows(s, work, when, Want::Present)
-        & crate::kinds::allows(s, work, in_state, Want::Text)
-        & crate::kinds::allows(s, work, wrong_state, Want::Bool)
+        & members::kinds::needs(s, work, name, Want::Text)
+        & members::kinds::allows(s, work, when, Want::Present)
+        & members::kinds::allows(s, work, in_state, Want::Text)
+        & members::kinds::allows(s, work, wrong_state, Want::Bool)
         & allows_effect(s, work, effect)
 }

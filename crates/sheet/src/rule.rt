@@ -1,15 +1,15 @@
 // A rule: `assert`, and the texts `name` and `message`, which may be missing.
-use crate::kinds::Want;
-use crate::member::named;
-use crate::node::OBJECT;
-use reader::rows::Found;
+use members::kinds::Want;
+use members::member::named;
+use members::node::OBJECT;
+use strings::rows::Found;
 ghost use mathlib.Core.Path.{_≡_};
-ghost use Rattle.reader.specs.Held.{AreMembers, IsNode};
-ghost use Rattle.reader.specs.Table.{membersAt, valueAt};
-ghost use Rattle.sheet.specs.Kinds.{notNull};
+ghost use Rattle.json.specs.Held.{AreMembers, IsNode};
+ghost use Rattle.json.specs.Table.{membersAt, valueAt};
+ghost use Rattle.members.specs.Kinds.{notNull};
 ghost use Rattle.sheet.specs.Named.{RuleNamed};
-ghost use Rattle.sheet.specs.Rule.{aRule};
-ghost use Rattle.sheet.specs.Verdicts.{isOk};
+ghost use Rattle.members.specs.Rule.{aRule};
+ghost use Rattle.members.specs.Verdicts.{isOk};
 
 // The nodes of a rule's members.
 pub struct RuleMembers {
@@ -35,17 +35,17 @@ pub fn is_rule(s: &[u8], work: &[u32], node: usize) -> bool
     requires { ⌜ IsNode (now s) (now work) 64 node ⌝ }
     ensures { λ r. ⌜ r ≡ isOk (aRule notNull (valueAt (now (s .entry)) (now (work .entry)) node)) ⌝ }
 {
-    if crate::node::kind_at(work, node) != OBJECT {
+    if members::node::kind_at(work, node) != OBJECT {
         return false;
     }
     let from = node + 1;
-    let end = reader::rows::after_at(work, node);
+    let end = strings::rows::after_at(work, node);
     let m = members(s, work, from, end);
     let assert = m.assert;
     let name = m.name;
     let message = m.message;
-    crate::member::only(s, work, from, end, b"assert,name,message,")
-        & crate::kinds::needs(s, work, assert, Want::Present)
-        & crate::kinds::allows(s, work, name, Want::Text)
-        & crate::kinds::allows(s, work, message, Want::Text)
+    members::member::only(s, work, from, end, b"assert,name,message,")
+        & members::kinds::needs(s, work, assert, Want::Present)
+        & members::kinds::allows(s, work, name, Want::Text)
+        & members::kinds::allows(s, work, message, Want::Text)
 }

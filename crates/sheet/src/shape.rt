@@ -1,8 +1,8 @@
 // The whole shape of a sheet: 9, then 10 and 11; and where its members stand.
-use crate::condition::Fault;
-use crate::node::OBJECT;
 use crate::sheet::SheetMembers;
-use reader::rows::Found;
+use members::node::OBJECT;
+use members::told::Fault;
+use strings::rows::Found;
 ghost use mathlib.Core.Path.{_≡_};
 ghost use Rattle.sheet.specs.Accepted.{Shaped, Stored, membersOf, nodeOf};
 
@@ -82,10 +82,10 @@ pub fn shape_of(s: &[u8], work: &[u32]) -> Shape
     requires { ⌜ Stored (now s) (now work) ⌝ }
     ensures { λ r. ⌜ Shaped (now (s .entry)) (now (work .entry)) r ⌝ }
 {
-    if crate::node::kind_at(work, 0) != OBJECT {
+    if members::node::kind_at(work, 0) != OBJECT {
         return Shape::WrongSheet;
     }
-    let end = reader::rows::after_at(work, 0);
+    let end = strings::rows::after_at(work, 0);
     let m = crate::sheet::members(s, work, 1, end);
     if !crate::sheet::are_sheet(s, work, 1, end, m) {
         return Shape::WrongSheet;

@@ -1,24 +1,19 @@
 // The sheet's members, and the refusal 9.
-use crate::kinds::Want;
-use crate::member::named;
-use crate::node::ARRAY;
-use reader::rows::Found;
+use members::kinds::Element;
+use members::kinds::Want;
+use members::member::named;
+use members::node::ARRAY;
+use strings::rows::Found;
 ghost use mathlib.Core.Path.{_≡_};
-ghost use Rattle.reader.specs.Answers.{FoundIn, foundOf};
-ghost use Rattle.reader.specs.Held.{AreMembers, AreNodes, IsNode};
-ghost use Rattle.reader.specs.Json.{object};
-ghost use Rattle.reader.specs.Table.{membersAt, valueAt, valuesAt};
-ghost use Rattle.sheet.specs.Kinds.{notNull};
+ghost use Rattle.strings.specs.Answers.{FoundIn, foundOf};
+ghost use Rattle.json.specs.Held.{AreMembers, AreNodes, IsNode};
+ghost use Rattle.json.specs.Json.{object};
+ghost use Rattle.json.specs.Table.{membersAt, valueAt, valuesAt};
+ghost use Rattle.members.specs.Kinds.{notNull};
 ghost use Rattle.sheet.specs.Named.{SheetNamed};
-ghost use Rattle.sheet.specs.Sheet.{aSheet};
-ghost use Rattle.sheet.specs.Verdicts.{allOf, isOk};
-ghost use Rattle.sheet.specs.Wants.{arrayOk, elementOk, needed};
-
-// What a list of the sheet has as elements.
-pub enum Element {
-    Rule,
-    Outcome,
-}
+ghost use Rattle.members.specs.Sheet.{aSheet};
+ghost use Rattle.members.specs.Verdicts.{allOf, isOk};
+ghost use Rattle.members.specs.Wants.{arrayOk, elementOk, needed};
 
 // The nodes of the sheet's members.
 pub struct SheetMembers {
@@ -82,7 +77,7 @@ pub fn are_elements(s: &[u8], work: &[u32], from: usize, end: usize, element: El
         if !is_element(s, work, k, element) {
             return false;
         }
-        k = reader::rows::after_at(work, k);
+        k = strings::rows::after_at(work, k);
     }
     true
 }
@@ -95,10 +90,10 @@ pub fn needs_array(s: &[u8], work: &[u32], found: Found, element: Element) -> bo
     match found {
         Found::Nothing => false,
         Found::At(n) => {
-            if crate::node::kind_at(work, n) != ARRAY {
+            if members::node::kind_at(work, n) != ARRAY {
                 return false;
             }
-            are_elements(s, work, n + 1, reader::rows::after_at(work, n), element)
+            are_elements(s, work, n + 1, strings::rows::after_at(work, n), element)
         }
     }
 }
@@ -124,18 +119,18 @@ pub fn are_sheet(s: &[u8], work: &[u32], from: usize, end: usize, m: SheetMember
     let preconditions = m.preconditions;
     let invariants = m.invariants;
     let outcomes = m.outcomes;
-    crate::member::only(s, work, from, end, names)
-        & crate::kinds::allows(s, work, id, Want::Text)
-        & crate::kinds::needs(s, work, entity, Want::Text)
-        & crate::kinds::needs(s, work, version, Want::Version)
-        & crate::kinds::needs(s, work, args, Want::Object)
-        & crate::kinds::needs(s, work, fields, Want::Object)
-        & crate::kinds::needs(s, work, old_fields, Want::Object)
-        & crate::kinds::allows(s, work, from_state, Want::Text)
-        & crate::kinds::needs(s, work, to_state, Want::Text)
-        & crate::kinds::allows(s, work, state, Want::Text)
-        & crate::kinds::needs(s, work, states, Want::Texts)
-        & crate::kinds::allows(s, work, condition, Want::Present)
+    members::member::only(s, work, from, end, names)
+        & members::kinds::allows(s, work, id, Want::Text)
+        & members::kinds::needs(s, work, entity, Want::Text)
+        & members::kinds::needs(s, work, version, Want::Version)
+        & members::kinds::needs(s, work, args, Want::Object)
+        & members::kinds::needs(s, work, fields, Want::Object)
+        & members::kinds::needs(s, work, old_fields, Want::Object)
+        & members::kinds::allows(s, work, from_state, Want::Text)
+        & members::kinds::needs(s, work, to_state, Want::Text)
+        & members::kinds::allows(s, work, state, Want::Text)
+        & members::kinds::needs(s, work, states, Want::Texts)
+        & members::kinds::allows(s, work, condition, Want::Present)
         & needs_array(s, work, preconditions, Element::Rule)
         & needs_array(s, work, invariants, Element::Rule)
         & needs_array(s, work, outcomes, Element::Outcome)

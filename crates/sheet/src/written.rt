@@ -1,33 +1,33 @@
 // The sheet's conditions in the order in which they begin, and the first fault among them.
-use crate::condition::Fault;
-use crate::member::named;
-use crate::node::ARRAY;
-use crate::node::OBJECT;
-use reader::rows::Found;
+use members::member::named;
+use members::node::ARRAY;
+use members::node::OBJECT;
+use members::told::Fault;
+use strings::rows::Found;
 ghost use mathlib.Core.Path.{_≡_};
 ghost use Prim.Native.Nat.{_+_};
-ghost use Rattle.reader.specs.Bytes.{find};
-ghost use Rattle.reader.specs.Held.{AreMembers, IsNode};
-ghost use Rattle.reader.specs.Json.{entries};
-ghost use Rattle.reader.specs.Cursor.{OnText};
-ghost use Rattle.reader.specs.Spans.{textAt};
-ghost use Rattle.reader.specs.Table.{membersAt, valueAt};
-ghost use Rattle.sheet.specs.Answers.{faultIs};
-ghost use Rattle.sheet.specs.Sheet.{heldBy, holders, inArray, memberOf, sound, written};
-ghost use Rattle.sheet.specs.Verdicts.{faultOf};
+ghost use Rattle.json.specs.Bytes.{find};
+ghost use Rattle.json.specs.Held.{AreMembers, IsNode};
+ghost use Rattle.json.specs.Json.{entries};
+ghost use Rattle.json.specs.Cursor.{OnText};
+ghost use Rattle.json.specs.Spans.{textAt};
+ghost use Rattle.json.specs.Table.{membersAt, valueAt};
+ghost use Rattle.members.specs.Answers.{faultIs};
+ghost use Rattle.members.specs.Sheet.{heldBy, holders, inArray, memberOf, sound, written};
+ghost use Rattle.members.specs.Verdicts.{faultOf};
 
 // The fault of the condition that an element has under a name.
 pub fn under(s: &[u8], work: &[u32], node: usize, word: &[u8]) -> Fault
     requires { ⌜ IsNode (now s) (now work) 64 node ⌝ }
     ensures { λ r. ⌜ faultOf (sound (memberOf (now (word .entry)) (valueAt (now (s .entry)) (now (work .entry)) node))) ≡ faultIs r ⌝ }
 {
-    if crate::node::kind_at(work, node) != OBJECT {
+    if members::node::kind_at(work, node) != OBJECT {
         return Fault::Sound;
     }
-    let end = reader::rows::after_at(work, node);
+    let end = strings::rows::after_at(work, node);
     match named(s, work, node + 1, end, word) {
         Found::Nothing => Fault::Sound,
-        Found::At(n) => crate::condition::condition(s, work, n, 64),
+        Found::At(n) => syntax::condition::condition(s, work, n, 64),
     }
 }
 
@@ -36,15 +36,15 @@ pub fn under_each(s: &[u8], work: &[u32], node: usize, word: &[u8]) -> Fault
     requires { ⌜ IsNode (now s) (now work) 64 node ⌝ }
     ensures { λ r. ⌜ faultOf (sound (inArray (now (word .entry)) (valueAt (now (s .entry)) (now (work .entry)) node))) ≡ faultIs r ⌝ }
 {
-    if crate::node::kind_at(work, node) != ARRAY {
+    if members::node::kind_at(work, node) != ARRAY {
         return Fault::Sound;
     }
-    let end = reader::rows::after_at(work, node);
+    let end = strings::rows::after_at(work, node);
     let mut k = node + 1;
     while k < end {
         match under(s, work, k, word) {
             Fault::Sound => {
-                k = reader::rows::after_at(work, k);
+                k = strings::rows::after_at(work, k);
             }
             Fault::Shape => {
                 return Fault::Shape;
@@ -62,12 +62,15 @@ pub fn held(s: &[u8], work: &[u32], name: usize, node: usize) -> Fault
     requires { ⌜ OnText (now s) name 0 × IsNode (now s) (now work) 64 node ⌝ }
     ensures { λ r. ⌜ faultOf (sound (heldBy (find (textAt (now (s .entry)) name) holders) (valueAt (now (s .entry)) (now (work .entry)) node))) ≡ faultIs r ⌝ }
 {
-    let Found::At(n) = crate::word::which(s, name, b"condition,preconditions,invariants,outcomes,")
-    else {
+    let Found::At(n) = members::word::which(
+        s,
+        name,
+        b"condition,preconditions,invariants,outcomes,",
+    ) else {
         return Fault::Sound;
     };
     match n {
-        0 => crate::condition::condition(s, work, node, 64),
+        0 => syntax::condition::condition(s, work, node, 64),
         1 => under_each(s, work, node, b"assert"),
         2 => under_each(s, work, node, b"assert"),
         _ => under_each(s, work, node, b"when"),
@@ -81,9 +84,9 @@ pub fn first_fault(s: &[u8], work: &[u32], from: usize, end: usize) -> Fault
 {
     let mut k = from;
     while k < end {
-        match held(s, work, reader::rows::start_at(work, k), k + 1) {
+        match held(s, work, strings::rows::start_at(work, k), k + 1) {
             Fault::Sound => {
-                k = reader::rows::after_at(work, k + 1);
+                k = strings::rows::after_at(work, k + 1);
             }
             Fault::Shape => {
                 return Fault::Shape;

@@ -1,11 +1,11 @@
 -- `reader::read` meets its contract: each refusal and the table as the whole sheet's laws say.
 -- Assumes nothing.
 use Rattle.reader.proofs.Whole.{refused-is, spanned-bytes, spanned-long, spanned-more, spanned-refused, still-laid, told-refused, told-table, too-small}
-use Rattle.reader.proofs.Values.{read-places}
-use Rattle.reader.proofs.MemberName.{skip-past}
+use Rattle.leaves.proofs.Values.{read-places}
+use Rattle.leaves.proofs.MemberName.{skip-past}
 use Rattle.reader.proofs.ArrayLoop.{was-bad, was-done}
-use Rattle.reader.specs.declared.answer.Refusal.the-variants as whys
-use Rattle.reader.specs.Limits.{maxDepth}
+use Rattle.strings.specs.declared.answer.Refusal.the-variants as whys
+use Rattle.json.specs.Limits.{maxDepth}
 use borrow.Author.Tests.{not-false, not-true}
 use mathlib.Core.Path.{refl, sym, _∙_}
 use native.Mathlib.Omega.{arith}

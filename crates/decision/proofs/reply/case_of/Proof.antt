@@ -1,7 +1,7 @@
 -- `decision::reply::case_of` meets its contract: case by case.
 -- Assumes nothing.
 use native.Mathlib.Omega.{arith}
-use Rattle.sheet.proofs.Operators.{past}
+use Rattle.members.proofs.Operators.{past}
 use Rattle.decision.proofs.Replies.{last-case, with-line, without-line}
 use Rattle.decision.proofs.reply.case_of.Statement.{statement}
 use Rattle.decision.proofs.reply.case_of.Tie as tie

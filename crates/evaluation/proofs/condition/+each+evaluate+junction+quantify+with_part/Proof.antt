@@ -20,35 +20,35 @@ use Rattle.evaluation.proofs.condition.+each+evaluate+junction+quantify
 use Rattle.evaluation.proofs.condition.with_part.Reads as with-part
 use Rattle.evaluation.proofs.condition.with_part.Kinds as with-part-kinds
 use Rattle.evaluation.proofs.condition.+each+evaluate+junction+quantify+with_part.Lts-with_part as with-part-lts
-use Rattle.evaluation.proofs.comparison.exists_at.Reads as exists-at-reads
-use Rattle.evaluation.proofs.comparison.pair_at.Reads as pair-at-reads
+use Rattle.comparison.proofs.comparison.exists_at.Reads as exists-at-reads
+use Rattle.comparison.proofs.comparison.pair_at.Reads as pair-at-reads
 use Rattle.evaluation.proofs.condition.join.Reads as join-reads
 use Rattle.evaluation.proofs.condition.negated.Reads as negated-reads
 use Rattle.evaluation.proofs.condition.quantifier_at.Reads as quantifier-at-reads
 use Rattle.evaluation.proofs.condition.settles.Reads as settles-reads
 use Rattle.evaluation.proofs.condition.start.Reads as start-reads
-use Rattle.operands.proofs.children.Children.next.Reads as next-reads
-use Rattle.operands.proofs.children.Children.of.Reads as of-reads
-use Rattle.operands.proofs.frames.Frames.push.Reads as push-reads
-use Rattle.operands.proofs.layer.class_of.Reads as class-of-reads
-use Rattle.operands.proofs.layer.part_of.Reads as part-of-reads
-use Rattle.operands.proofs.layer.value_node.Reads as value-node-reads
-use Rattle.operands.proofs.resolve.resolve.Reads as resolve-reads
-use Rattle.operands.proofs.rows.after_at.Reads as after-at-reads
-use Rattle.operands.proofs.rows.kind_at.Reads as kind-at-reads
-use Rattle.operands.proofs.rows.start_at.Reads as start-at-reads
-use Rattle.sheet.proofs.condition.operator_at.Reads as operator-at-reads
+use Rattle.paths.proofs.children.Children.next.Reads as next-reads
+use Rattle.paths.proofs.children.Children.of.Reads as of-reads
+use Rattle.paths.proofs.frames.Frames.push.Reads as push-reads
+use Rattle.resolving.proofs.layer.class_of.Reads as class-of-reads
+use Rattle.resolving.proofs.layer.part_of.Reads as part-of-reads
+use Rattle.resolving.proofs.layer.value_node.Reads as value-node-reads
+use Rattle.resolving.proofs.resolve.resolve.Reads as resolve-reads
+use Rattle.paths.proofs.rows.after_at.Reads as after-at-reads
+use Rattle.paths.proofs.rows.kind_at.Reads as kind-at-reads
+use Rattle.paths.proofs.rows.start_at.Reads as start-at-reads
+use Rattle.syntax.proofs.condition.operator_at.Reads as operator-at-reads
 use Rattle.evaluation.proofs.condition.+each+evaluate+junction+quantify+with_part.{statement}
 use Rattle.evaluation.proofs.condition.+each+evaluate+junction+quantify+with_part.Tie.{close}
 use lib.Dec.{eqb}
 use Rattle.sheet.proofs.GivenConditions.{given-carried, given-known}
-use Rattle.sheet.specs.Answers.{modeOf}
-use Rattle.operands.proofs.Alike.{begin-room}
-use Rattle.operands.proofs.Marking.{ready-after}
-use Rattle.operands.proofs.Slices.{node-room}
-use Rattle.operands.proofs.Trees.{text-row}
-use Rattle.operands.specs.Rooted.{sheetIn}
-use Rattle.operands.specs.Stored.{framesOf, table}
+use Rattle.members.specs.Answers.{modeOf}
+use Rattle.resolving.proofs.Alike.{begin-room}
+use Rattle.resolving.proofs.Marking.{ready-after}
+use Rattle.resolving.proofs.Slices.{node-room}
+use Rattle.paths.proofs.Trees.{text-row}
+use Rattle.members.specs.Sheet.{sheetIn}
+use Rattle.paths.specs.Stored.{framesOf, table}
 use Rattle.evaluation.proofs.Junctions.{Collecting, a-junction, a-negation, a-pair, child, child-below, child-falls, child-shallow, collect-begin, collect-end, collect-less, collect-long, collect-no-id, collect-on, collect-one, collect-unknown, element-falls, inner-falls, inner-node, inner-shallow, judged-exists, judged-false, judged-junction, judged-negation, judged-pair, judged-quantifier, judged-true, known-quantifier, operands-shallow, the-member}
 use Rattle.evaluation.proofs.Quantifiers.{Turning, body-known, body-shallow, body-under, each-falls, each-holds, each-unknown, over-fits, part-falls, part-small, pushed, quantify-each, quantify-falls, quantify-long, quantify-missing, quantify-no-id, quantify-unknown, turn-begin, turn-below, turn-end, turn-given, turn-gives, turn-long, turn-no-id, turn-node, turn-on, turn-settled, turn-unknown}
 

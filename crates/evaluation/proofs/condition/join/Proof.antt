@@ -1,7 +1,7 @@
 -- `evaluation::condition::join` meets its contract: by the mode.
 -- Assumes nothing.
 use borrow.Author.Needs.{needs}
-use Rattle.sheet.specs.Answers.{modeOf}
+use Rattle.members.specs.Answers.{modeOf}
 use Rattle.evaluation.proofs.condition.join.Statement.{statement}
 use Rattle.evaluation.proofs.condition.join.Tie as tie
 

@@ -1,7 +1,7 @@
 -- `evaluation::condition::settles` meets its contract: by the mode and the truth.
 -- Assumes nothing.
 use borrow.Author.Needs.{needs}
-use Rattle.sheet.specs.Answers.{modeOf}
+use Rattle.members.specs.Answers.{modeOf}
 use Rattle.evaluation.proofs.condition.settles.Statement.{statement}
 use Rattle.evaluation.proofs.condition.settles.Tie as tie
 

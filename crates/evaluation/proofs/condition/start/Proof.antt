@@ -1,7 +1,7 @@
 -- `evaluation::condition::start` meets its contract: by the mode.
 -- Assumes nothing.
 use borrow.Author.Needs.{needs}
-use Rattle.sheet.specs.Answers.{modeOf}
+use Rattle.members.specs.Answers.{modeOf}
 use Rattle.evaluation.proofs.condition.start.Statement.{statement}
 use Rattle.evaluation.proofs.condition.start.Tie as tie
 

@@ -3,7 +3,7 @@
 use mathlib.Core.Path.{ap, refl, _∙_}
 use lib.ListN.{length, length-set}
 use Rattle.line.proofs.Answers.{emitted-23, emitted-line, emitted-none}
-use Rattle.line.proofs.Laying.{measured, same-size, too-long, written}
+use Rattle.writer.proofs.Laying.{measured, same-size, too-long, written}
 use native.Mathlib.Omega.{arith}
 use borrow.Author.Needs.{needs}
 use Rattle.line.proofs.emit.emit.Statement.{statement}

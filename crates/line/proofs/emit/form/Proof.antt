@@ -1,10 +1,10 @@
 -- `line::emit::form` meets its contract: by the case of the answer.
 -- Assumes nothing.
 use Rattle.line.proofs.Answers.{formed, held}
-use Rattle.line.proofs.Laying.{nothing}
-use Rattle.line.specs.Line.{refusalForm, verdictForm}
-use Rattle.line.specs.Meaning.{Held, meaning}
-use Rattle.line.specs.Reply.{formOf}
+use Rattle.writer.proofs.Laying.{nothing}
+use Rattle.answers.specs.Line.{refusalForm, verdictForm}
+use Rattle.writer.specs.Meaning.{Held, meaning}
+use Rattle.answers.specs.Reply.{formOf}
 use borrow.Author.Needs.{needs}
 use Rattle.line.proofs.emit.form.Statement.{statement}
 use Rattle.line.proofs.emit.form.Tie as tie

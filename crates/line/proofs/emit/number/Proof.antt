@@ -2,9 +2,9 @@
 -- Assumes nothing.
 use mathlib.Core.Path.{refl}
 use Rattle.line.proofs.Answers.{numbered}
-use Rattle.line.specs.Line.{refusalNumber}
-use Rattle.line.specs.Meaning.{meaning}
-use Rattle.line.specs.Reply.{numberOf}
+use Rattle.answers.specs.Line.{refusalNumber}
+use Rattle.writer.specs.Meaning.{meaning}
+use Rattle.answers.specs.Reply.{numberOf}
 use borrow.Author.Needs.{needs}
 use Rattle.line.proofs.emit.number.Statement.{statement}
 use Rattle.line.proofs.emit.number.Tie as tie

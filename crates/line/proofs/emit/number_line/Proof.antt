@@ -3,10 +3,10 @@
 use mathlib.Core.List.{[], append-assoc, _∷_}
 use mathlib.Core.Path.{sym}
 use native.Mathlib.Omega.{arith}
-use Rattle.line.proofs.Laying.{shown, then, told}
+use Rattle.writer.proofs.Laying.{shown, then, told}
 use Rattle.line.proofs.Lengths.{number-short}
-use Rattle.line.specs.Line.{decimalDigits, opened}
-use Rattle.reader.specs.Bytes.{ascii}
+use Rattle.answers.specs.Line.{decimalDigits, opened}
+use Rattle.json.specs.Bytes.{ascii}
 use borrow.Author.Needs.{needs}
 use Rattle.line.proofs.emit.number_line.Statement.{statement}
 use Rattle.line.proofs.emit.number_line.Tie as tie

@@ -4,7 +4,7 @@ use borrow.Author.Needs.{needs}
 use mathlib.Core.Path.{refl, sym, _∙_}
 use Prim.Native.Nat.{_-_}
 use native.Mathlib.Omega.{arith}
-use Rattle.reader.proofs.Cursor.{order-less, order-long, order-more, order-none, order-short}
+use Rattle.json.proofs.Cursor.{order-less, order-long, order-more, order-none, order-short}
 use Rattle.number.proofs.Steps.{Comparing, compare-on, was-byte, was-end}
 use Rattle.number.proofs.text.digits.Statement.{statement}
 use Rattle.number.proofs.text.digits.Tie as tie

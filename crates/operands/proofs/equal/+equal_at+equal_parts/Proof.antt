@@ -9,24 +9,24 @@ use Rattle.operands.proofs.equal.+equal_at+equal_parts.Lts-equal_at as 
 use Rattle.operands.proofs.equal.equal_parts.Reads as equal-parts
 use Rattle.operands.proofs.equal.equal_parts.Kinds as equal-parts-kinds
 use Rattle.operands.proofs.equal.+equal_at+equal_parts.Lts-equal_parts as equal-parts-lts
-use Rattle.operands.proofs.children.Children.next.Reads as next-reads
-use Rattle.operands.proofs.children.Children.of.Reads as of-reads
-use Rattle.operands.proofs.layer.class_of.Reads as class-of-reads
-use Rattle.operands.proofs.layer.names_agree.Reads as names-agree-reads
-use Rattle.operands.proofs.layer.part_of.Reads as part-of-reads
-use Rattle.operands.proofs.layer.same_leaf.Reads as same-leaf-reads
-use Rattle.operands.proofs.layer.value_node.Reads as value-node-reads
+use Rattle.paths.proofs.children.Children.next.Reads as next-reads
+use Rattle.paths.proofs.children.Children.of.Reads as of-reads
+use Rattle.resolving.proofs.layer.class_of.Reads as class-of-reads
+use Rattle.resolving.proofs.layer.names_agree.Reads as names-agree-reads
+use Rattle.resolving.proofs.layer.part_of.Reads as part-of-reads
+use Rattle.resolving.proofs.layer.same_leaf.Reads as same-leaf-reads
+use Rattle.resolving.proofs.layer.value_node.Reads as value-node-reads
 use Rattle.operands.proofs.equal.+equal_at+equal_parts.{statement}
 use Rattle.operands.proofs.equal.+equal_at+equal_parts.Tie.{close}
 use mathlib.Core.Path.{sym, _∙_}
 use Prim.Native.Nat.{ℕ, _<_, _+_, _*_, _-_}
-use Rattle.operands.specs.Comparing.{alike}
-use Rattle.operands.specs.Layered.{alikeNodes, kids, partAt}
-use Rattle.operands.specs.Rooted.{sheetIn}
-use Rattle.operands.specs.Stored.{framesOf, table}
-use Rattle.operands.proofs.Alike.{Comparing, begin-room, both-end, compare-begins, equal-apart, equal-leaves, equal-none, equal-paired, equal-whole, first-child, first-ends, names-differ, parts-differ, parts-same, second-child, second-ends, value-there}
-use Rattle.operands.proofs.Ordered.{child-end, child-given}
-use Rattle.operands.proofs.Slices.{layer-falls, one-less, part-falls}
+use Rattle.paths.specs.Comparing.{alike}
+use Rattle.paths.specs.Layered.{alikeNodes, kids, partAt}
+use Rattle.members.specs.Sheet.{sheetIn}
+use Rattle.paths.specs.Stored.{framesOf, table}
+use Rattle.resolving.proofs.Alike.{Comparing, begin-room, both-end, compare-begins, equal-apart, equal-leaves, equal-none, equal-paired, equal-whole, first-child, first-ends, names-differ, parts-differ, parts-same, second-child, second-ends, value-there}
+use Rattle.paths.proofs.Ordered.{child-end, child-given}
+use Rattle.resolving.proofs.Slices.{layer-falls, one-less, part-falls}
 use borrow.Author.Needs.{needs}
 use native.Mathlib.Omega.{arith}
 

@@ -3,13 +3,13 @@
 use Rattle.operands.proofs.holds.has_key.Statement.{statement}
 use Rattle.operands.proofs.holds.has_key.Tie as tie
 use mathlib.Core.Bool.{true}
-use Rattle.reader.specs.Bytes.{isOneOf}
-use Rattle.reader.specs.Spans.{textAt}
-use Rattle.operands.specs.Layered.{kids}
-use Rattle.operands.specs.Matched.{namesOf}
-use Rattle.operands.specs.Stored.{table}
-use Rattle.operands.proofs.Alike.{begin-room}
-use Rattle.operands.proofs.Ordered.{child-end, child-given, name-room, on-name}
+use Rattle.json.specs.Bytes.{isOneOf}
+use Rattle.json.specs.Spans.{textAt}
+use Rattle.paths.specs.Layered.{kids}
+use Rattle.paths.specs.Matched.{namesOf}
+use Rattle.paths.specs.Stored.{table}
+use Rattle.resolving.proofs.Alike.{begin-room}
+use Rattle.paths.proofs.Ordered.{child-end, child-given, name-room, on-name}
 use Rattle.operands.proofs.Pairs.{Looking, child-named, key-here, key-none, key-on, look-begins, looked-all, looked-at, looked-here, looked-on}
 use borrow.Author.Needs.{needs}
 

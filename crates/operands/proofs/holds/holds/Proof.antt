@@ -4,11 +4,11 @@ use borrow.Author.Needs.{needs}
 use Rattle.operands.proofs.holds.holds.Statement.{statement}
 use Rattle.operands.proofs.holds.holds.Tie as tie
 use mathlib.Core.Path.{ap, sym, _∙_}
-use Rattle.sheet.specs.Answers.{formOf}
-use Rattle.operands.specs.Comparing.{nesting}
-use Rattle.operands.specs.Rooted.{sheetIn}
-use Rattle.operands.specs.Stored.{framesOf, table}
-use Rattle.operands.proofs.Slices.{frames-length}
+use Rattle.members.specs.Answers.{formOf}
+use Rattle.paths.specs.Comparing.{nesting}
+use Rattle.members.specs.Sheet.{sheetIn}
+use Rattle.paths.specs.Stored.{framesOf, table}
+use Rattle.resolving.proofs.Slices.{frames-length}
 use Rattle.operands.proofs.Pairs.{form-ends, form-eq, form-gt, form-gte, form-lt, form-lte, form-ne, form-starts}
 use native.Mathlib.Omega.{arith}
 

@@ -3,13 +3,13 @@
 use Rattle.operands.proofs.holds.is_element.Statement.{statement}
 use Rattle.operands.proofs.holds.is_element.Tie as tie
 use mathlib.Core.Bool.{false}
-use Rattle.operands.specs.Comparing.{alike}
-use Rattle.operands.specs.Layered.{eachNode, kids, partAt}
-use Rattle.operands.specs.Rooted.{sheetIn}
-use Rattle.operands.specs.Shape.{oneAlike}
-use Rattle.operands.specs.Stored.{framesOf, operandOf, table}
-use Rattle.operands.proofs.Alike.{begin-room}
-use Rattle.operands.proofs.Ordered.{child-end, child-given}
+use Rattle.paths.specs.Comparing.{alike}
+use Rattle.paths.specs.Layered.{eachNode, kids, partAt}
+use Rattle.members.specs.Sheet.{sheetIn}
+use Rattle.paths.specs.Shape.{oneAlike}
+use Rattle.paths.specs.Stored.{framesOf, operandOf, table}
+use Rattle.resolving.proofs.Alike.{begin-room}
+use Rattle.paths.proofs.Ordered.{child-end, child-given}
 use Rattle.operands.proofs.Pairs.{Looking, child-node, element-here, element-none, element-on, look-begins, looked-all, looked-at, looked-here, looked-on}
 use borrow.Author.Needs.{needs}
 use native.Mathlib.Omega.{arith}

@@ -4,11 +4,11 @@ use borrow.Author.Needs.{needs}
 use Rattle.operands.proofs.holds.is_in.Statement.{statement}
 use Rattle.operands.proofs.holds.is_in.Tie as tie
 use mathlib.Core.Path.{ap, sym, _∙_}
-use Rattle.operands.specs.Comparing.{nesting}
-use Rattle.operands.specs.Rooted.{sheetIn}
-use Rattle.operands.specs.Stored.{framesOf, table}
-use Rattle.operands.proofs.Slices.{frames-length}
-use Rattle.operands.proofs.Layered.{array-kind}
+use Rattle.paths.specs.Comparing.{nesting}
+use Rattle.members.specs.Sheet.{sheetIn}
+use Rattle.paths.specs.Stored.{framesOf, table}
+use Rattle.resolving.proofs.Slices.{frames-length}
+use Rattle.resolving.proofs.Layered.{array-kind}
 use Rattle.operands.proofs.Pairs.{in-none, in-some}
 
 class-of-requires : tie.Need-class-of-requires

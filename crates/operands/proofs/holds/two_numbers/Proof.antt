@@ -6,9 +6,9 @@ use Rattle.operands.proofs.holds.two_numbers.Tie as tie
 use mathlib.Core.Path.{ap, sym, subst, _∙_}
 use mathlib.Core.Bool.{Bool}
 use Rattle.number.specs.Compared.{orderOf}
-use Rattle.operands.specs.Matched.{NumbersTold, inOrder}
-use Rattle.operands.specs.Stored.{table}
-use Rattle.operands.proofs.Layered.{number-kind}
+use Rattle.paths.specs.Matched.{NumbersTold, inOrder}
+use Rattle.paths.specs.Stored.{table}
+use Rattle.resolving.proofs.Layered.{number-kind}
 use Rattle.operands.proofs.Pairs.{first-no-number, in-order, second-no-number}
 
 class-of-requires : tie.Need-class-of-requires

@@ -4,7 +4,7 @@ use borrow.Author.Needs.{needs}
 use Rattle.operands.proofs.holds.two_texts.Statement.{statement}
 use Rattle.operands.proofs.holds.two_texts.Tie as tie
 use mathlib.Core.Path.{sym, _∙_}
-use Rattle.operands.specs.Stored.{table}
+use Rattle.paths.specs.Stored.{table}
 use Rattle.operands.proofs.Pairs.{first-no-text, second-no-text, texts-found}
 
 class-of-requires : tie.Need-class-of-requires

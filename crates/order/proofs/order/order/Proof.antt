@@ -4,7 +4,7 @@ use borrow.Author.Needs.{needs}
 use mathlib.Core.Path.{_≡_}
 use native.Mathlib.Omega.{arith}
 use lib.ListN.{length}
-use Rattle.reader.proofs.Walk.{after-node}
+use Rattle.json.proofs.Walk.{after-node}
 use Rattle.order.proofs.Ordering.{cleared-count, cleared-table, ordered}
 use Rattle.order.proofs.order.order.Statement.{statement}
 use Rattle.order.proofs.order.order.Tie as tie

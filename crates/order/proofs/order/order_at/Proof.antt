@@ -7,8 +7,8 @@ use Prim.Native.Nat.{ℕ, _+_}
 use native.Mathlib.Omega.{arith}
 use lib.ListN.{length}
 use lib.Seq.{length-take-le}
-use Rattle.reader.specs.Held.{HasMembers}
-use Rattle.reader.specs.KeyOrder.{namesAt, nodesOf}
+use Rattle.json.specs.Held.{HasMembers}
+use Rattle.json.specs.KeyOrder.{namesAt, nodesOf}
 use Rattle.order.proofs.Linking.{members-within, names-text}
 use Rattle.order.proofs.Names.{names-few}
 use Rattle.order.specs.ByText.{TextNodes, byKey, keyAt}

@@ -6,7 +6,7 @@ use Prim.Native.Nat.{ℕ, _-_, _<_, _≤_}
 use native.Mathlib.Omega.{arith}
 use lib.ListN.{length}
 use Rattle.order.proofs.Ordering.{row-within, its-members, linked-none, linked-one, passed}
-use Rattle.reader.specs.Table.{afterAt}
+use Rattle.json.specs.Table.{afterAt}
 use Rattle.order.specs.Ordered.{LinkedUpto}
 use Rattle.order.proofs.order.order_rows.Statement.{statement}
 use Rattle.order.proofs.order.order_rows.Tie as tie

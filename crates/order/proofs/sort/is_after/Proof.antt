@@ -4,10 +4,10 @@ use mathlib.Core.List.{List}
 use mathlib.Core.Path.{ap, _∙_, _≡_}
 use Prim.Native.Nat.{Ordering, ℕ}
 use Rattle.order.specs.ByText.{isAfter, isMore, keyAt}
-use Rattle.reader.specs.Answers.{orderOf}
-use Rattle.reader.specs.Bytes.{Bytes, orderBytes}
-use Rattle.reader.specs.Spans.{textAt}
-use Rattle.reader.specs.Table.{startAt}
+use Rattle.strings.specs.Answers.{orderOf}
+use Rattle.json.specs.Bytes.{Bytes, orderBytes}
+use Rattle.json.specs.Spans.{textAt}
+use Rattle.json.specs.Table.{startAt}
 use borrow.Author.Needs.{needs}
 use Rattle.order.proofs.sort.is_after.Statement.{statement}
 use Rattle.order.proofs.sort.is_after.Tie as tie

@@ -6,14 +6,14 @@ use native.Mathlib.Omega.{arith}
 use mathlib.Core.Bool.{Bool, false, true}
 use mathlib.Core.List.{List}
 use lib.ListN.{getD}
-use Rattle.reader.specs.Placing.{readAt}
-use Rattle.reader.specs.declared.answer.Refusal.the-variants as whys
-use Rattle.reader.specs.declared.bracket.Sep.the-variants as seps
+use Rattle.json.specs.Placing.{readAt}
+use Rattle.strings.specs.declared.answer.Refusal.the-variants as whys
+use Rattle.leaves.specs.declared.bracket.Sep.the-variants as seps
 use Rattle.reader.proofs.ArrayLoop.{ArrayTurn, array-end, array-here, array-laid, array-long, array-neither, array-on, array-past, array-refused, array-starts, array-turn, reach, reach-falls, was-bad, was-done}
-use Rattle.reader.proofs.Loops.{array-full, object-full}
-use Rattle.reader.proofs.MemberName.{byte-inside}
+use Rattle.leaves.proofs.Loops.{array-full, object-full}
+use Rattle.leaves.proofs.MemberName.{byte-inside}
 use Rattle.reader.proofs.ObjectLoop.{ObjectTurn, name-was-bad, name-was, object-end, object-here, object-laid, object-long, object-members, object-name-bad, object-neither, object-noted, object-on, object-past, object-starts, object-turn, object-value-bad, object-value-here, object-value-long}
-use Rattle.reader.proofs.Values.{told-bad, value-array, value-leaf, value-object}
+use Rattle.leaves.proofs.Values.{told-bad, value-array, value-leaf, value-object}
 use Prim.Native.Nat.{ℕ, _*_, _+_, _-_, _<_}
 use borrow.Fn.Kinds.{In}
 use borrow.Fn.PlainCycle.{Measures, is, falls, and}
@@ -26,12 +26,12 @@ use Rattle.reader.proofs.tree.+array+object+value.Lts-object as object-
 use Rattle.reader.proofs.tree.value.Reads as value
 use Rattle.reader.proofs.tree.value.Kinds as value-kinds
 use Rattle.reader.proofs.tree.+array+object+value.Lts-value as value-lts
-use Rattle.reader.proofs.names.name.Reads as name-reads
-use Rattle.reader.proofs.scan.byte_at.Reads as byte-at-reads
-use Rattle.reader.proofs.bracket.following.Reads as following-reads
-use Rattle.reader.proofs.leaf.lay.Reads as lay-reads
-use Rattle.reader.proofs.leaf.leaf.Reads as leaf-reads
-use Rattle.reader.proofs.bracket.opening.Reads as opening-reads
+use Rattle.leaves.proofs.names.name.Reads as name-reads
+use Rattle.tokens.proofs.scan.byte_at.Reads as byte-at-reads
+use Rattle.leaves.proofs.bracket.following.Reads as following-reads
+use Rattle.leaves.proofs.leaf.lay.Reads as lay-reads
+use Rattle.leaves.proofs.leaf.leaf.Reads as leaf-reads
+use Rattle.leaves.proofs.bracket.opening.Reads as opening-reads
 use Rattle.reader.proofs.tree.+array+object+value.{statement}
 use Rattle.reader.proofs.tree.+array+object+value.Tie.{close}
 

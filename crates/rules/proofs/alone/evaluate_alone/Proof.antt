@@ -1,4 +1,4 @@
--- `rules::alone::evaluate_alone` meets its contract: over cleared marks, what is marked then are the names met.
+-- `calls::alone::evaluate_alone` meets its contract: over cleared marks, what is marked then are the names met.
 -- Assumes nothing.
 use native.Mathlib.Omega.{arith}
 use Rattle.evaluation.proofs.After.{accepted-rows, gives-rows}

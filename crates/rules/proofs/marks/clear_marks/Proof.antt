@@ -1,4 +1,4 @@
--- `rules::marks::clear_marks` meets its contract: the loop says that no word passed is marked and that all else stays.
+-- `calls::marks::clear_marks` meets its contract: the loop says that no word passed is marked and that all else stays.
 -- Assumes nothing.
 use mathlib.Core.Path.{subst, _≡_}
 use Prim.Native.Nat.{_-_, _≤_}

@@ -1,8 +1,8 @@
--- `rules::rules::check` meets its contract: the loop says that the rules from its node on settle the whole.
+-- `calls::rules::check` meets its contract: the loop says that the rules from its node on settle the whole.
 -- Assumes nothing.
 use Prim.Native.Nat.{_-_}
 use native.Mathlib.Omega.{arith}
-use Rattle.sheet.proofs.Walks.{room}
+use Rattle.members.proofs.Walks.{room}
 use Rattle.rules.proofs.Checking.{Checking, all-hold, checking, rule-after, rule-behind, rule-next, rule-room, rule-settles}
 use Rattle.rules.proofs.Walking.{element-room, falls}
 use borrow.Author.Needs.{needs}

@@ -1,4 +1,4 @@
--- `rules::rules::entry` meets its contract: from its two texts.
+-- `calls::rules::entry` meets its contract: from its two texts.
 -- Assumes nothing.
 use mathlib.Core.Path.{refl}
 use Rattle.rules.proofs.rules.entry.Statement.{statement}

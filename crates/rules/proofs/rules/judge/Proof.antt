@@ -1,8 +1,8 @@
--- `rules::rules::judge` meets its contract: by what its condition gives alone.
+-- `calls::rules::judge` meets its contract: by what its condition gives alone.
 -- Assumes nothing.
 use mathlib.Core.Path.{ap, _∙_}
-use Rattle.evaluation.specs.declared.comparison.Outcome.the-variants as outcomes
-use Rattle.sheet.proofs.Walks.{room}
+use Rattle.comparison.specs.declared.comparison.Outcome.the-variants as outcomes
+use Rattle.members.proofs.Walks.{room}
 use Rattle.rules.proofs.Settling.{expression-room, rule-false, rule-here, rule-holds, rule-known, rule-members, rule-refused, rule-unknown, told-no-id, told-unknown}
 use Rattle.rules.proofs.Starting.{given-node, members-behind}
 use borrow.Author.Needs.{needs}

@@ -1,6 +1,6 @@
--- `rules::rules::text_of` meets its contract: by whether the member was found.
+-- `calls::rules::text_of` meets its contract: by whether the member was found.
 -- Assumes nothing.
-use Rattle.sheet.specs.Kinds.{aText}
+use Rattle.members.specs.Kinds.{aText}
 use Rattle.rules.proofs.Eligibility.{there-room}
 use Rattle.rules.proofs.Settling.{its-text, no-text}
 use borrow.Author.Needs.{needs}

@@ -1,8 +1,8 @@
 -- `sheet::outcome::allows_effect` meets its contract: from what `is_effect` says of the node.
 -- Assumes nothing.
-use Rattle.sheet.proofs.Wanted.{allows-found, allows-nothing, found-node}
-use Rattle.sheet.specs.Outcome.{anEffect}
-use Rattle.sheet.specs.Verdicts.{isOk}
+use Rattle.members.proofs.Wanted.{allows-found, allows-nothing, found-node}
+use Rattle.members.specs.Outcome.{anEffect}
+use Rattle.members.specs.Verdicts.{isOk}
 use borrow.Author.Needs.{needs}
 use Rattle.sheet.proofs.outcome.allows_effect.Statement.{statement}
 use Rattle.sheet.proofs.outcome.allows_effect.Tie as tie

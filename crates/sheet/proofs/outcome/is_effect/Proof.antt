@@ -3,9 +3,9 @@
 use mathlib.Core.Path.{sym, _∙_}
 use borrow.Author.Tests.{not-false, not-true}
 use Rattle.sheet.proofs.Rules.{a-word, effect-further, effect-moves, effect-nowhere, no-word, not-effect, object-members, on-text}
-use Rattle.sheet.proofs.Walks.{room}
-use Rattle.sheet.proofs.Wanted.{found-node}
-use Rattle.sheet.specs.Words.{wordsFrom}
+use Rattle.members.proofs.Walks.{room}
+use Rattle.members.proofs.Wanted.{found-node}
+use Rattle.members.specs.Words.{wordsFrom}
 use borrow.Author.Needs.{needs}
 use Rattle.sheet.proofs.outcome.is_effect.Statement.{statement}
 use Rattle.sheet.proofs.outcome.is_effect.Tie as tie

@@ -1,8 +1,8 @@
 -- `sheet::rule::is_rule` meets its contract: its names are known and each member is what it must be.
 -- Assumes nothing.
 use Rattle.sheet.proofs.Rules.{is-rule, not-rule, object-members}
-use Rattle.sheet.proofs.Walks.{room}
-use Rattle.sheet.specs.Words.{wordsFrom}
+use Rattle.members.proofs.Walks.{room}
+use Rattle.members.specs.Words.{wordsFrom}
 use borrow.Author.Needs.{needs}
 use Rattle.sheet.proofs.rule.is_rule.Statement.{statement}
 use Rattle.sheet.proofs.rule.is_rule.Tie as tie

@@ -2,12 +2,12 @@
 -- Assumes nothing.
 use mathlib.Core.Path.{ap, _∙_}
 use borrow.Author.Tests.{not-false, not-true}
-use Rattle.reader.specs.Refusal.{notCarried, wrongShape}
+use Rattle.json.specs.Refusal.{notCarried, wrongShape}
 use Rattle.sheet.proofs.Accepted.{accepted-at, shape-fault, shape-is, shape-no-object, shape-wrong}
 use Rattle.sheet.proofs.Rules.{object-members}
-use Rattle.sheet.proofs.Walks.{room}
+use Rattle.members.proofs.Walks.{room}
 use Rattle.sheet.specs.Accepted.{Shaped}
-use Rattle.sheet.specs.Answers.{faultIs}
+use Rattle.members.specs.Answers.{faultIs}
 use borrow.Author.Needs.{needs}
 use Rattle.sheet.proofs.shape.shape_of.Statement.{statement}
 use Rattle.sheet.proofs.shape.shape_of.Tie as tie

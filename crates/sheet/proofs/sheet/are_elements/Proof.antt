@@ -4,11 +4,11 @@ use native.Mathlib.Omega.{arith}
 use mathlib.Core.Path.{refl, sym, _∙_}
 use Prim.Native.Nat.{_-_}
 use borrow.Author.Tests.{not-false, not-true}
-use Rattle.reader.specs.Table.{valuesAt}
-use Rattle.sheet.proofs.Elements.{right-here, wrong-here}
-use Rattle.sheet.proofs.Walks.{OverNodes, element-falls, element-node, no-element, room}
-use Rattle.sheet.specs.Verdicts.{allOf}
-use Rattle.sheet.specs.Wants.{elementOk}
+use Rattle.json.specs.Table.{valuesAt}
+use Rattle.members.proofs.Elements.{right-here, wrong-here}
+use Rattle.members.proofs.Walks.{OverNodes, element-falls, element-node, no-element, room}
+use Rattle.members.specs.Verdicts.{allOf}
+use Rattle.members.specs.Wants.{elementOk}
 use Rattle.sheet.proofs.sheet.are_elements.Statement.{statement}
 use Rattle.sheet.proofs.sheet.are_elements.Tie as tie
 

@@ -1,7 +1,7 @@
 -- `sheet::sheet::are_sheet` meets its contract: its names are known and each member is what it must be.
 -- Assumes nothing.
 use Rattle.sheet.proofs.Sheets.{is-sheet}
-use Rattle.sheet.specs.Words.{wordsFrom}
+use Rattle.members.specs.Words.{wordsFrom}
 use Rattle.sheet.proofs.sheet.are_sheet.Statement.{statement}
 use Rattle.sheet.proofs.sheet.are_sheet.Tie as tie
 

@@ -2,9 +2,9 @@
 -- Assumes nothing.
 use native.Mathlib.Omega.{arith}
 use Rattle.sheet.proofs.Sheets.{is-array, not-array}
-use Rattle.sheet.proofs.Walks.{room}
-use Rattle.sheet.proofs.Wanted.{array-nodes, found-node, needs-found, needs-nothing}
-use Rattle.sheet.specs.Wants.{arrayOk}
+use Rattle.members.proofs.Walks.{room}
+use Rattle.members.proofs.Wanted.{array-nodes, found-node, needs-found, needs-nothing}
+use Rattle.members.specs.Wants.{arrayOk}
 use borrow.Author.Needs.{needs}
 use Rattle.sheet.proofs.sheet.needs_array.Statement.{statement}
 use Rattle.sheet.proofs.sheet.needs_array.Tie as tie

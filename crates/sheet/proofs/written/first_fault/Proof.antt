@@ -4,11 +4,11 @@ use native.Mathlib.Omega.{arith}
 use borrow.Author.Needs.{needs}
 use mathlib.Core.Path.{ap, refl}
 use Prim.Native.Nat.{_-_}
-use Rattle.reader.specs.Refusal.{notCarried, wrongShape}
-use Rattle.reader.specs.Table.{membersAt}
-use Rattle.sheet.proofs.Soundness.{all-sound, held-fault, held-on, soundnessOf}
-use Rattle.sheet.proofs.Walks.{OverMembers, falls, name-room, on-name, value-node, value-room}
-use Rattle.sheet.specs.Answers.{faultIs}
+use Rattle.json.specs.Refusal.{notCarried, wrongShape}
+use Rattle.json.specs.Table.{membersAt}
+use Rattle.members.proofs.Soundness.{all-sound, held-fault, held-on, soundnessOf}
+use Rattle.members.proofs.Walks.{OverMembers, falls, name-room, on-name, value-node, value-room}
+use Rattle.members.specs.Answers.{faultIs}
 use Rattle.sheet.proofs.written.first_fault.Statement.{statement}
 use Rattle.sheet.proofs.written.first_fault.Tie as tie
 

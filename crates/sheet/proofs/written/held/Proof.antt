@@ -1,10 +1,10 @@
 -- `sheet::written::held` meets its contract: by the place of the name among those that hold conditions.
 -- Assumes nothing.
 use native.Mathlib.Omega.{arith}
-use Rattle.sheet.proofs.Operators.{past}
-use Rattle.sheet.proofs.Soundness.{held-1, held-2, held-3, held-itself, held-nothing}
-use Rattle.sheet.specs.Answers.{faultIs}
-use Rattle.sheet.specs.Words.{wordsFrom}
+use Rattle.members.proofs.Operators.{past}
+use Rattle.members.proofs.Soundness.{held-1, held-2, held-3, held-itself, held-nothing}
+use Rattle.members.specs.Answers.{faultIs}
+use Rattle.members.specs.Words.{wordsFrom}
 use borrow.Author.Needs.{needs}
 use Rattle.sheet.proofs.written.held.Statement.{statement}
 use Rattle.sheet.proofs.written.held.Tie as tie

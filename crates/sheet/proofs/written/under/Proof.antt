@@ -1,10 +1,10 @@
 -- `sheet::written::under` meets its contract: from what `condition` says of the member that was found.
 -- Assumes nothing.
 use Rattle.sheet.proofs.Rules.{object-members}
-use Rattle.sheet.proofs.Soundness.{under-found, under-missing, under-none}
-use Rattle.sheet.proofs.Walks.{room}
-use Rattle.sheet.proofs.Wanted.{found-node}
-use Rattle.sheet.specs.Answers.{faultIs}
+use Rattle.members.proofs.Soundness.{under-found, under-missing, under-none}
+use Rattle.members.proofs.Walks.{room}
+use Rattle.members.proofs.Wanted.{found-node}
+use Rattle.members.specs.Answers.{faultIs}
 use borrow.Author.Needs.{needs}
 use Rattle.sheet.proofs.written.under.Statement.{statement}
 use Rattle.sheet.proofs.written.under.Tie as tie

@@ -4,13 +4,13 @@ use native.Mathlib.Omega.{arith}
 use borrow.Author.Needs.{needs}
 use mathlib.Core.Path.{ap}
 use Prim.Native.Nat.{_-_}
-use Rattle.reader.specs.Json.{elements}
-use Rattle.reader.specs.Refusal.{notCarried, wrongShape}
-use Rattle.reader.specs.Table.{valueAt}
-use Rattle.sheet.proofs.Soundness.{each-fault, each-none, each-on, each-sound, over-each, soundness}
-use Rattle.sheet.proofs.Walks.{OverNodes, element-falls, element-node, room}
-use Rattle.sheet.specs.Answers.{faultIs}
-use Rattle.sheet.specs.Sheet.{inArray, memberOfEach}
+use Rattle.json.specs.Json.{elements}
+use Rattle.json.specs.Refusal.{notCarried, wrongShape}
+use Rattle.json.specs.Table.{valueAt}
+use Rattle.members.proofs.Soundness.{each-fault, each-none, each-on, each-sound, over-each, soundness}
+use Rattle.members.proofs.Walks.{OverNodes, element-falls, element-node, room}
+use Rattle.members.specs.Answers.{faultIs}
+use Rattle.members.specs.Sheet.{inArray, memberOfEach}
 use Rattle.sheet.proofs.written.under_each.Statement.{statement}
 use Rattle.sheet.proofs.written.under_each.Tie as tie
 

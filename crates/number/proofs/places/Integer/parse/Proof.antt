@@ -5,7 +5,7 @@ use mathlib.Core.Path.{refl, ap}
 use Prim.Native.Nat.{ℕ, _+_, _-_}
 use native.Mathlib.Omega.{arith}
 use lib.ListN.{drop}
-use Rattle.reader.specs.Bytes.{natural}
+use Rattle.json.specs.Bytes.{natural}
 use Rattle.number.proofs.Columns.{Carrying, Reading, all-carried, all-read, carry-more, none-written, read-on, reading, room}
 use Rattle.number.proofs.places.Integer.parse.Statement.{statement}
 use Rattle.number.proofs.places.Integer.parse.Tie as tie

@@ -8,7 +8,7 @@ use native.Mathlib.Omega.{arith}
 use lib.ListN.{drop, length}
 use mathlib.Core.Bool.{false≢true}
 use lib.ListN.{drop-of-length-le}
-use Rattle.reader.specs.Bytes.{Bytes, natural}
+use Rattle.json.specs.Bytes.{Bytes, natural}
 use Rattle.number.proofs.Columns.{wider}
 use Rattle.number.proofs.Exact.{natural-nil}
 use Rattle.number.specs.Compared.{orderOf}

@@ -1,0 +1,11 @@
+pub mod Samples
+pub mod LaterRules
+pub mod Guards
+pub mod Repeat
+pub mod Selected
+pub mod Examples
+pub mod Limits
+pub mod Sentences
+pub mod AlikeRules
+pub mod Witness
+pub mod AlikeReadings

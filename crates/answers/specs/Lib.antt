@@ -1,0 +1,12 @@
+pub mod Verdict
+pub mod Line
+pub mod Reply
+pub mod Rules
+pub mod Outcomes
+pub mod Admission
+pub mod Decide
+pub mod Selection
+pub mod Entry
+pub mod Demand
+pub mod AlikeRules
+pub mod Ended

@@ -1,0 +1,1 @@
+// answers: split from decision.

@@ -1,0 +1,4 @@
+pub mod Calls
+pub mod Evaluating
+pub mod Trying
+pub mod Deciding

@@ -1,0 +1,4 @@
+pub mod Judge
+pub mod Samples
+pub mod Judging
+pub mod Joined

@@ -1,0 +1,2 @@
+// comparison: split from evaluation.
+pub mod comparison;

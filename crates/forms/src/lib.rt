@@ -1,0 +1,2 @@
+// forms: split from line.
+pub mod form;

@@ -1,0 +1,1 @@
+// json: split from reader.

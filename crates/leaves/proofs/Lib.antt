@@ -1,0 +1,4 @@
+pub mod Loops
+pub mod Marks
+pub mod MemberName
+pub mod Values

@@ -1,0 +1,13 @@
+pub mod Conditions
+pub mod Digits
+pub mod Elements
+pub mod Examples
+pub mod Names
+pub mod Nine
+pub mod Operators
+pub mod Shapes
+pub mod Verdicts
+pub mod Walks
+pub mod Wanted
+pub mod Words
+pub mod Soundness

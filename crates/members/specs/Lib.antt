@@ -1,0 +1,10 @@
+pub mod Answers
+pub mod Condition
+pub mod Faults
+pub mod Kinds
+pub mod Outcome
+pub mod Rule
+pub mod Sheet
+pub mod Verdicts
+pub mod Wants
+pub mod Words

@@ -1,0 +1,3 @@
+// opening: split from decision.
+pub mod open;
+pub mod work;

@@ -1,0 +1,12 @@
+pub mod Stands
+pub mod Nesting
+pub mod Units
+pub mod Matching
+pub mod Stack
+pub mod Words
+pub mod Ordered
+pub mod Trees
+pub mod Unbound
+pub mod Lookup
+pub mod Reaching
+pub mod Searching

@@ -1,0 +1,14 @@
+pub mod Lazy
+pub mod Shape
+pub mod Comparing
+pub mod Path
+pub mod Told
+pub mod Stack
+pub mod Stored
+pub mod Children
+pub mod Reached
+pub mod Rooted
+pub mod Ready
+pub mod Layered
+pub mod Matched
+pub mod Marks

@@ -1,0 +1,4 @@
+// resolving: split from operands.
+pub mod layer;
+pub mod reach;
+pub mod resolve;

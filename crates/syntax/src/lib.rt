@@ -1,0 +1,2 @@
+// syntax: split from sheet.
+pub mod condition;

@@ -1,0 +1,48 @@
+-- `reader::numeral::class` meets its contract: by the byte, a law for the range and one for the others.
+-- Assumes nothing.
+use Rattle.tokens.proofs.Numbers.{nonzero-is, other-is}
+use native.Mathlib.Omega.{arith}
+use borrow.Author.Needs.{needs}
+use Rattle.tokens.proofs.numeral.class.Statement.{statement}
+use Rattle.tokens.proofs.numeral.class.Tie as tie
+
+returns : tie.Need-returns
+returns c = search needs
+
+returns-2 : tie.Need-returns-2
+returns-2 c = search needs
+
+returns-3 : tie.Need-returns-3
+returns-3 c = search needs
+
+returns-4 : tie.Need-returns-4
+returns-4 c = search needs
+
+returns-5 : tie.Need-returns-5
+returns-5 c = search needs
+
+returns-6 : tie.Need-returns-6
+returns-6 c = search needs
+
+returns-7 : tie.Need-returns-7
+returns-7 c = (nonzero-is (c .before .before .before .args .c) (omega arith) (omega arith), omega arith)
+
+returns-8 : tie.Need-returns-8
+returns-8 c = (other-is (c .before .before .args .c) (c .before .match .rest .0 .0 .0 .0 .0 .1) (λ p q. omega arith) (c .before .match .rest .0 .0 .0 .0 .1) (c .before .match .rest .0 .0 .0 .1) (c .before .match .rest .0 .0 .1) (c .before .match .rest .0 .1) (c .before .match .rest .1), omega arith)
+
+returns-9 : tie.Need-returns-9
+returns-9 c = (other-is (c .before .before .before .args .c) (c .before .before .match .rest .0 .0 .0 .0 .0 .1) (λ p q. omega arith) (c .before .before .match .rest .0 .0 .0 .0 .1) (c .before .before .match .rest .0 .0 .0 .1) (c .before .before .match .rest .0 .0 .1) (c .before .before .match .rest .0 .1) (c .before .before .match .rest .1), omega arith)
+
+pub class-spec : {M : Type 1} → statement M
+class-spec =
+    tie.close
+    (tie.spec
+    returns
+    returns-2
+    returns-3
+    returns-4
+    returns-5
+    returns-6
+    returns-7
+    returns-8
+    returns-9)

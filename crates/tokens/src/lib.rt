@@ -1,0 +1,3 @@
+// tokens: split from reader.
+pub mod numeral;
+pub mod scan;

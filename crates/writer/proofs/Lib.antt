@@ -1,0 +1,8 @@
+pub mod Laying
+pub mod Digits
+pub mod Quotes
+pub mod Lists
+pub mod Texts
+pub mod Once
+pub mod Gathered
+pub mod Sourcing

@@ -1,0 +1,4 @@
+pub mod Laid
+pub mod Once
+pub mod Texts
+pub mod Meaning
