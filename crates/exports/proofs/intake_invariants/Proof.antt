@@ -21,4 +21,5 @@ returns : tie.Need-returns
 returns c = exported (c .before .before .before .before .before .check-invariants .ensures) (c .word-of .ensures)
 
 pub intake-invariants-spec : {M : Type 1} → statement M
-intake-invariants-spec = tie.close (tie.spec check-invariants-requires word-of-requires same-length same-length-2 returns)
+intake-invariants-spec = tie.close (tie.spec check-invariants-requires word-of-requires same-length
+    same-length-2 returns)

@@ -9,7 +9,8 @@ check-preconditions-requires : tie.Need-check-preconditions-requires
 check-preconditions-requires c κs = search needs
 
 word-of-requires : tie.Need-word-of-requires
-word-of-requires c κs = fits (preconditions-small _ _ _) (c .before .before .before .before .check-preconditions .ensures)
+word-of-requires c κs =
+    fits (preconditions-small _ _ _) (c .before .before .before .before .check-preconditions .ensures)
 
 same-length : tie.Need-same-length
 same-length c = search needs
@@ -21,4 +22,5 @@ returns : tie.Need-returns
 returns c = exported (c .before .before .before .before .before .check-preconditions .ensures) (c .word-of .ensures)
 
 pub intake-preconditions-spec : {M : Type 1} → statement M
-intake-preconditions-spec = tie.close (tie.spec check-preconditions-requires word-of-requires same-length same-length-2 returns)
+intake-preconditions-spec = tie.close (tie.spec check-preconditions-requires word-of-requires same-length
+    same-length-2 returns)

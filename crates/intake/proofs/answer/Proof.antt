@@ -20,10 +20,12 @@ same-length c = search needs
 
 returns : tie.Need-returns
 returns c =
-    let start = c .before .before .before .before .before .before .before .before .before .before .before .before .before in
-    let called = c .before .before .before .before .before .before .before .before .decide .ensures in
-    let none = decide-no-line _ _ _ (sym (called .isSize) ∙ c .before .before .before .before .if1 .taken) in
-    as-intake (start .args .sheet .now) refl (start .pre) (with-number called none (c .before .before .number-line .ensures))
+    let at-if1 = c .before .before .before .before in
+    let called = at-if1 .before .before .before .before .decide .ensures in
+    let start = at-if1 .before .before .before .before .before .before .before .before .before in
+    let none = decide-no-line _ _ _ (sym (called .isSize) ∙ at-if1 .if1 .taken) in
+    as-intake (start .args .sheet .now) refl (start .pre)
+    (with-number called none (c .before .before .number-line .ensures))
 
 same-length-2 : tie.Need-same-length-2
 same-length-2 c = search needs
@@ -31,7 +33,8 @@ same-length-2 c = search needs
 returns-2 : tie.Need-returns-2
 returns-2 c =
     let start = c .before .before .before .before .before .before .before .before .before in
-    as-intake (start .args .sheet .now) refl (start .pre) (with-line (c .before .before .before .before .decide .ensures) (c .if1 .left))
+    as-intake (start .args .sheet .now) refl (start .pre)
+    (with-line (c .before .before .before .before .decide .ensures) (c .if1 .left))
 
 pub answer-spec : {M : Type 1} → statement M
 answer-spec =

@@ -9,10 +9,14 @@ use Rattle.number.proofs.compare.Statement.{statement}
 use Rattle.number.proofs.compare.Tie as tie
 
 returns : tie.Need-returns
-returns c = left-long (c .before .before .before .args .left .now) (c .before .before .before .args .right .now) (c .if1 .taken)
+returns c =
+    let a = c .before .before .before .args in
+    left-long (a .left .now) (a .right .now) (c .if1 .taken)
 
 returns-2 : tie.Need-returns-2
-returns-2 c = right-long (c .before .before .before .before .args .left .now) (c .before .before .before .before .args .right .now) (c .before .if1 .left) (c .if2 .taken)
+returns-2 c =
+    let a = c .before .before .before .before .args in
+    right-long (a .left .now) (a .right .now) (c .before .if1 .left) (c .if2 .taken)
 
 parse-requires : tie.Need-parse-requires
 parse-requires c κs = search needs
@@ -28,15 +32,28 @@ rank-requires-2 c κs = search needs
 
 returns-3 : tie.Need-returns-3
 returns-3 c =
-    let s = c .before .before .before .before .before .before .before .before .before .args .left .now in
-    let t = c .before .before .before .before .before .before .before .before .before .args .right .now in
-    sym (looked-at s t (c .before .before .before .before .before .before .if1 .left) (c .before .before .before .before .before .if2 .left) ∙ order-less s t (omega (arith, c .before .before .rank .ensures, c .before .rank2 .ensures, c .if3 .taken)))
+    let at-if2 = c .before .before .before .before .before in
+    let a = at-if2 .before .before .before .before .args in
+    let s = a .left .now in
+    let t = a .right .now in
+    sym
+    (looked-at s t (at-if2 .before .if1 .left) (at-if2 .if2 .left) ∙ order-less s t
+    (omega (arith, c .before .before .rank .ensures, c .before .rank2 .ensures, c .if3 .taken)))
 
 returns-4 : tie.Need-returns-4
 returns-4 c =
-    let s = c .before .before .before .before .before .before .before .before .before .before .args .left .now in
-    let t = c .before .before .before .before .before .before .before .before .before .before .args .right .now in
-    sym (looked-at s t (c .before .before .before .before .before .before .before .if1 .left) (c .before .before .before .before .before .before .if2 .left) ∙ order-more s t (omega (arith, c .before .before .before .rank .ensures, c .before .before .rank2 .ensures, c .if4 .taken)))
+    let at-if2 = c .before .before .before .before .before .before in
+    let a = at-if2 .before .before .before .before .args in
+    let s = a .left .now in
+    let t = a .right .now in
+    sym
+    (looked-at s t (at-if2 .before .if1 .left) (at-if2 .if2 .left) ∙ order-more s t
+    (omega (
+      arith,
+      c .before .before .before .rank .ensures,
+      c .before .before .rank2 .ensures,
+      c .if4 .taken,
+    )))
 
 magnitude-requires : tie.Need-magnitude-requires
 magnitude-requires c κs = search needs
@@ -46,24 +63,57 @@ magnitude-requires-2 c κs = search needs
 
 returns-5 : tie.Need-returns-5
 returns-5 c =
-    let s = c .before .before .before .before .before .before .before .before .before .before .before .before .args .left .now in
-    let t = c .before .before .before .before .before .before .before .before .before .before .before .before .args .right .now in
+    let at-if3 = c .before .before .before in
     let i = c .before .match .keys1 in
-    c .magnitude .ensures ∙ sym (looked-at s t (c .before .before .before .before .before .before .before .before .before .if1 .left) (c .before .before .before .before .before .before .before .before .if2 .left) ∙ order-signed s t isNegative (omega (arith, c .before .before .before .before .before .rank .ensures, i)) (omega (arith, c .before .before .before .before .rank2 .ensures, c .before .before .before .if3 .left, i)))
+    let at-if2 = at-if3 .before .before .before .before .before in
+    let a = at-if2 .before .before .before .before .args in
+    let s = a .left .now in
+    let t = a .right .now in
+    c .magnitude .ensures ∙ sym
+    (looked-at s t (at-if2 .before .if1 .left) (at-if2 .if2 .left) ∙ order-signed s t isNegative
+    (omega (arith, at-if3 .before .before .rank .ensures, i))
+    (omega (arith, at-if3 .before .rank2 .ensures, at-if3 .if3 .left, i)))
 
 returns-6 : tie.Need-returns-6
 returns-6 c =
-    let s = c .before .before .before .before .before .before .before .before .before .before .before .args .left .now in
-    let t = c .before .before .before .before .before .before .before .before .before .before .before .args .right .now in
     let i = c .match .keys2 in
-    sym (looked-at s t (c .before .before .before .before .before .before .before .before .if1 .left) (c .before .before .before .before .before .before .before .if2 .left) ∙ order-signed s t isNought (omega (arith, c .before .before .before .before .rank .ensures, i)) (omega (arith, c .before .before .before .before .rank .ensures, c .before .before .before .rank2 .ensures, c .before .before .if3 .left, c .before .if4 .left, i)))
+    let at-rank = c .before .before .before .before in
+    let at-if2 = at-rank .before .before .before in
+    let a = at-if2 .before .before .before .before .args in
+    let s = a .left .now in
+    let t = a .right .now in
+    sym
+    (looked-at s t (at-if2 .before .if1 .left) (at-if2 .if2 .left) ∙ order-signed s t isNought
+    (omega (arith, at-rank .rank .ensures, i))
+    (omega (
+      arith,
+      at-rank .rank .ensures,
+      c .before .before .before .rank2 .ensures,
+      c .before .before .if3 .left,
+      c .before .if4 .left,
+      i,
+    )))
 
 returns-7 : tie.Need-returns-7
 returns-7 c =
-    let s = c .before .before .before .before .before .before .before .before .before .before .before .before .args .left .now in
-    let t = c .before .before .before .before .before .before .before .before .before .before .before .before .args .right .now in
+    let at-if3 = c .before .before .before in
+    let at-if2 = at-if3 .before .before .before .before .before in
+    let a = at-if2 .before .before .before .before .args in
+    let s = a .left .now in
+    let t = a .right .now in
     let m = rank-most (signOf (scaled s)) in
-    c .magnitude2 .ensures ∙ sym (looked-at s t (c .before .before .before .before .before .before .before .before .before .if1 .left) (c .before .before .before .before .before .before .before .before .if2 .left) ∙ order-signed s t isPositive (omega (arith, c .before .before .before .before .before .rank .ensures, m, c .before .match .rest)) (omega (arith, c .before .before .before .before .before .rank .ensures, c .before .before .before .before .rank2 .ensures, c .before .before .before .if3 .left, c .before .before .if4 .left, m, c .before .match .rest)))
+    c .magnitude2 .ensures ∙ sym
+    (looked-at s t (at-if2 .before .if1 .left) (at-if2 .if2 .left) ∙ order-signed s t isPositive
+    (omega (arith, at-if3 .before .before .rank .ensures, m, c .before .match .rest))
+    (omega (
+      arith,
+      at-if3 .before .before .rank .ensures,
+      at-if3 .before .rank2 .ensures,
+      at-if3 .if3 .left,
+      c .before .before .if4 .left,
+      m,
+      c .before .match .rest,
+    )))
 
 pub compare-spec : {M : Type 1} → statement M
 compare-spec =

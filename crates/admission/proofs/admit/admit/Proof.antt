@@ -25,7 +25,10 @@ entry-requires : tie.Need-entry-requires
 entry-requires c κs = search needs
 
 of-effect-requires : tie.Need-of-effect-requires
-of-effect-requires c κs = effect-known (outcome-members (c .before .before .after-at .ensures) (c .before .members .ensures) (c .before .before .before .before .before .pre .3 .known))
+of-effect-requires c κs =
+    effect-known
+    (outcome-members (c .before .before .after-at .ensures) (c .before .members .ensures)
+    (c .before .before .before .before .before .pre .3 .known))
 
 enum-told : tie.Need-enum-told
 enum-told c = search needs
@@ -34,31 +37,111 @@ enum-known-sources : tie.Need-enum-known-sources
 enum-known-sources c = search needs
 
 is-one-of-requires : tie.Need-is-one-of-requires
-is-one-of-requires c κs = (record { given = sources (c .before .before .before .before .before .before .before .before .before .pre .3 .given .effect); known = sources-here (c .before .before .before .before .before .before .before .before .before .args .s .now) (c .before .before .before .before .before .before .before .before .before .args .work .now) (c .before .before .before .before .before .before .before .before .before .pre .3 .given .effect) (sources-of (c .before .before .before .before .before .before .before .before .before .args .s .now) (c .before .before .before .before .before .before .before .before .before .args .work .now) (c .before .before .before .before .before .before .after-at .ensures) (c .before .before .before .before .before .members .ensures) _ (c .before .before .before .of-effect .ensures) (c .before .before .before .before .before .before .before .before .before .pre .3 .given) (c .before .before .before .before .before .before .before .before .before .pre .3 .known)) (c .before .sources .given .0 .0) (c .before .sources .given .1) }, c .before .before .before .before .before .before .before .before .before .pre .2)
+is-one-of-requires c κs =
+    let at-members = c .before .before .before .before .before in
+    let at-start = at-members .before .before .before .before in
+    let a = at-start .args in
+    let pre = at-start .pre in (
+      record {
+        given = sources (pre .3 .given .effect);
+        known = sources-here (a .s .now) (a .work .now) (pre .3 .given .effect)
+            (sources-of (a .s .now) (a .work .now) (at-members .before .after-at .ensures)
+            (at-members .members .ensures) _ (c .before .before .before .of-effect .ensures) (pre .3 .given)
+            (pre .3 .known)) (c .before .sources .given .0 .0) (c .before .sources .given .1);
+      },
+      pre .2,
+    )
 
 returns : tie.Need-returns
-returns c = λ ts os o g h k. keeps-moving (c .before .before .before .before .before .before .before .before .before .before .before .args .s .now) (c .before .before .before .before .before .before .before .before .before .before .before .args .work .now) ts os (c .before .before .before .before .before .before .before .before .before .before .before .args .state) (c .before .before .before .before .before .before .before .before .before .before .before .args .p .place) o _ (sources-of (c .before .before .before .before .before .before .before .before .before .before .before .args .s .now) (c .before .before .before .before .before .before .before .before .before .before .before .args .work .now) (c .before .before .before .before .before .before .before .before .after-at .ensures) (c .before .before .before .before .before .before .before .members .ensures) _ (c .before .before .before .before .before .of-effect .ensures) o k) (c .before .before .before .sources .given .0 .0) (c .before .before .before .sources .given .1) _ (c .before .is-one-of .ensures) (c .if1 .taken) (c .before .before .before .before .before .before .entry .ensures o k)
+returns c =
+    let at-sources = c .before .before .before in
+    let at-entry = at-sources .before .before .before in
+    let a = at-entry .before .before .before .before .before .args in
+    λ ts os o g h k. keeps-moving (a .s .now) (a .work .now) ts os (a .state) (a .p .place) o _
+    (sources-of (a .s .now) (a .work .now) (at-entry .before .before .after-at .ensures)
+    (at-entry .before .members .ensures) _ (at-sources .before .before .of-effect .ensures) o k)
+    (at-sources .sources .given .0 .0) (at-sources .sources .given .1) _ (c .before .is-one-of .ensures)
+    (c .if1 .taken) (at-entry .entry .ensures o k)
 
 add-from : tie.Need-add-from
-add-from c = omega (arith, room (c .before .before .before .before .before .before .before .before .before .before .before .pre .1 .known .node) .1)
+add-from c =
+    omega (
+      arith,
+      room
+          (c .before .before .before .before .before .before .before .before .before .before .before .pre .1
+          .known .node) .1,
+    )
 
 after-at-requires-2 : tie.Need-after-at-requires-2
-after-at-requires-2 c κs = room (c .before .before .before .before .before .before .before .before .before .before .before .pre .1 .known .node)
+after-at-requires-2 c κs =
+    room
+    (c .before .before .before .before .before .before .before .before .before .before .before .pre .1 .known
+    .node)
 
 is-wrong-requires : tie.Need-is-wrong-requires
-is-wrong-requires c κs = (c .before .before .before .before .before .before .before .before .before .before .before .before .pre .0, record { given = c .before .before .before .before .before .before .before .before .before .before .before .before .pre .1 .given; known = behind-array (anOutcome condition) (c .before .before .before .before .before .before .before .before .before .before .before .before .pre .1 .known) (c .after-at2 .ensures) }, c .before .before .before .before .before .before .before .before .before .before .before .before .pre .2)
+is-wrong-requires c κs =
+    let pre =
+    c .before .before .before .before .before .before .before .before .before .before .before .before .pre in (
+      pre .0,
+      record {
+        given = pre .1 .given;
+        known = behind-array (anOutcome condition) (pre .1 .known) (c .after-at2 .ensures);
+      },
+      pre .2,
+    )
 
 for-wrong-state-requires : tie.Need-for-wrong-state-requires
-for-wrong-state-requires c κs = (record { given = c .before .before .before .before .before .before .before .before .before .before .before .before .before .before .pre .1 .given; known = behind-array (anOutcome condition) (c .before .before .before .before .before .before .before .before .before .before .before .before .before .before .pre .1 .known) (c .before .before .after-at2 .ensures) }, c .before .before .before .before .before .before .before .before .before .before .before .before .before .before .pre .2)
+for-wrong-state-requires c κs =
+    let pre = c .before .before .before .before .before .before .before .before .before .before .before
+    .before .before .before .pre in (
+      record {
+        given = pre .1 .given;
+        known = behind-array (anOutcome condition) (pre .1 .known) (c .before .before .after-at2 .ensures);
+      },
+      pre .2,
+    )
 
 returns-2 : tie.Need-returns-2
-returns-2 c = λ ts os o g h k. turns-wrong (c .before .before .before .before .before .before .before .before .before .before .before .before .before .before .before .args .s .now) (c .before .before .before .before .before .before .before .before .before .before .before .before .before .before .before .args .work .now) ts os (c .before .before .before .before .before .before .before .before .before .before .before .before .before .before .before .args .state) (c .before .before .before .before .before .before .before .before .before .before .before .before .before .before .before .args .p .place) o _ (sources-of (c .before .before .before .before .before .before .before .before .before .before .before .before .before .before .before .args .s .now) (c .before .before .before .before .before .before .before .before .before .before .before .before .before .before .before .args .work .now) (c .before .before .before .before .before .before .before .before .before .before .before .before .after-at .ensures) (c .before .before .before .before .before .before .before .before .before .before .before .members .ensures) _ (c .before .before .before .before .before .before .before .before .before .of-effect .ensures) o k) (c .before .before .before .before .before .before .before .sources .given .0 .0) (c .before .before .before .before .before .before .before .sources .given .1) _ (c .before .before .before .before .before .is-one-of .ensures) (c .before .before .before .before .if1 .left) _ (c .before .before .is-wrong .ensures ts os g (behind-array (anOutcome condition) h (c .before .before .before .after-at2 .ensures))) (c .before .if2 .taken) (c .for-wrong-state .ensures os (behind-array (anOutcome condition) h (c .before .before .before .after-at2 .ensures)))
+returns-2 c =
+    let at-if1 = c .before .before .before .before in
+    let at-sources = at-if1 .before .before .before in
+    let at-members = at-sources .before .before .before .before in
+    let a = at-members .before .before .before .before .args in
+    λ ts os o g h k. turns-wrong (a .s .now) (a .work .now) ts os (a .state) (a .p .place) o _
+    (sources-of (a .s .now) (a .work .now) (at-members .before .after-at .ensures)
+    (at-members .members .ensures) _ (at-sources .before .before .of-effect .ensures) o k)
+    (at-sources .sources .given .0 .0) (at-sources .sources .given .1) _ (at-if1 .before .is-one-of .ensures)
+    (at-if1 .if1 .left) _
+    (c .before .before .is-wrong .ensures ts os g
+    (behind-array (anOutcome condition) h (c .before .before .before .after-at2 .ensures)))
+    (c .before .if2 .taken)
+    (c .for-wrong-state .ensures os
+    (behind-array (anOutcome condition) h (c .before .before .before .after-at2 .ensures)))
 
 returns-3 : tie.Need-returns-3
-returns-3 c = λ ts os o g h k. keeps-staying (c .before .before .before .before .before .before .before .before .args .s .now) (c .before .before .before .before .before .before .before .before .args .work .now) ts os (c .before .before .before .before .before .before .before .before .args .state) (c .before .before .before .before .before .before .before .before .args .p .place) o _ (sources-of (c .before .before .before .before .before .before .before .before .args .s .now) (c .before .before .before .before .before .before .before .before .args .work .now) (c .before .before .before .before .before .after-at .ensures) (c .before .before .before .before .members .ensures) _ (c .before .before .of-effect .ensures) o k) (c .enum-told .given .1) (c .before .before .before .entry .ensures o k)
+returns-3 c =
+    let at-entry = c .before .before .before in
+    let a = at-entry .before .before .before .before .before .args in
+    λ ts os o g h k. keeps-staying (a .s .now) (a .work .now) ts os (a .state) (a .p .place) o _
+    (sources-of (a .s .now) (a .work .now) (at-entry .before .before .after-at .ensures)
+    (at-entry .before .members .ensures) _ (c .before .before .of-effect .ensures) o k)
+    (c .enum-told .given .1) (at-entry .entry .ensures o k)
 
 returns-4 : tie.Need-returns-4
-returns-4 c = λ ts os o g h k. has-no-source (c .before .before .before .before .before .before .before .before .before .before .before .before .before .before .args .s .now) (c .before .before .before .before .before .before .before .before .before .before .before .before .before .before .args .work .now) ts os (c .before .before .before .before .before .before .before .before .before .before .before .before .before .before .args .state) (c .before .before .before .before .before .before .before .before .before .before .before .before .before .before .args .p .place) o _ (sources-of (c .before .before .before .before .before .before .before .before .before .before .before .before .before .before .args .s .now) (c .before .before .before .before .before .before .before .before .before .before .before .before .before .before .args .work .now) (c .before .before .before .before .before .before .before .before .before .before .before .after-at .ensures) (c .before .before .before .before .before .before .before .before .before .before .members .ensures) _ (c .before .before .before .before .before .before .before .before .of-effect .ensures) o k) (c .before .before .before .before .before .before .sources .given .0 .0) (c .before .before .before .before .before .before .sources .given .1) _ (c .before .before .before .before .is-one-of .ensures) (c .before .before .before .if1 .left) _ (c .before .is-wrong .ensures ts os g (behind-array (anOutcome condition) h (c .before .before .after-at2 .ensures))) (c .if2 .left) (c .before .before .before .before .before .before .before .before .before .before .before .before .before .before .pre .2) (c .before .before .before .before .before .before .before .before .before .entry .ensures o k)
+returns-4 c =
+    let at-if1 = c .before .before .before in
+    let at-sources = at-if1 .before .before .before in
+    let at-entry = at-sources .before .before .before in
+    let at-start = at-entry .before .before .before .before .before in
+    let a = at-start .args in
+    λ ts os o g h k. has-no-source (a .s .now) (a .work .now) ts os (a .state) (a .p .place) o _
+    (sources-of (a .s .now) (a .work .now) (at-entry .before .before .after-at .ensures)
+    (at-entry .before .members .ensures) _ (at-sources .before .before .of-effect .ensures) o k)
+    (at-sources .sources .given .0 .0) (at-sources .sources .given .1) _ (at-if1 .before .is-one-of .ensures)
+    (at-if1 .if1 .left) _
+    (c .before .is-wrong .ensures ts os g
+    (behind-array (anOutcome condition) h (c .before .before .after-at2 .ensures))) (c .if2 .left)
+    (at-start .pre .2) (at-entry .entry .ensures o k)
 
 pub admit-spec : {M : Type 1} → statement M
 admit-spec =

@@ -20,10 +20,15 @@ node-of-requires : tie.Need-node-of-requires
 node-of-requires c κs = search needs
 
 start-at-requires : tie.Need-start-at-requires
-start-at-requires c κs = name-room (c .before .before .after-at .ensures) (c .before .members .ensures) (c .node-of .ensures) (c .before .before .before .before .before .pre)
+start-at-requires c κs =
+    name-room (c .before .before .after-at .ensures) (c .before .members .ensures) (c .node-of .ensures)
+    (c .before .before .before .before .before .pre)
 
 returns : tie.Need-returns
-returns c = entered (c .before .before .before .after-at .ensures) (c .before .before .members .ensures) (c .before .node-of .ensures) (c .before .before .before .before .before .before .args .p .place) (c .start-at .ensures)
+returns c =
+    entered (c .before .before .before .after-at .ensures) (c .before .before .members .ensures)
+    (c .before .node-of .ensures) (c .before .before .before .before .before .before .args .p .place)
+    (c .start-at .ensures)
 
 pub entry-spec : {M : Type 1} → statement M
 entry-spec =

@@ -16,13 +16,25 @@ enum-known-p : tie.Need-enum-known-p
 enum-known-p c = search needs
 
 entry-requires : tie.Need-entry-requires
-entry-requires c κs = chosen-node (c .before .before .before .before .before .before .args .s .now) (c .before .before .before .before .before .before .args .work .now) (firstWrong 0 (c .before .before .before .before .before .before .pre .0 .given)) (c .before .p .given .0 .0) (c .before .p .given .1) (c .before .before .before .first-wrong .ensures (c .before .before .before .before .before .before .pre .0 .given) (c .before .before .before .before .before .before .pre .0 .known))
+entry-requires c κs =
+    let at-start = c .before .before .before .before .before .before in
+    chosen-node (at-start .args .s .now) (at-start .args .work .now) (firstWrong 0 (at-start .pre .0 .given))
+    (c .before .p .given .0 .0) (c .before .p .given .1)
+    (c .before .before .before .first-wrong .ensures (at-start .pre .0 .given) (at-start .pre .0 .known))
 
 returns : tie.Need-returns
-returns c = λ os g. told-wrong (c .before .before .before .before .before .args .s .now) (c .before .before .before .before .before .args .work .now) (firstWrong 0 os) (c .before .before .before .before .before .args .state) (c .before .before .before .before .before .pre .1) (c .enum-told .given .1) (c .before .before .first-wrong .ensures os g)
+returns c =
+    let a = c .before .before .before .before .before .args in
+    λ os g. told-wrong (a .s .now) (a .work .now) (firstWrong 0 os) (a .state)
+    (c .before .before .before .before .before .pre .1) (c .enum-told .given .1)
+    (c .before .before .first-wrong .ensures os g)
 
 returns-2 : tie.Need-returns-2
-returns-2 c = λ os g. told-chosen (c .before .before .before .before .before .before .before .args .s .now) (c .before .before .before .before .before .before .before .args .work .now) (firstWrong 0 os) (c .before .before .p .given .0 .0) (c .before .before .p .given .1) (c .before .before .before .before .first-wrong .ensures os g) (c .before .before .before .before .before .before .before .args .state) (c .entry .ensures)
+returns-2 c =
+    let at-p = c .before .before in
+    let a = at-p .before .before .before .before .before .args in
+    λ os g. told-chosen (a .s .now) (a .work .now) (firstWrong 0 os) (at-p .p .given .0 .0)
+    (at-p .p .given .1) (at-p .before .before .first-wrong .ensures os g) (a .state) (c .entry .ensures)
 
 pub for-wrong-state-spec : {M : Type 1} → statement M
 for-wrong-state-spec =

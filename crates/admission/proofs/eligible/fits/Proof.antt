@@ -19,22 +19,47 @@ enum-known-state : tie.Need-enum-known-state
 enum-known-state c = search needs
 
 start-at-requires : tie.Need-start-at-requires
-start-at-requires c κs = there-room aText (c .before .before .before .before .before .before .before .before .args .s .now) _ (c .before .before .before .before .own .given .0 .0) (c .before .before .before .before .own .given .1) (c .before .before .before .before .before .before .before .before .pre .0)
+start-at-requires c κs =
+    let at-own = c .before .before .before .before in
+    there-room aText (at-own .before .before .before .before .args .s .now) _ (at-own .own .given .0 .0)
+    (at-own .own .given .1) (at-own .before .before .before .before .pre .0)
 
 start-at-requires-2 : tie.Need-start-at-requires-2
-start-at-requires-2 c κs = there-room aText (c .before .before .before .before .before .before .before .before .before .args .s .now) _ (c .before .before .state .given .0 .0) (c .before .before .state .given .1) (c .before .before .before .before .before .before .before .before .before .pre .1)
+start-at-requires-2 c κs =
+    let at-start = c .before .before .before .before .before .before .before .before .before in
+    there-room aText (at-start .args .s .now) _ (c .before .before .state .given .0 .0)
+    (c .before .before .state .given .1) (at-start .pre .1)
 
 same-requires : tie.Need-same-requires
-same-requires c κs = (state-on-text (c .before .before .before .before .before .before .before .before .before .before .args .s .now) (c .before .before .before .before .before .before .before .before .before .before .args .work .now) (c .before .before .before .before .before .before .own .given .0 .0) (c .before .before .before .before .before .before .own .given .1) (c .before .before .before .before .before .before .before .before .before .before .pre .0) (c .before .start-at .ensures), state-on-text (c .before .before .before .before .before .before .before .before .before .before .args .s .now) (c .before .before .before .before .before .before .before .before .before .before .args .work .now) (c .before .before .before .state .given .0 .0) (c .before .before .before .state .given .1) (c .before .before .before .before .before .before .before .before .before .before .pre .1) (c .start-at2 .ensures))
+same-requires c κs =
+    let at-own = c .before .before .before .before .before .before in
+    let at-start = at-own .before .before .before .before in
+    let a = at-start .args in (
+      state-on-text (a .s .now) (a .work .now) (at-own .own .given .0 .0) (at-own .own .given .1)
+          (at-start .pre .0) (c .before .start-at .ensures),
+      state-on-text (a .s .now) (a .work .now) (c .before .before .before .state .given .0 .0)
+          (c .before .before .before .state .given .1) (at-start .pre .1) (c .start-at2 .ensures),
+    )
 
 returns : tie.Need-returns
-returns c = λ i t g h. no-own (c .before .before .before .before .args .s .now) (c .before .before .before .before .args .work .now) (c .enum-told .given .1) i t g
+returns c =
+    let a = c .before .before .before .before .args in
+    λ i t g h. no-own (a .s .now) (a .work .now) (c .enum-told .given .1) i t g
 
 returns-2 : tie.Need-returns-2
-returns-2 c = no-state (c .before .before .before .before .before .before .before .args .s .now) (c .before .before .before .before .before .before .before .args .work .now) (c .before .before .before .own .given .0 .0) (c .before .before .before .own .given .1) (c .enum-told2 .given .1)
+returns-2 c =
+    let at-own = c .before .before .before in
+    let a = at-own .before .before .before .before .args in
+    no-state (a .s .now) (a .work .now) (at-own .own .given .0 .0) (at-own .own .given .1)
+    (c .enum-told2 .given .1)
 
 returns-3 : tie.Need-returns-3
-returns-3 c = both-states (c .before .before .before .before .before .before .before .before .before .before .before .args .s .now) (c .before .before .before .before .before .before .before .before .before .before .before .args .work .now) (c .before .before .before .before .before .before .before .own .given .0 .0) (c .before .before .before .before .before .before .before .own .given .1) (c .before .before .before .before .state .given .1) (c .before .before .start-at .ensures) (c .before .start-at2 .ensures) _ (c .same .ensures)
+returns-3 c =
+    let at-own = c .before .before .before .before .before .before .before in
+    let a = at-own .before .before .before .before .args in
+    both-states (a .s .now) (a .work .now) (at-own .own .given .0 .0) (at-own .own .given .1)
+    (c .before .before .before .before .state .given .1) (c .before .before .start-at .ensures)
+    (c .before .start-at2 .ensures) _ (c .same .ensures)
 
 pub fits-spec : {M : Type 1} → statement M
 fits-spec =

@@ -17,13 +17,18 @@ enum-known-found : tie.Need-enum-known-found
 enum-known-found c = search needs
 
 kind-at-requires : tie.Need-kind-at-requires
-kind-at-requires c κs = there-room aBool (c .before .before .before .before .pre .given) _ (c .before .found .given .0 .0) (c .before .found .given .1) (c .before .before .before .before .pre .known)
+kind-at-requires c κs =
+    let pre = c .before .before .before .before .pre in
+    there-room aBool (pre .given) _ (c .before .found .given .0 .0) (c .before .found .given .1) (pre .known)
 
 returns : tie.Need-returns
 returns c = never-true (c .before .before .before .args .work .now) (c .enum-told .given .1)
 
 returns-2 : tie.Need-returns-2
-returns-2 c = as-it-is (c .before .before .before .before .before .args .work .now) (c .before .before .found .given .0 .0) (c .before .before .found .given .1) _ (ap {B = Bool} (λ (k : ℕ). eqb k 1) (c .kind-at .ensures))
+returns-2 c =
+    as-it-is (c .before .before .before .before .before .args .work .now)
+    (c .before .before .found .given .0 .0) (c .before .before .found .given .1) _
+    (ap {B = Bool} (λ (k : ℕ). eqb k 1) (c .kind-at .ensures))
 
 pub is-true-spec : {M : Type 1} → statement M
 is-true-spec = tie.close (tie.spec enum-told enum-known-found kind-at-requires returns returns-2)

@@ -24,22 +24,43 @@ add-members : tie.Need-add-members Inv-loop μ-loop
 add-members c = omega (arith, element-room (c .before .before .loop .inv .walking) (c .before .loop-test .taken) .1)
 
 members-requires : tie.Need-members-requires Inv-loop μ-loop
-members-requires c κs = members-behind (outcome-here (next (c .before .before .loop .inv .walking) (c .before .loop-test .taken) .here)) (c .after-at .ensures)
+members-requires c κs =
+    members-behind
+    (outcome-here (next (c .before .before .loop .inv .walking) (c .before .loop-test .taken) .here))
+    (c .after-at .ensures)
 
 is-true-requires : tie.Need-is-true-requires Inv-loop μ-loop
-is-true-requires c κs = flag-known (outcome-members (c .before .after-at .ensures) (c .members .ensures) (next (c .before .before .before .loop .inv .walking) (c .before .before .loop-test .taken) .here))
+is-true-requires c κs =
+    flag-known
+    (outcome-members (c .before .after-at .ensures) (c .members .ensures)
+    (next (c .before .before .before .loop .inv .walking) (c .before .before .loop-test .taken) .here))
 
 returns : tie.Need-returns Inv-loop μ-loop
-returns c = wrong-here (c .before .before .before .before .before .loop .inv) (c .before .before .before .before .loop-test .taken) (c .before .before .before .after-at .ensures) (c .before .before .members .ensures) _ (c .before .is-true .ensures) (c .if1 .taken)
+returns c =
+    wrong-here (c .before .before .before .before .before .loop .inv)
+    (c .before .before .before .before .loop-test .taken) (c .before .before .before .after-at .ensures)
+    (c .before .before .members .ensures) _ (c .before .is-true .ensures) (c .if1 .taken)
 
 add-i : tie.Need-add-i Inv-loop μ-loop
-add-i c = omega (arith, c .before .before .before .before .before .loop .inv .low, element-room (c .before .before .before .before .before .loop .inv .walking) (c .before .before .before .before .loop-test .taken) .1)
+add-i c =
+    let inv = c .before .before .before .before .before .loop .inv in
+    omega (
+      arith,
+      inv .low,
+      element-room (inv .walking) (c .before .before .before .before .loop-test .taken) .1,
+    )
 
 loop-less : tie.Need-loop-less Inv-loop μ-loop
-loop-less c = let f = falls (c .before .before .before .before .before .loop .inv .walking) (c .before .before .before .before .loop-test .taken) _ (c .before .before .before .after-at .ensures) in omega (arith, f .0, f .1)
+loop-less c =
+    let f = falls (c .before .before .before .before .before .loop .inv .walking)
+    (c .before .before .before .before .loop-test .taken) _ (c .before .before .before .after-at .ensures) in
+    omega (arith, f .0, f .1)
 
 loop-again : tie.Need-loop-again Inv-loop μ-loop
-loop-again c = wrong-later (c .before .before .before .before .before .loop .inv) (c .before .before .before .before .loop-test .taken) (c .before .before .before .after-at .ensures) (c .before .before .members .ensures) _ (c .before .is-true .ensures) (c .if1 .left)
+loop-again c =
+    wrong-later (c .before .before .before .before .before .loop .inv)
+    (c .before .before .before .before .loop-test .taken) (c .before .before .before .after-at .ensures)
+    (c .before .before .members .ensures) _ (c .before .is-true .ensures) (c .if1 .left)
 
 returns-2 : tie.Need-returns-2 Inv-loop μ-loop
 returns-2 c = none-wrong (c .before .loop .inv) (c .loop-test .left)

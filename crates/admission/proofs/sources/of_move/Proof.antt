@@ -14,10 +14,14 @@ add-move-members : tie.Need-add-move-members
 add-move-members c = search needs
 
 move-members-requires : tie.Need-move-members-requires
-move-members-requires c κs = members-behind (move-given (c .before .before .before .pre .known) .0) (c .after-at .ensures)
+move-members-requires c κs =
+    members-behind (move-given (c .before .before .before .pre .known) .0) (c .after-at .ensures)
 
 returns : tie.Need-returns
-returns c = move-sources (c .before .before .before .before .args .s .now) (c .before .before .before .before .args .work .now) (c .move-members .result) (c .before .after-at .ensures) (c .move-members .ensures)
+returns c =
+    let a = c .before .before .before .before .args in
+    move-sources (a .s .now) (a .work .now) (c .move-members .result) (c .before .after-at .ensures)
+    (c .move-members .ensures)
 
 pub of-move-spec : {M : Type 1} → statement M
 of-move-spec =

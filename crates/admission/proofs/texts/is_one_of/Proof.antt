@@ -14,10 +14,17 @@ start-at-requires : tie.Need-start-at-requires
 start-at-requires c κs = room (c .before .before .before .before .pre .0 .known .node)
 
 same-requires : tie.Need-same-requires
-same-requires c κs = (c .before .before .before .before .before .pre .1, alone-on-text (c .before .before .before .before .before .pre .0 .known) (sym (c .before .before .kind-at .ensures) ∙ c .before .if1 .taken) (c .start-at .ensures))
+same-requires c κs =
+    let pre = c .before .before .before .before .before .pre in (
+      pre .1,
+      alone-on-text (pre .0 .known) (sym (c .before .before .kind-at .ensures) ∙ c .before .if1 .taken)
+          (c .start-at .ensures),
+    )
 
 returns : tie.Need-returns
-returns c = λ ts g. alone-same g (sym (c .before .before .before .kind-at .ensures) ∙ c .before .before .if1 .taken) (c .before .start-at .ensures) _ _ (c .same .ensures)
+returns c =
+    λ ts g. alone-same g (sym (c .before .before .before .kind-at .ensures) ∙ c .before .before .if1 .taken)
+    (c .before .start-at .ensures) _ _ (c .same .ensures)
 
 after-at-requires : tie.Need-after-at-requires
 after-at-requires c κs = room (c .before .before .before .before .pre .0 .known .node)
@@ -26,10 +33,21 @@ add-is-among : tie.Need-add-is-among
 add-is-among c = search needs
 
 is-among-requires : tie.Need-is-among-requires
-is-among-requires c κs = (record { given = c .before .before .before .before .before .pre .0 .given; known = behind (c .before .before .before .before .before .pre .0 .known) (λ e. c .before .if1 .left (c .before .before .kind-at .ensures ∙ e)) (c .after-at .ensures) }, c .before .before .before .before .before .pre .1)
+is-among-requires c κs =
+    let pre = c .before .before .before .before .before .pre in (
+      record {
+        given = pre .0 .given;
+        known = behind (pre .0 .known) (λ e. c .before .if1 .left (c .before .before .kind-at .ensures ∙ e))
+            (c .after-at .ensures);
+      },
+      pre .1,
+    )
 
 returns-2 : tie.Need-returns-2
-returns-2 c = λ ts g. c .is-among .ensures ts (behind g (λ e. c .before .before .if1 .left (c .before .before .before .kind-at .ensures ∙ e)) (c .before .after-at .ensures))
+returns-2 c =
+    λ ts g. c .is-among .ensures ts
+    (behind g (λ e. c .before .before .if1 .left (c .before .before .before .kind-at .ensures ∙ e))
+    (c .before .after-at .ensures))
 
 pub is-one-of-spec : {M : Type 1} → statement M
 is-one-of-spec =

@@ -13,7 +13,12 @@ enum-known-p : tie.Need-enum-known-p
 enum-known-p c = search needs
 
 admit-requires : tie.Need-admit-requires
-admit-requires c κs = admits-selected (c .before .before .before .before .before .before .before .before .before .before .pre .1 .given) (c .before .before .before .before .before .before .select .ensures (c .before .before .before .before .before .before .before .before .before .before .pre .1 .given) (c .before .before .before .before .before .before .before .before .before .before .pre .1 .known)) (c .before .before .p .given .0 .0) (c .before .before .p .given .1) (c .before .before .before .before .before .before .before .before .before .before .pre .1 .known) (c .before .before .before .before .before .before .before .before .before .before .pre .2)
+admit-requires c κs =
+    let at-p = c .before .before in
+    let pre = at-p .before .before .before .before .before .before .before .before .pre in
+    admits-selected (pre .1 .given)
+    (at-p .before .before .before .before .select .ensures (pre .1 .given) (pre .1 .known))
+    (at-p .p .given .0 .0) (at-p .p .given .1) (pre .1 .known) (pre .2)
 
 enum-known-a : tie.Need-enum-known-a
 enum-known-a c = search needs
@@ -22,13 +27,20 @@ same-length : tie.Need-same-length
 same-length c = search needs
 
 returns : tie.Need-returns
-returns c = λ sheet a. admission-of sheet (c .before .before .before .before .before .before .before .select .ensures sheet a) (c .before .before .before .p .given .0 .0) (c .before .before .before .p .given .1) a (c .before .before .before .before .before .before .before .before .before .before .before .args .state) (c .admit .ensures)
+returns c =
+    let at-p = c .before .before .before in
+    λ sheet a. admission-of sheet (at-p .before .before .before .before .select .ensures sheet a)
+    (at-p .p .given .0 .0) (at-p .p .given .1) a
+    (at-p .before .before .before .before .before .before .before .before .args .state) (c .admit .ensures)
 
 same-length-2 : tie.Need-same-length-2
 same-length-2 c = search needs
 
 returns-2 : tie.Need-returns-2
-returns-2 c = λ sheet a. admission-refused sheet (c .before .before .before .before .before .select .ensures sheet a) (textAt (c .before .before .before .before .before .before .before .before .before .args .s .now) (c .before .before .before .before .before .before .before .before .before .args .state)) (c .before .a .given .0 .0) (c .before .a .given .1)
+returns-2 c =
+    let a1 = c .before .before .before .before .before .before .before .before .before .args in
+    λ sheet a. admission-refused sheet (c .before .before .before .before .before .select .ensures sheet a)
+    (textAt (a1 .s .now) (a1 .state)) (c .before .a .given .0 .0) (c .before .a .given .1)
 
 pub admit-selected-spec : {M : Type 1} → statement M
 admit-selected-spec =

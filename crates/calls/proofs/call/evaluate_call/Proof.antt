@@ -13,7 +13,13 @@ enum-known-condition : tie.Need-enum-known-condition
 enum-known-condition c = search needs
 
 evaluate-alone-requires : tie.Need-evaluate-alone-requires
-evaluate-alone-requires c κs = (c .before .before .before .before .before .before .pre .0, c .before .before .before .before .before .before .pre .1, condition-known (c .before .before .before .before .before .before .pre .1 .known) (c .before .before .condition .given .0 .0) (c .before .before .condition .given .1))
+evaluate-alone-requires c κs =
+    let pre = c .before .before .before .before .before .before .pre in (
+      pre .0,
+      pre .1,
+      condition-known (pre .1 .known) (c .before .before .condition .given .0 .0)
+          (c .before .before .condition .given .1),
+    )
 
 enum-known-t : tie.Need-enum-known-t
 enum-known-t c = search needs
@@ -26,8 +32,12 @@ enum-known-n c = search needs
 
 start-at-requires : tie.Need-start-at-requires
 start-at-requires c κs =
-    let y = its-truth (c .before .before .before .before .before .before .before .before .before .before .before .before .before .pre .1 .known) (c .before .before .before .before .before .before .before .before .before .condition .given .0 .0) (c .before .before .before .before .before .before .before .before .before .condition .given .1) (c .before .before .before .before .before .before .evaluate-alone .ensures) in
-    expression-room y (c .before .before .n .given .0 .0) (c .before .before .n .given .1) (c .before .before .before .before .before .before .before .before .before .before .before .before .before .pre .0)
+    let at-n = c .before .before in
+    let at-condition = at-n .before .before .before .before .before .before .before in
+    let pre = at-condition .before .before .before .before .pre in
+    let y = its-truth (pre .1 .known) (at-condition .condition .given .0 .0)
+    (at-condition .condition .given .1) (at-n .before .before .before .before .evaluate-alone .ensures) in
+    expression-room y (at-n .n .given .0 .0) (at-n .n .given .1) (pre .0)
 
 enum-told-2 : tie.Need-enum-told-2
 enum-told-2 c = search needs
@@ -39,25 +49,39 @@ same-length : tie.Need-same-length
 same-length c = search needs
 
 returns-2 : tie.Need-returns-2
-returns-2 c = λ sheet a.
-    let y = its-truth a (c .before .before .before .before .before .before .before .before .before .condition .given .0 .0) (c .before .before .before .before .before .before .before .before .before .condition .given .1) (c .before .before .before .before .before .before .evaluate-alone .ensures) in
-    answered-condition a (c .before .before .before .before .before .before .before .before .before .condition .given .0 .0) (c .before .before .before .before .before .before .before .before .before .condition .given .1) (c .before .before .before .before .before .before .evaluate-alone .ensures) (told-truth y (c .before .before .t .given .0 .0) (c .before .before .t .given .1) (c .of-truth .ensures))
+returns-2 c =
+    let at-t = c .before .before in
+    let condition = at-t .before .before .before .before .before .before .before .condition in
+    λ sheet a. let y = its-truth a (condition .given .0 .0) (condition .given .1)
+    (at-t .before .before .before .before .evaluate-alone .ensures) in answered-condition a
+    (condition .given .0 .0) (condition .given .1)
+    (at-t .before .before .before .before .evaluate-alone .ensures)
+    (told-truth y (at-t .t .given .0 .0) (at-t .t .given .1) (c .of-truth .ensures))
 
 same-length-2 : tie.Need-same-length-2
 same-length-2 c = search needs
 
 returns-3 : tie.Need-returns-3
-returns-3 c = λ sheet a.
-    let y = its-truth a (c .before .before .before .before .before .before .before .before .before .before .condition .given .0 .0) (c .before .before .before .before .before .before .before .before .before .before .condition .given .1) (c .before .before .before .before .before .before .before .evaluate-alone .ensures) in
-    answered-condition a (c .before .before .before .before .before .before .before .before .before .before .condition .given .0 .0) (c .before .before .before .before .before .before .before .before .before .before .condition .given .1) (c .before .before .before .before .before .before .before .evaluate-alone .ensures) (told-unknown y (c .before .before .before .n .given .0 .0) (c .before .before .before .n .given .1) (c .start-at .ensures) ofCondition)
+returns-3 c =
+    let at-n = c .before .before .before in
+    let condition = at-n .before .before .before .before .before .before .before .condition in
+    λ sheet a. let y = its-truth a (condition .given .0 .0) (condition .given .1)
+    (at-n .before .before .before .before .evaluate-alone .ensures) in answered-condition a
+    (condition .given .0 .0) (condition .given .1)
+    (at-n .before .before .before .before .evaluate-alone .ensures)
+    (told-unknown y (at-n .n .given .0 .0) (at-n .n .given .1) (c .start-at .ensures) ofCondition)
 
 same-length-3 : tie.Need-same-length-3
 same-length-3 c = search needs
 
 returns-4 : tie.Need-returns-4
-returns-4 c = λ sheet a.
-    let y = its-truth a (c .before .before .before .before .before .before .before .condition .given .0 .0) (c .before .before .before .before .before .before .before .condition .given .1) (c .before .before .before .before .evaluate-alone .ensures) in
-    answered-condition a (c .before .before .before .before .before .before .before .condition .given .0 .0) (c .before .before .before .before .before .before .before .condition .given .1) (c .before .before .before .before .evaluate-alone .ensures) (told-no-id y (c .enum-told2 .given .1) ofCondition)
+returns-4 c =
+    let condition = c .before .before .before .before .before .before .before .condition in
+    λ sheet a. let y = its-truth a (condition .given .0 .0) (condition .given .1)
+    (c .before .before .before .before .evaluate-alone .ensures) in answered-condition a
+    (condition .given .0 .0) (condition .given .1)
+    (c .before .before .before .before .evaluate-alone .ensures)
+    (told-no-id y (c .enum-told2 .given .1) ofCondition)
 
 pub evaluate-call-spec : {M : Type 1} → statement M
 evaluate-call-spec =

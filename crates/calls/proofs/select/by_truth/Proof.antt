@@ -18,13 +18,21 @@ entry-requires : tie.Need-entry-requires
 entry-requires c κs = search needs
 
 returns : tie.Need-returns
-returns c = λ o w x g a. guard-takes (c .before .before .before .before .args .s .now) (c .before .before .before .before .args .work .now) (c .before .before .before .before .args .p .place) (o .name) a (c .enum-told .given .1)
+returns c =
+    let a1 = c .before .before .before .before .args in
+    λ o w x g a. guard-takes (a1 .s .now) (a1 .work .now) (a1 .p .place) (o .name) a (c .enum-told .given .1)
 
 returns-2 : tie.Need-returns-2
-returns-2 c = λ o w x g a. guard-passes (c .before .before .before .before .args .s .now) (c .before .before .before .before .args .work .now) (c .before .before .before .before .args .p .place) (o .name) a (c .enum-told2 .given .1)
+returns-2 c =
+    let a1 = c .before .before .before .before .args in
+    λ o w x g a. guard-passes (a1 .s .now) (a1 .work .now) (a1 .p .place) (o .name) a
+    (c .enum-told2 .given .1)
 
 returns-3 : tie.Need-returns-3
-returns-3 c = λ o w x g a. guard-stops (c .before .before .before .before .before .args .s .now) (c .before .before .before .before .before .args .work .now) (c .before .before .before .before .before .args .p .place) (o .name) a (c .before .enum-told3 .given .1) (c .entry .ensures o g)
+returns-3 c =
+    let a1 = c .before .before .before .before .before .args in
+    λ o w x g a. guard-stops (a1 .s .now) (a1 .work .now) (a1 .p .place) (o .name) a
+    (c .before .enum-told3 .given .1) (c .entry .ensures o g)
 
 pub by-truth-spec : {M : Type 1} → statement M
 by-truth-spec =

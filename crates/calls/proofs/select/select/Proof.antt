@@ -22,7 +22,9 @@ add-k : tie.Need-add-k Inv-loop μ-loop
 add-k c = omega (arith, room (c .before .before .before .before .pre .1 .known .outcomes .node) .1)
 
 loop-holds : tie.Need-loop-holds Inv-loop μ-loop
-loop-holds c = trying (c .before .before .before .before .pre .0) (c .before .before .before .before .pre .1) (c .after-at .ensures)
+loop-holds c =
+    let pre = c .before .before .before .before .pre in
+    trying (pre .0) (pre .1) (c .after-at .ensures)
 
 try-outcome-requires : tie.Need-try-outcome-requires Inv-loop μ-loop
 try-outcome-requires c κs = outcome-known (c .before .before .loop .inv) (c .before .loop-test .taken)
@@ -34,7 +36,10 @@ same-length : tie.Need-same-length Inv-loop μ-loop
 same-length c = search needs
 
 returns : tie.Need-returns Inv-loop μ-loop
-returns c = takes (c .before .before .before .before .before .before .before .loop .inv) (c .before .before .before .before .before .before .loop-test .taken) (c .before .before .before .before .try-outcome .ensures) (c .enum-told .given .1)
+returns c =
+    takes (c .before .before .before .before .before .before .before .loop .inv)
+    (c .before .before .before .before .before .before .loop-test .taken)
+    (c .before .before .before .before .try-outcome .ensures) (c .enum-told .given .1)
 
 enum-known-a : tie.Need-enum-known-a Inv-loop μ-loop
 enum-known-a c = search needs
@@ -43,22 +48,44 @@ same-length-2 : tie.Need-same-length-2 Inv-loop μ-loop
 same-length-2 c = search needs
 
 returns-2 : tie.Need-returns-2 Inv-loop μ-loop
-returns-2 c = refuses (c .before .before .before .before .before .before .before .before .loop .inv) (c .before .before .before .before .before .before .before .loop-test .taken) (c .before .before .before .before .before .try-outcome .ensures) (c .before .a .given .0 .0) (c .before .a .given .1)
+returns-2 c =
+    let at-try-outcome = c .before .before .before .before .before in
+    refuses (at-try-outcome .before .before .before .loop .inv)
+    (at-try-outcome .before .before .loop-test .taken) (at-try-outcome .try-outcome .ensures)
+    (c .before .a .given .0 .0) (c .before .a .given .1)
 
 enum-told-2 : tie.Need-enum-told-2 Inv-loop μ-loop
 enum-told-2 c = search needs
 
 add-i : tie.Need-add-i Inv-loop μ-loop
-add-i c = omega (arith, c .before .before .before .before .before .before .before .loop .inv .low, element-room (c .before .before .before .before .before .before .before .loop .inv .walking) (c .before .before .before .before .before .before .loop-test .taken) .1)
+add-i c =
+    let inv = c .before .before .before .before .before .before .before .loop .inv in
+    omega (
+      arith,
+      inv .low,
+      element-room (inv .walking) (c .before .before .before .before .before .before .loop-test .taken) .1,
+    )
 
 after-at-requires-2 : tie.Need-after-at-requires-2 Inv-loop μ-loop
-after-at-requires-2 c κs = room-after (c .before .before .before .before .before .before .before .before .loop .inv) (c .before .before .before .before .before .before .before .loop-test .taken) (c .before .before .before .before .before .try-outcome .ensures)
+after-at-requires-2 c κs =
+    let at-try-outcome = c .before .before .before .before .before in
+    room-after (at-try-outcome .before .before .before .loop .inv)
+    (at-try-outcome .before .before .loop-test .taken) (at-try-outcome .try-outcome .ensures)
 
 loop-less : tie.Need-loop-less Inv-loop μ-loop
-loop-less c = let f = falls-after (c .before .before .before .before .before .before .before .before .before .loop .inv) (c .before .before .before .before .before .before .before .before .loop-test .taken) (c .before .before .before .before .before .before .try-outcome .ensures) _ (c .after-at2 .ensures) in omega (arith, f .0, f .1)
+loop-less c =
+    let at-try-outcome = c .before .before .before .before .before .before in
+    let f = falls-after (at-try-outcome .before .before .before .loop .inv)
+    (at-try-outcome .before .before .loop-test .taken) (at-try-outcome .try-outcome .ensures) _
+    (c .after-at2 .ensures) in
+    omega (arith, f .0, f .1)
 
 loop-again : tie.Need-loop-again Inv-loop μ-loop
-loop-again c = tries-on (c .before .before .before .before .before .before .before .before .before .loop .inv) (c .before .before .before .before .before .before .before .before .loop-test .taken) (c .before .before .before .before .before .before .try-outcome .ensures) (c .before .before .enum-told2 .given .1) _ (c .after-at2 .ensures)
+loop-again c =
+    let at-try-outcome = c .before .before .before .before .before .before in
+    tries-on (at-try-outcome .before .before .before .loop .inv)
+    (at-try-outcome .before .before .loop-test .taken) (at-try-outcome .try-outcome .ensures)
+    (c .before .before .enum-told2 .given .1) _ (c .after-at2 .ensures)
 
 same-length-3 : tie.Need-same-length-3 Inv-loop μ-loop
 same-length-3 c = search needs

@@ -14,47 +14,88 @@ enum-known-when : tie.Need-enum-known-when
 enum-known-when c = search needs
 
 evaluate-alone-requires : tie.Need-evaluate-alone-requires
-evaluate-alone-requires c κs = (c .before .before .before .before .before .before .pre .0, c .before .before .before .before .before .before .pre .1, guard-there (c .before .before .before .before .before .before .args .s .now) (c .before .before .before .before .before .before .args .work .now) (c .before .before .when .given .0 .0) (c .before .before .when .given .1) (c .before .before .before .before .before .before .pre .2))
+evaluate-alone-requires c κs =
+    let at-start = c .before .before .before .before .before .before in (
+      at-start .pre .0,
+      at-start .pre .1,
+      guard-there (at-start .args .s .now) (at-start .args .work .now) (c .before .before .when .given .0 .0)
+          (c .before .before .when .given .1) (at-start .pre .2),
+    )
 
 enum-known-t : tie.Need-enum-known-t
 enum-known-t c = search needs
 
 by-truth-requires : tie.Need-by-truth-requires
 by-truth-requires c κs =
-    let g = guard-there (c .before .before .before .before .before .before .before .before .before .before .before .before .before .args .s .now) (c .before .before .before .before .before .before .before .before .before .before .before .before .before .args .work .now) (c .before .before .before .before .before .before .before .before .before .when .given .0 .0) (c .before .before .before .before .before .before .before .before .before .when .given .1) (c .before .before .before .before .before .before .before .before .before .before .before .before .before .pre .2) in
-    still-given (c .before .before .before .before .before .before .evaluate-alone .ensures (c .before .before .before .before .before .before .before .before .before .before .before .before .before .pre .1 .given) (g .given) (c .before .before .before .before .before .before .before .before .before .before .before .before .before .pre .1 .known) (g .known) .only) (c .before .before .before .before .before .before .before .before .before .before .before .before .before .pre .3)
+    let at-when = c .before .before .before .before .before .before .before .before .before in
+    let at-start = at-when .before .before .before .before in
+    let pre = at-start .pre in
+    let g = guard-there (at-start .args .s .now) (at-start .args .work .now) (at-when .when .given .0 .0)
+    (at-when .when .given .1) (pre .2) in
+    still-given
+    (c .before .before .before .before .before .before .evaluate-alone .ensures (pre .1 .given) (g .given)
+    (pre .1 .known) (g .known) .only) (pre .3)
 
 enum-known-e : tie.Need-enum-known-e
 enum-known-e c = search needs
 
 start-at-requires : tie.Need-start-at-requires
 start-at-requires c κs =
-    let g = guard-there (c .before .before .before .before .before .before .before .before .before .before .before .before .before .args .s .now) (c .before .before .before .before .before .before .before .before .before .before .before .before .before .args .work .now) (c .before .before .before .before .before .before .before .before .before .when .given .0 .0) (c .before .before .before .before .before .before .before .before .before .when .given .1) (c .before .before .before .before .before .before .before .before .before .before .before .before .before .pre .2) in
-    expression-room (c .before .before .before .before .before .before .evaluate-alone .ensures (c .before .before .before .before .before .before .before .before .before .before .before .before .before .pre .1 .given) (g .given) (c .before .before .before .before .before .before .before .before .before .before .before .before .before .pre .1 .known) (g .known)) (c .before .before .e .given .0 .0) (c .before .before .e .given .1) (c .before .before .before .before .before .before .before .before .before .before .before .before .before .pre .0)
+    let at-e = c .before .before in
+    let at-when = at-e .before .before .before .before .before .before .before in
+    let at-start = at-when .before .before .before .before in
+    let pre = at-start .pre in
+    let g = guard-there (at-start .args .s .now) (at-start .args .work .now) (at-when .when .given .0 .0)
+    (at-when .when .given .1) (pre .2) in
+    expression-room
+    (at-e .before .before .before .before .evaluate-alone .ensures (pre .1 .given) (g .given) (pre .1 .known)
+    (g .known)) (at-e .e .given .0 .0) (at-e .e .given .1) (pre .0)
 
 enum-told-2 : tie.Need-enum-told-2
 enum-told-2 c = search needs
 
 returns : tie.Need-returns
-returns c = λ sheet d o a g h. no-guard (c .before .before .before .before .args .s .now) (c .before .before .before .before .args .work .now) sheet d (c .before .before .before .before .args .p .place) o g (c .enum-told .given .1)
+returns c =
+    let a1 = c .before .before .before .before .args in
+    λ sheet d o a g h. no-guard (a1 .s .now) (a1 .work .now) sheet d (a1 .p .place) o g
+    (c .enum-told .given .1)
 
 same-length : tie.Need-same-length
 same-length c = search needs
 
 returns-2 : tie.Need-returns-2
-returns-2 c = λ sheet d o a g h. by-judged (c .before .before .before .before .before .before .before .before .before .before .before .before .before .before .args .s .now) (c .before .before .before .before .before .before .before .before .before .before .before .before .before .before .args .work .now) sheet d (c .before .before .before .before .before .before .before .before .before .before .before .before .before .before .args .p .place) o g (c .before .before .before .before .before .before .before .before .before .before .when .given .0 .0) (c .before .before .before .before .before .before .before .before .before .before .when .given .1) (λ e i. c .before .before .before .before .before .before .before .evaluate-alone .ensures sheet e a i) h (c .before .before .before .t .given .0 .0) (c .before .before .before .t .given .1) (c .by-truth .ensures)
+returns-2 c =
+    let at-t = c .before .before .before in
+    let at-when = at-t .before .before .before .before .before .before .before in
+    let a1 = at-when .before .before .before .before .args in
+    λ sheet d o a g h. by-judged (a1 .s .now) (a1 .work .now) sheet d (a1 .p .place) o g
+    (at-when .when .given .0 .0) (at-when .when .given .1)
+    (λ e i. at-t .before .before .before .before .evaluate-alone .ensures sheet e a i) h
+    (at-t .t .given .0 .0) (at-t .t .given .1) (c .by-truth .ensures)
 
 same-length-2 : tie.Need-same-length-2
 same-length-2 c = search needs
 
 returns-3 : tie.Need-returns-3
-returns-3 c = λ sheet d o a g h. stops-expression (c .before .before .before .before .before .before .before .before .before .before .before .before .before .before .args .s .now) (c .before .before .before .before .before .before .before .before .before .before .before .before .before .before .args .work .now) sheet d (c .before .before .before .before .before .before .before .before .before .before .before .before .before .before .args .p .place) o g (c .before .before .before .before .before .before .before .before .before .before .when .given .0 .0) (c .before .before .before .before .before .before .before .before .before .before .when .given .1) (λ e i. c .before .before .before .before .before .before .before .evaluate-alone .ensures sheet e a i) (c .before .before .before .e .given .0 .0) (c .before .before .before .e .given .1) (c .start-at .ensures)
+returns-3 c =
+    let at-e = c .before .before .before in
+    let at-when = at-e .before .before .before .before .before .before .before in
+    let a1 = at-when .before .before .before .before .args in
+    λ sheet d o a g h. stops-expression (a1 .s .now) (a1 .work .now) sheet d (a1 .p .place) o g
+    (at-when .when .given .0 .0) (at-when .when .given .1)
+    (λ e i. at-e .before .before .before .before .evaluate-alone .ensures sheet e a i) (at-e .e .given .0 .0)
+    (at-e .e .given .1) (c .start-at .ensures)
 
 same-length-3 : tie.Need-same-length-3
 same-length-3 c = search needs
 
 returns-4 : tie.Need-returns-4
-returns-4 c = λ sheet d o a g h. stops-no-id (c .before .before .before .before .before .before .before .before .before .before .before .args .s .now) (c .before .before .before .before .before .before .before .before .before .before .before .args .work .now) sheet d (c .before .before .before .before .before .before .before .before .before .before .before .args .p .place) o g (c .before .before .before .before .before .before .before .when .given .0 .0) (c .before .before .before .before .before .before .before .when .given .1) (λ e i. c .before .before .before .before .evaluate-alone .ensures sheet e a i) (c .enum-told2 .given .1)
+returns-4 c =
+    let at-when = c .before .before .before .before .before .before .before in
+    let a1 = at-when .before .before .before .before .args in
+    λ sheet d o a g h. stops-no-id (a1 .s .now) (a1 .work .now) sheet d (a1 .p .place) o g
+    (at-when .when .given .0 .0) (at-when .when .given .1)
+    (λ e i. c .before .before .before .before .evaluate-alone .ensures sheet e a i) (c .enum-told2 .given .1)
 
 pub try-guard-spec : {M : Type 1} → statement M
 try-guard-spec =

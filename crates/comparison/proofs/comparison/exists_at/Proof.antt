@@ -26,25 +26,41 @@ same-length : tie.Need-same-length
 same-length c = c .before .before .before .before .before .resolve .ensures .left .long
 
 returns : tie.Need-returns
-returns c = exists-true (sheetIn (c .before .before .before .before .before .before .before .before .before .args .s .now)) (framesOf (c .before .before .before .before .before .before .before .before .before .args .s .now) (table (c .before .before .before .before .before .before .before .before .before .args .work .now)) (c .before .before .before .before .before .before .before .before .before .args .frames)) (tree (c .before .before .before .before .before .before .before .before .before .args .s .now) (table (c .before .before .before .before .before .before .before .before .before .args .work .now)) (c .before .before .before .before .before .before .before .before .before .args .node)) (c .before .before .before .before .before .resolve .ensures) _ (c .before .-o .given .1)
+returns c =
+    let a = c .before .before .before .before .before .before .before .before .before .args in
+    exists-true (sheetIn (a .s .now)) (framesOf (a .s .now) (table (a .work .now)) (a .frames))
+    (tree (a .s .now) (table (a .work .now)) (a .node))
+    (c .before .before .before .before .before .resolve .ensures) _ (c .before .-o .given .1)
 
 same-length-2 : tie.Need-same-length-2
 same-length-2 c = c .before .before .before .before .resolve .ensures .left .long
 
 returns-2 : tie.Need-returns-2
-returns-2 c = exists-false (sheetIn (c .before .before .before .before .before .before .before .before .args .s .now)) (framesOf (c .before .before .before .before .before .before .before .before .args .s .now) (table (c .before .before .before .before .before .before .before .before .args .work .now)) (c .before .before .before .before .before .before .before .before .args .frames)) (tree (c .before .before .before .before .before .before .before .before .args .s .now) (table (c .before .before .before .before .before .before .before .before .args .work .now)) (c .before .before .before .before .before .before .before .before .args .node)) (c .before .before .before .before .resolve .ensures) (c .enum-told .given .1)
+returns-2 c =
+    let a = c .before .before .before .before .before .before .before .before .args in
+    exists-false (sheetIn (a .s .now)) (framesOf (a .s .now) (table (a .work .now)) (a .frames))
+    (tree (a .s .now) (table (a .work .now)) (a .node)) (c .before .before .before .before .resolve .ensures)
+    (c .enum-told .given .1)
 
 same-length-3 : tie.Need-same-length-3
 same-length-3 c = c .before .before .before .before .before .resolve .ensures .left .long
 
 returns-3 : tie.Need-returns-3
-returns-3 c = unknown-first (c .before .before .before .before .before .resolve .ensures) _ (c .before .n .given .1) (exists-refused (sheetIn (c .before .before .before .before .before .before .before .before .before .args .s .now)) (framesOf (c .before .before .before .before .before .before .before .before .before .args .s .now) (table (c .before .before .before .before .before .before .before .before .before .args .work .now)) (c .before .before .before .before .before .before .before .before .before .args .frames)) (tree (c .before .before .before .before .before .before .before .before .before .args .s .now) (table (c .before .before .before .before .before .before .before .before .before .args .work .now)) (c .before .before .before .before .before .before .before .before .before .args .node)))
+returns-3 c =
+    let a = c .before .before .before .before .before .before .before .before .before .args in
+    unknown-first (c .before .before .before .before .before .resolve .ensures) _ (c .before .n .given .1)
+    (exists-refused (sheetIn (a .s .now)) (framesOf (a .s .now) (table (a .work .now)) (a .frames))
+    (tree (a .s .now) (table (a .work .now)) (a .node)))
 
 same-length-4 : tie.Need-same-length-4
 same-length-4 c = c .before .before .before .before .resolve .ensures .left .long
 
 returns-4 : tie.Need-returns-4
-returns-4 c = no-id-first (c .before .before .before .before .resolve .ensures) (c .enum-told2 .given .1) (exists-refused (sheetIn (c .before .before .before .before .before .before .before .before .args .s .now)) (framesOf (c .before .before .before .before .before .before .before .before .args .s .now) (table (c .before .before .before .before .before .before .before .before .args .work .now)) (c .before .before .before .before .before .before .before .before .args .frames)) (tree (c .before .before .before .before .before .before .before .before .args .s .now) (table (c .before .before .before .before .before .before .before .before .args .work .now)) (c .before .before .before .before .before .before .before .before .args .node)))
+returns-4 c =
+    let a = c .before .before .before .before .before .before .before .before .args in
+    no-id-first (c .before .before .before .before .resolve .ensures) (c .enum-told2 .given .1)
+    (exists-refused (sheetIn (a .s .now)) (framesOf (a .s .now) (table (a .work .now)) (a .frames))
+    (tree (a .s .now) (table (a .work .now)) (a .node)))
 
 pub exists-at-spec : {M : Type 1} → statement M
 exists-at-spec =

@@ -7,11 +7,26 @@ use mathlib.Core.Path.{_∙_}
 use Rattle.members.specs.Sheet.{sheetIn}
 use Rattle.paths.specs.Stored.{framesOf, table, tree}
 use Rattle.members.specs.Answers.{formOf}
-use Rattle.comparison.proofs.Judging.{both-missing, both-present, is-present, left-missing, left-then-no-id, left-then-unknown, no-id-first, pair-refused, right-missing, right-no-id, right-unknown, unknown-first}
+use Rattle.comparison.proofs.Judging.{
+  both-missing,
+  both-present,
+  is-present,
+  left-missing,
+  left-then-no-id,
+  left-then-unknown,
+  no-id-first,
+  pair-refused,
+  right-missing,
+  right-no-id,
+  right-unknown,
+  unknown-first,
+}
 use Rattle.resolving.proofs.Marking.{ready-after}
 
 resolve-requires : tie.Need-resolve-requires
-resolve-requires c κs = (c .before .before .before .pre .0, c .before .before .before .pre .1, c .before .before .before .pre .3)
+resolve-requires c κs =
+    let pre = c .before .before .before .pre in
+    (pre .0, pre .1, pre .3)
 
 enum-known-k : tie.Need-enum-known-k
 enum-known-k c = search needs
@@ -23,13 +38,28 @@ enum-known-a : tie.Need-enum-known-a
 enum-known-a c = search needs
 
 resolve-requires-2 : tie.Need-resolve-requires-2
-resolve-requires-2 c κs = (ready-after (c .before .before .before .before .before .before .before .before .before .before .pre .0) (c .before .before .before .before .before .before .resolve .ensures .left), rw (c .before .before .before .before .before .before .resolve .ensures .left .rows) (c .before .before .before .before .before .before .before .before .before .before .pre .2), rw (c .before .before .before .before .before .before .resolve .ensures .left .rows) (c .before .before .before .before .before .before .before .before .before .before .pre .4))
+resolve-requires-2 c κs =
+    let at-resolve = c .before .before .before .before .before .before in
+    let rows = at-resolve .resolve .ensures .left .rows in
+    let pre = at-resolve .before .before .before .before .pre in
+    (ready-after (pre .0) (at-resolve .resolve .ensures .left), rw rows (pre .2), rw rows (pre .4))
 
 enum-known-b : tie.Need-enum-known-b
 enum-known-b c = search needs
 
 judged-requires : tie.Need-judged-requires
-judged-requires c κs = (ready-after (ready-after (c .before .before .before .before .before .before .before .before .before .before .before .before .before .before .before .before .before .pre .0) (c .before .before .before .before .before .before .before .before .before .before .before .before .before .resolve .ensures .left)) (c .before .before .before .before .before .before .resolve2 .ensures .left), rw (c .before .before .before .before .before .before .resolve2 .ensures .left .rows ∙ c .before .before .before .before .before .before .before .before .before .before .before .before .before .resolve .ensures .left .rows) (is-present (c .before .before .before .before .before .before .before .before .before .before .before .before .before .resolve .ensures) _ (c .before .before .before .before .before .before .before .before .before .a .given .1) .1), rw (c .before .before .before .before .before .before .resolve2 .ensures .left .rows) (is-present (c .before .before .before .before .before .before .resolve2 .ensures) _ (c .before .before .b .given .1) .1))
+judged-requires c κs =
+    let at-resolve2 = c .before .before .before .before .before .before in
+    let at-a = at-resolve2 .before .before .before in
+    let rows = at-resolve2 .resolve2 .ensures .left .rows in
+    let at-resolve = at-a .before .before .before .before in (
+      ready-after
+          (ready-after (at-resolve .before .before .before .before .pre .0) (at-resolve .resolve .ensures .left))
+          (at-resolve2 .resolve2 .ensures .left),
+      rw (rows ∙ at-resolve .resolve .ensures .left .rows)
+          (is-present (at-resolve .resolve .ensures) _ (at-a .a .given .1) .1),
+      rw rows (is-present (at-resolve2 .resolve2 .ensures) _ (c .before .before .b .given .1) .1),
+    )
 
 enum-told-2 : tie.Need-enum-told-2
 enum-told-2 c = search needs
@@ -44,7 +74,10 @@ enum-told-4 : tie.Need-enum-told-4
 enum-told-4 c = search needs
 
 resolve-requires-3 : tie.Need-resolve-requires-3
-resolve-requires-3 c κs = (ready-after (c .before .before .before .before .before .before .before .before .before .pre .0) (c .before .before .before .before .before .resolve .ensures .left), rw (c .before .before .before .before .before .resolve .ensures .left .rows) (c .before .before .before .before .before .before .before .before .before .pre .2), rw (c .before .before .before .before .before .resolve .ensures .left .rows) (c .before .before .before .before .before .before .before .before .before .pre .4))
+resolve-requires-3 c κs =
+    let resolve-left = c .before .before .before .before .before .resolve .ensures .left in
+    let pre = c .before .before .before .before .before .before .before .before .before .pre in
+    (ready-after (pre .0) resolve-left, rw (resolve-left .rows) (pre .2), rw (resolve-left .rows) (pre .4))
 
 enum-known--b : tie.Need-enum-known--b
 enum-known--b c = search needs
@@ -62,61 +95,160 @@ same-length : tie.Need-same-length
 same-length c = c .before .before .before .before .before .resolve .ensures .left .long
 
 returns : tie.Need-returns
-returns c = unknown-first (c .before .before .before .before .before .resolve .ensures) _ (c .before .k .given .1) (pair-refused (sheetIn (c .before .before .before .before .before .before .before .before .before .args .s .now)) (framesOf (c .before .before .before .before .before .before .before .before .before .args .s .now) (table (c .before .before .before .before .before .before .before .before .before .args .work .now)) (c .before .before .before .before .before .before .before .before .before .args .frames)) (formOf (c .before .before .before .before .before .before .before .before .before .args .form)) (tree (c .before .before .before .before .before .before .before .before .before .args .s .now) (table (c .before .before .before .before .before .before .before .before .before .args .work .now)) (c .before .before .before .before .before .before .before .before .before .args .m)) (tree (c .before .before .before .before .before .before .before .before .before .args .s .now) (table (c .before .before .before .before .before .before .before .before .before .args .work .now)) (c .before .before .before .before .before .before .before .before .before .args .n)))
+returns c =
+    let a = c .before .before .before .before .before .before .before .before .before .args in
+    let s = a .s .now in
+    unknown-first (c .before .before .before .before .before .resolve .ensures) _ (c .before .k .given .1)
+    (pair-refused (sheetIn s) (framesOf s (table (a .work .now)) (a .frames)) (formOf (a .form))
+    (tree s (table (a .work .now)) (a .m)) (tree s (table (a .work .now)) (a .n)))
 
 same-length-2 : tie.Need-same-length-2
 same-length-2 c = c .before .before .before .before .resolve .ensures .left .long
 
 returns-2 : tie.Need-returns-2
-returns-2 c = no-id-first (c .before .before .before .before .resolve .ensures) (c .enum-told .given .1) (pair-refused (sheetIn (c .before .before .before .before .before .before .before .before .args .s .now)) (framesOf (c .before .before .before .before .before .before .before .before .args .s .now) (table (c .before .before .before .before .before .before .before .before .args .work .now)) (c .before .before .before .before .before .before .before .before .args .frames)) (formOf (c .before .before .before .before .before .before .before .before .args .form)) (tree (c .before .before .before .before .before .before .before .before .args .s .now) (table (c .before .before .before .before .before .before .before .before .args .work .now)) (c .before .before .before .before .before .before .before .before .args .m)) (tree (c .before .before .before .before .before .before .before .before .args .s .now) (table (c .before .before .before .before .before .before .before .before .args .work .now)) (c .before .before .before .before .before .before .before .before .args .n)))
+returns-2 c =
+    let a = c .before .before .before .before .before .before .before .before .args in
+    let s = a .s .now in
+    no-id-first (c .before .before .before .before .resolve .ensures) (c .enum-told .given .1)
+    (pair-refused (sheetIn s) (framesOf s (table (a .work .now)) (a .frames)) (formOf (a .form))
+    (tree s (table (a .work .now)) (a .m)) (tree s (table (a .work .now)) (a .n)))
 
 same-length-3 : tie.Need-same-length-3
-same-length-3 c = c .before .before .before .before .before .before .before .resolve2 .ensures .left .long ∙ c .before .before .before .before .before .before .before .before .before .before .before .before .before .before .resolve .ensures .left .long
+same-length-3 c =
+    let at-resolve2 = c .before .before .before .before .before .before .before in
+    at-resolve2 .resolve2 .ensures .left .long ∙
+    at-resolve2 .before .before .before .before .before .before .before .resolve .ensures .left .long
 
 returns-3 : tie.Need-returns-3
-returns-3 c = both-present (sheetIn (c .before .before .before .before .before .before .before .before .before .before .before .before .before .before .before .before .before .before .args .s .now)) (framesOf (c .before .before .before .before .before .before .before .before .before .before .before .before .before .before .before .before .before .before .args .s .now) (table (c .before .before .before .before .before .before .before .before .before .before .before .before .before .before .before .before .before .before .args .work .now)) (c .before .before .before .before .before .before .before .before .before .before .before .before .before .before .before .before .before .before .args .frames)) (formOf (c .before .before .before .before .before .before .before .before .before .before .before .before .before .before .before .before .before .before .args .form)) (tree (c .before .before .before .before .before .before .before .before .before .before .before .before .before .before .before .before .before .before .args .s .now) (table (c .before .before .before .before .before .before .before .before .before .before .before .before .before .before .before .before .before .before .args .work .now)) (c .before .before .before .before .before .before .before .before .before .before .before .before .before .before .before .before .before .before .args .m)) (tree (c .before .before .before .before .before .before .before .before .before .before .before .before .before .before .before .before .before .before .args .s .now) (table (c .before .before .before .before .before .before .before .before .before .before .before .before .before .before .before .before .before .before .args .work .now)) (c .before .before .before .before .before .before .before .before .before .before .before .before .before .before .before .before .before .before .args .n)) (c .before .before .before .before .before .before .before .before .before .before .before .before .before .before .resolve .ensures) (rw (c .before .before .before .before .before .before .before .before .before .before .before .before .before .before .resolve .ensures .left .rows) at (c .before .before .before .before .before .before .before .resolve2 .ensures)) _ (c .before .before .before .before .before .before .before .before .before .before .a .given .1) _ (c .before .before .before .b .given .1) (rw (c .before .before .before .before .before .before .before .resolve2 .ensures .left .rows ∙ c .before .before .before .before .before .before .before .before .before .before .before .before .before .before .resolve .ensures .left .rows) at (c .judged .ensures))
+returns-3 c =
+    let at-resolve2 = c .before .before .before .before .before .before .before in
+    let at-a = at-resolve2 .before .before .before in
+    let resolve = at-a .before .before .before .before .resolve in
+    let a = at-a .before .before .before .before .before .before .before .before .args in
+    let s = a .s .now in
+    both-present (sheetIn s) (framesOf s (table (a .work .now)) (a .frames)) (formOf (a .form))
+    (tree s (table (a .work .now)) (a .m)) (tree s (table (a .work .now)) (a .n)) (resolve .ensures)
+    (rw (resolve .ensures .left .rows) at (at-resolve2 .resolve2 .ensures)) _ (at-a .a .given .1) _
+    (c .before .before .before .b .given .1)
+    (rw (at-resolve2 .resolve2 .ensures .left .rows ∙ resolve .ensures .left .rows) at (c .judged .ensures))
 
 same-length-4 : tie.Need-same-length-4
-same-length-4 c = c .before .before .before .before .resolve2 .ensures .left .long ∙ c .before .before .before .before .before .before .before .before .before .before .before .resolve .ensures .left .long
+same-length-4 c =
+    c .before .before .before .before .resolve2 .ensures .left .long ∙ c .before .before .before .before
+    .before .before .before .before .before .before .before .resolve .ensures .left .long
 
 returns-4 : tie.Need-returns-4
-returns-4 c = right-missing (sheetIn (c .before .before .before .before .before .before .before .before .before .before .before .before .before .before .before .args .s .now)) (framesOf (c .before .before .before .before .before .before .before .before .before .before .before .before .before .before .before .args .s .now) (table (c .before .before .before .before .before .before .before .before .before .before .before .before .before .before .before .args .work .now)) (c .before .before .before .before .before .before .before .before .before .before .before .before .before .before .before .args .frames)) (formOf (c .before .before .before .before .before .before .before .before .before .before .before .before .before .before .before .args .form)) (tree (c .before .before .before .before .before .before .before .before .before .before .before .before .before .before .before .args .s .now) (table (c .before .before .before .before .before .before .before .before .before .before .before .before .before .before .before .args .work .now)) (c .before .before .before .before .before .before .before .before .before .before .before .before .before .before .before .args .m)) (tree (c .before .before .before .before .before .before .before .before .before .before .before .before .before .before .before .args .s .now) (table (c .before .before .before .before .before .before .before .before .before .before .before .before .before .before .before .args .work .now)) (c .before .before .before .before .before .before .before .before .before .before .before .before .before .before .before .args .n)) (c .before .before .before .before .before .before .before .before .before .before .before .resolve .ensures) (rw (c .before .before .before .before .before .before .before .before .before .before .before .resolve .ensures .left .rows) at (c .before .before .before .before .resolve2 .ensures)) _ (c .before .before .before .before .before .before .before .a .given .1) (c .enum-told2 .given .1)
+returns-4 c =
+    let at-a = c .before .before .before .before .before .before .before in
+    let at-resolve = at-a .before .before .before .before in
+    let a = at-resolve .before .before .before .before .args in
+    let s = a .s .now in
+    right-missing (sheetIn s) (framesOf s (table (a .work .now)) (a .frames)) (formOf (a .form))
+    (tree s (table (a .work .now)) (a .m)) (tree s (table (a .work .now)) (a .n))
+    (at-resolve .resolve .ensures)
+    (rw (at-resolve .resolve .ensures .left .rows) at (c .before .before .before .before .resolve2 .ensures))
+    _ (at-a .a .given .1) (c .enum-told2 .given .1)
 
 same-length-5 : tie.Need-same-length-5
-same-length-5 c = c .before .before .before .before .before .resolve2 .ensures .left .long ∙ c .before .before .before .before .before .before .before .before .before .before .before .before .resolve .ensures .left .long
+same-length-5 c =
+    c .before .before .before .before .before .resolve2 .ensures .left .long ∙ c .before .before .before
+    .before .before .before .before .before .before .before .before .before .resolve .ensures .left .long
 
 returns-5 : tie.Need-returns-5
-returns-5 c = right-unknown (sheetIn (c .before .before .before .before .before .before .before .before .before .before .before .before .before .before .before .before .args .s .now)) (framesOf (c .before .before .before .before .before .before .before .before .before .before .before .before .before .before .before .before .args .s .now) (table (c .before .before .before .before .before .before .before .before .before .before .before .before .before .before .before .before .args .work .now)) (c .before .before .before .before .before .before .before .before .before .before .before .before .before .before .before .before .args .frames)) (formOf (c .before .before .before .before .before .before .before .before .before .before .before .before .before .before .before .before .args .form)) (tree (c .before .before .before .before .before .before .before .before .before .before .before .before .before .before .before .before .args .s .now) (table (c .before .before .before .before .before .before .before .before .before .before .before .before .before .before .before .before .args .work .now)) (c .before .before .before .before .before .before .before .before .before .before .before .before .before .before .before .before .args .m)) (tree (c .before .before .before .before .before .before .before .before .before .before .before .before .before .before .before .before .args .s .now) (table (c .before .before .before .before .before .before .before .before .before .before .before .before .before .before .before .before .args .work .now)) (c .before .before .before .before .before .before .before .before .before .before .before .before .before .before .before .before .args .n)) (c .before .before .before .before .before .before .before .before .before .before .before .before .resolve .ensures) (rw (c .before .before .before .before .before .before .before .before .before .before .before .before .resolve .ensures .left .rows) at (c .before .before .before .before .before .resolve2 .ensures)) _ (c .before .before .before .before .before .before .before .before .a .given .1) _ (c .before .k2 .given .1)
+returns-5 c =
+    let at-a = c .before .before .before .before .before .before .before .before in
+    let at-resolve = at-a .before .before .before .before in
+    let a = at-resolve .before .before .before .before .args in
+    let s = a .s .now in
+    right-unknown (sheetIn s) (framesOf s (table (a .work .now)) (a .frames)) (formOf (a .form))
+    (tree s (table (a .work .now)) (a .m)) (tree s (table (a .work .now)) (a .n))
+    (at-resolve .resolve .ensures)
+    (rw (at-resolve .resolve .ensures .left .rows) at
+    (c .before .before .before .before .before .resolve2 .ensures)) _ (at-a .a .given .1) _
+    (c .before .k2 .given .1)
 
 same-length-6 : tie.Need-same-length-6
-same-length-6 c = c .before .before .before .before .resolve2 .ensures .left .long ∙ c .before .before .before .before .before .before .before .before .before .before .before .resolve .ensures .left .long
+same-length-6 c =
+    c .before .before .before .before .resolve2 .ensures .left .long ∙ c .before .before .before .before
+    .before .before .before .before .before .before .before .resolve .ensures .left .long
 
 returns-6 : tie.Need-returns-6
-returns-6 c = right-no-id (sheetIn (c .before .before .before .before .before .before .before .before .before .before .before .before .before .before .before .args .s .now)) (framesOf (c .before .before .before .before .before .before .before .before .before .before .before .before .before .before .before .args .s .now) (table (c .before .before .before .before .before .before .before .before .before .before .before .before .before .before .before .args .work .now)) (c .before .before .before .before .before .before .before .before .before .before .before .before .before .before .before .args .frames)) (formOf (c .before .before .before .before .before .before .before .before .before .before .before .before .before .before .before .args .form)) (tree (c .before .before .before .before .before .before .before .before .before .before .before .before .before .before .before .args .s .now) (table (c .before .before .before .before .before .before .before .before .before .before .before .before .before .before .before .args .work .now)) (c .before .before .before .before .before .before .before .before .before .before .before .before .before .before .before .args .m)) (tree (c .before .before .before .before .before .before .before .before .before .before .before .before .before .before .before .args .s .now) (table (c .before .before .before .before .before .before .before .before .before .before .before .before .before .before .before .args .work .now)) (c .before .before .before .before .before .before .before .before .before .before .before .before .before .before .before .args .n)) (c .before .before .before .before .before .before .before .before .before .before .before .resolve .ensures) (rw (c .before .before .before .before .before .before .before .before .before .before .before .resolve .ensures .left .rows) at (c .before .before .before .before .resolve2 .ensures)) _ (c .before .before .before .before .before .before .before .a .given .1) (c .enum-told3 .given .1)
+returns-6 c =
+    let at-a = c .before .before .before .before .before .before .before in
+    let at-resolve = at-a .before .before .before .before in
+    let a = at-resolve .before .before .before .before .args in
+    let s = a .s .now in
+    right-no-id (sheetIn s) (framesOf s (table (a .work .now)) (a .frames)) (formOf (a .form))
+    (tree s (table (a .work .now)) (a .m)) (tree s (table (a .work .now)) (a .n))
+    (at-resolve .resolve .ensures)
+    (rw (at-resolve .resolve .ensures .left .rows) at (c .before .before .before .before .resolve2 .ensures))
+    _ (at-a .a .given .1) (c .enum-told3 .given .1)
 
 same-length-7 : tie.Need-same-length-7
-same-length-7 c = c .before .before .before .before .before .resolve3 .ensures .left .long ∙ c .before .before .before .before .before .before .before .before .before .before .before .resolve .ensures .left .long
+same-length-7 c =
+    c .before .before .before .before .before .resolve3 .ensures .left .long ∙ c .before .before .before
+    .before .before .before .before .before .before .before .before .resolve .ensures .left .long
 
 returns-7 : tie.Need-returns-7
-returns-7 c = left-missing (sheetIn (c .before .before .before .before .before .before .before .before .before .before .before .before .before .before .before .args .s .now)) (framesOf (c .before .before .before .before .before .before .before .before .before .before .before .before .before .before .before .args .s .now) (table (c .before .before .before .before .before .before .before .before .before .before .before .before .before .before .before .args .work .now)) (c .before .before .before .before .before .before .before .before .before .before .before .before .before .before .before .args .frames)) (formOf (c .before .before .before .before .before .before .before .before .before .before .before .before .before .before .before .args .form)) (tree (c .before .before .before .before .before .before .before .before .before .before .before .before .before .before .before .args .s .now) (table (c .before .before .before .before .before .before .before .before .before .before .before .before .before .before .before .args .work .now)) (c .before .before .before .before .before .before .before .before .before .before .before .before .before .before .before .args .m)) (tree (c .before .before .before .before .before .before .before .before .before .before .before .before .before .before .before .args .s .now) (table (c .before .before .before .before .before .before .before .before .before .before .before .before .before .before .before .args .work .now)) (c .before .before .before .before .before .before .before .before .before .before .before .before .before .before .before .args .n)) (c .before .before .before .before .before .before .before .before .before .before .before .resolve .ensures) (rw (c .before .before .before .before .before .before .before .before .before .before .before .resolve .ensures .left .rows) at (c .before .before .before .before .before .resolve3 .ensures)) (c .before .before .before .before .before .before .before .enum-told4 .given .1) _ (c .before .-b .given .1)
+returns-7 c =
+    let at-resolve3 = c .before .before .before .before .before in
+    let at-resolve = at-resolve3 .before .before .before .before .before .before in
+    let a = at-resolve .before .before .before .before .args in
+    let s = a .s .now in
+    left-missing (sheetIn s) (framesOf s (table (a .work .now)) (a .frames)) (formOf (a .form))
+    (tree s (table (a .work .now)) (a .m)) (tree s (table (a .work .now)) (a .n))
+    (at-resolve .resolve .ensures)
+    (rw (at-resolve .resolve .ensures .left .rows) at (at-resolve3 .resolve3 .ensures))
+    (at-resolve3 .before .before .enum-told4 .given .1) _ (c .before .-b .given .1)
 
 same-length-8 : tie.Need-same-length-8
-same-length-8 c = c .before .before .before .before .resolve3 .ensures .left .long ∙ c .before .before .before .before .before .before .before .before .before .before .resolve .ensures .left .long
+same-length-8 c =
+    c .before .before .before .before .resolve3 .ensures .left .long ∙ c .before .before .before .before
+    .before .before .before .before .before .before .resolve .ensures .left .long
 
 returns-8 : tie.Need-returns-8
-returns-8 c = both-missing (sheetIn (c .before .before .before .before .before .before .before .before .before .before .before .before .before .before .args .s .now)) (framesOf (c .before .before .before .before .before .before .before .before .before .before .before .before .before .before .args .s .now) (table (c .before .before .before .before .before .before .before .before .before .before .before .before .before .before .args .work .now)) (c .before .before .before .before .before .before .before .before .before .before .before .before .before .before .args .frames)) (formOf (c .before .before .before .before .before .before .before .before .before .before .before .before .before .before .args .form)) (tree (c .before .before .before .before .before .before .before .before .before .before .before .before .before .before .args .s .now) (table (c .before .before .before .before .before .before .before .before .before .before .before .before .before .before .args .work .now)) (c .before .before .before .before .before .before .before .before .before .before .before .before .before .before .args .m)) (tree (c .before .before .before .before .before .before .before .before .before .before .before .before .before .before .args .s .now) (table (c .before .before .before .before .before .before .before .before .before .before .before .before .before .before .args .work .now)) (c .before .before .before .before .before .before .before .before .before .before .before .before .before .before .args .n)) (c .before .before .before .before .before .before .before .before .before .before .resolve .ensures) (rw (c .before .before .before .before .before .before .before .before .before .before .resolve .ensures .left .rows) at (c .before .before .before .before .resolve3 .ensures)) (c .before .before .before .before .before .before .enum-told4 .given .1) (c .enum-told5 .given .1)
+returns-8 c =
+    let at-resolve = c .before .before .before .before .before .before .before .before .before .before in
+    let a = at-resolve .before .before .before .before .args in
+    let s = a .s .now in
+    both-missing (sheetIn s) (framesOf s (table (a .work .now)) (a .frames)) (formOf (a .form))
+    (tree s (table (a .work .now)) (a .m)) (tree s (table (a .work .now)) (a .n))
+    (at-resolve .resolve .ensures)
+    (rw (at-resolve .resolve .ensures .left .rows) at (c .before .before .before .before .resolve3 .ensures))
+    (c .before .before .before .before .before .before .enum-told4 .given .1) (c .enum-told5 .given .1)
 
 same-length-9 : tie.Need-same-length-9
-same-length-9 c = c .before .before .before .before .before .resolve3 .ensures .left .long ∙ c .before .before .before .before .before .before .before .before .before .before .before .resolve .ensures .left .long
+same-length-9 c =
+    c .before .before .before .before .before .resolve3 .ensures .left .long ∙ c .before .before .before
+    .before .before .before .before .before .before .before .before .resolve .ensures .left .long
 
 returns-9 : tie.Need-returns-9
-returns-9 c = left-then-unknown (sheetIn (c .before .before .before .before .before .before .before .before .before .before .before .before .before .before .before .args .s .now)) (framesOf (c .before .before .before .before .before .before .before .before .before .before .before .before .before .before .before .args .s .now) (table (c .before .before .before .before .before .before .before .before .before .before .before .before .before .before .before .args .work .now)) (c .before .before .before .before .before .before .before .before .before .before .before .before .before .before .before .args .frames)) (formOf (c .before .before .before .before .before .before .before .before .before .before .before .before .before .before .before .args .form)) (tree (c .before .before .before .before .before .before .before .before .before .before .before .before .before .before .before .args .s .now) (table (c .before .before .before .before .before .before .before .before .before .before .before .before .before .before .before .args .work .now)) (c .before .before .before .before .before .before .before .before .before .before .before .before .before .before .before .args .m)) (tree (c .before .before .before .before .before .before .before .before .before .before .before .before .before .before .before .args .s .now) (table (c .before .before .before .before .before .before .before .before .before .before .before .before .before .before .before .args .work .now)) (c .before .before .before .before .before .before .before .before .before .before .before .before .before .before .before .args .n)) (c .before .before .before .before .before .before .before .before .before .before .before .resolve .ensures) (rw (c .before .before .before .before .before .before .before .before .before .before .before .resolve .ensures .left .rows) at (c .before .before .before .before .before .resolve3 .ensures)) (c .before .before .before .before .before .before .before .enum-told4 .given .1) _ (c .before .k3 .given .1)
+returns-9 c =
+    let at-resolve3 = c .before .before .before .before .before in
+    let at-resolve = at-resolve3 .before .before .before .before .before .before in
+    let a = at-resolve .before .before .before .before .args in
+    let s = a .s .now in
+    left-then-unknown (sheetIn s) (framesOf s (table (a .work .now)) (a .frames)) (formOf (a .form))
+    (tree s (table (a .work .now)) (a .m)) (tree s (table (a .work .now)) (a .n))
+    (at-resolve .resolve .ensures)
+    (rw (at-resolve .resolve .ensures .left .rows) at (at-resolve3 .resolve3 .ensures))
+    (at-resolve3 .before .before .enum-told4 .given .1) _ (c .before .k3 .given .1)
 
 same-length-10 : tie.Need-same-length-10
-same-length-10 c = c .before .before .before .before .resolve3 .ensures .left .long ∙ c .before .before .before .before .before .before .before .before .before .before .resolve .ensures .left .long
+same-length-10 c =
+    c .before .before .before .before .resolve3 .ensures .left .long ∙ c .before .before .before .before
+    .before .before .before .before .before .before .resolve .ensures .left .long
 
 returns-10 : tie.Need-returns-10
-returns-10 c = left-then-no-id (sheetIn (c .before .before .before .before .before .before .before .before .before .before .before .before .before .before .args .s .now)) (framesOf (c .before .before .before .before .before .before .before .before .before .before .before .before .before .before .args .s .now) (table (c .before .before .before .before .before .before .before .before .before .before .before .before .before .before .args .work .now)) (c .before .before .before .before .before .before .before .before .before .before .before .before .before .before .args .frames)) (formOf (c .before .before .before .before .before .before .before .before .before .before .before .before .before .before .args .form)) (tree (c .before .before .before .before .before .before .before .before .before .before .before .before .before .before .args .s .now) (table (c .before .before .before .before .before .before .before .before .before .before .before .before .before .before .args .work .now)) (c .before .before .before .before .before .before .before .before .before .before .before .before .before .before .args .m)) (tree (c .before .before .before .before .before .before .before .before .before .before .before .before .before .before .args .s .now) (table (c .before .before .before .before .before .before .before .before .before .before .before .before .before .before .args .work .now)) (c .before .before .before .before .before .before .before .before .before .before .before .before .before .before .args .n)) (c .before .before .before .before .before .before .before .before .before .before .resolve .ensures) (rw (c .before .before .before .before .before .before .before .before .before .before .resolve .ensures .left .rows) at (c .before .before .before .before .resolve3 .ensures)) (c .before .before .before .before .before .before .enum-told4 .given .1) (c .enum-told6 .given .1)
+returns-10 c =
+    let at-resolve = c .before .before .before .before .before .before .before .before .before .before in
+    let a = at-resolve .before .before .before .before .args in
+    let s = a .s .now in
+    left-then-no-id (sheetIn s) (framesOf s (table (a .work .now)) (a .frames)) (formOf (a .form))
+    (tree s (table (a .work .now)) (a .m)) (tree s (table (a .work .now)) (a .n))
+    (at-resolve .resolve .ensures)
+    (rw (at-resolve .resolve .ensures .left .rows) at (c .before .before .before .before .resolve3 .ensures))
+    (c .before .before .before .before .before .before .enum-told4 .given .1) (c .enum-told6 .given .1)
 
 pub pair-at-spec : {M : Type 1} → statement M
 pair-at-spec =

@@ -21,7 +21,12 @@ same-length-3 : tie.Need-same-length-3
 same-length-3 c = search needs
 
 returns : tie.Need-returns
-returns c = again (c .before .before .before .before .before .before .before .before .before .before .before .before .before .before .before .before .before .before .before .args .old .now) (c .before .before .before .before .before .before .before .before .before .before .before .before .before .before .before .before .before .before .before .args .new .now) (c .before .before .before .before .before .before .before .before .before .before .before .decide .kept .1 .0) (c .before .before .before .before .before .before .before .before .before .before .before .decide .ensures) (c .before .before .before .before .decide2 .ensures)
+returns c =
+    let at-decide =
+    c .before .before .before .before .before .before .before .before .before .before .before in
+    let a = at-decide .before .before .before .before .before .before .before .before .args in
+    again (a .old .now) (a .new .now) (at-decide .decide .kept .1 .0) (at-decide .decide .ensures)
+    (c .before .before .before .before .decide2 .ensures)
 
 pub decide-again-spec : {M : Type 1} → statement M
 decide-again-spec =

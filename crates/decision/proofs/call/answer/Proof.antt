@@ -53,31 +53,41 @@ same-length-2 : tie.Need-same-length-2
 same-length-2 c = search needs
 
 returns-2 : tie.Need-returns-2
-returns-2 c = by-case (c .before .before .before .before .enum-told2 .given .1) (c .before .before .preconditions-call .ensures)
+returns-2 c =
+    by-case (c .before .before .before .before .enum-told2 .given .1)
+    (c .before .before .preconditions-call .ensures)
 
 same-length-3 : tie.Need-same-length-3
 same-length-3 c = search needs
 
 returns-3 : tie.Need-returns-3
-returns-3 c = by-case (c .before .before .before .before .enum-told3 .given .1) (c .before .before .invariants-call .ensures)
+returns-3 c =
+    by-case (c .before .before .before .before .enum-told3 .given .1)
+    (c .before .before .invariants-call .ensures)
 
 same-length-4 : tie.Need-same-length-4
 same-length-4 c = search needs
 
 returns-4 : tie.Need-returns-4
-returns-4 c = by-case (c .before .before .before .before .enum-told4 .given .1) (c .before .before .select-call .ensures)
+returns-4 c =
+    by-case (c .before .before .before .before .enum-told4 .given .1)
+    (c .before .before .select-call .ensures)
 
 same-length-5 : tie.Need-same-length-5
 same-length-5 c = search needs
 
 returns-5 : tie.Need-returns-5
-returns-5 c = by-case (c .before .before .before .call .given .1) (λ sheet a. answered-over (marks-none _) (c .admit-call .ensures sheet a))
+returns-5 c =
+    by-case (c .before .before .before .call .given .1)
+    (λ sheet a. answered-over (marks-none _) (c .admit-call .ensures sheet a))
 
 same-length-6 : tie.Need-same-length-6
 same-length-6 c = search needs
 
 returns-6 : tie.Need-returns-6
-returns-6 c = by-case (c .before .before .before .before .enum-told5 .given .1) (c .before .before .decide-call .ensures)
+returns-6 c =
+    by-case (c .before .before .before .before .enum-told5 .given .1)
+    (c .before .before .decide-call .ensures)
 
 pub answer-spec : {M : Type 1} → statement M
 answer-spec =

@@ -18,19 +18,38 @@ enum-known-m : tie.Need-enum-known-m
 enum-known-m c = search needs
 
 answer-requires : tie.Need-answer-requires
-answer-requires c κs = opened-large (c .before .before .before .before .before .before .«open» .ensures) (c .before .before .before .before .before .before .«open» .kept .1 .0) (c .before .before .m .given .0 .0) (c .before .before .m .given .1)
+answer-requires c κs =
+    let open1 = c .before .before .before .before .before .before .«open» in
+    opened-large (open1 .ensures) (open1 .kept .1 .0) (c .before .before .m .given .0 .0)
+    (c .before .before .m .given .1)
 
 emit-requires : tie.Need-emit-requires
-emit-requires c κs = held-answer (c .before .before .before .before .before .before .before .before .before .before .before .«open» .ensures) (c .before .before .before .before .before .before .before .before .before .before .before .«open» .kept .1 .0) (c .before .before .before .before .before .before .before .m .given .0 .0) (c .before .before .before .before .before .before .before .m .given .1) (c .before .before .before .before .before .before .before .before .before .before .before .before .before .before .before .before .args .call) (c .before .before .before .before .answer .ensures)
+emit-requires c κs =
+    let at-m = c .before .before .before .before .before .before .before in
+    let at-open = at-m .before .before .before .before in
+    held-answer (at-open .«open» .ensures) (at-open .«open» .kept .1 .0) (at-m .m .given .0 .0)
+    (at-m .m .given .1) (at-open .before .before .before .before .before .args .call)
+    (c .before .before .before .before .answer .ensures)
 
 clear-rows-requires : tie.Need-clear-rows-requires
-clear-rows-requires c κs = still-bounded (c .before .before .before .before .before .before .before .before .before .before .before .before .before .before .before .«open» .ensures) (c .before .before .before .before .before .before .before .before .before .before .before .before .before .before .before .«open» .kept .1 .0) (c .before .before .before .before .before .before .before .before .before .before .before .m .given .0 .0) (c .before .before .before .before .before .before .before .before .before .before .before .m .given .1) (c .before .before .before .before .before .before .before .before .before .before .before .before .before .before .before .before .before .before .before .before .args .call) (c .before .before .before .before .before .before .before .before .answer .ensures)
+clear-rows-requires c κs =
+    let at-answer = c .before .before .before .before .before .before .before .before in
+    let at-m = at-answer .before .before .before in
+    let at-open = at-m .before .before .before .before in
+    still-bounded (at-open .«open» .ensures) (at-open .«open» .kept .1 .0) (at-m .m .given .0 .0)
+    (at-m .m .given .1) (at-open .before .before .before .before .before .args .call)
+    (at-answer .answer .ensures)
 
 same-length : tie.Need-same-length
 same-length c = search needs
 
 returns : tie.Need-returns
-returns c = called-refused (c .before .before .before .before .before .before .before .before .before .«open» .ensures) (c .before .before .before .before .before .before .before .before .before .«open» .kept .1 .0) (c .before .before .before .before .before .before .before .before .before .before .before .before .before .before .args .call) (c .before .before .clear .ensures) (c .before .before .before .before .before .n .given .0 .0) (c .before .before .before .before .before .n .given .1) (c .before .before .before .before .before .before .before .before .before .before .before .before .before .before .args .out .now)
+returns c =
+    let at-n = c .before .before .before .before .before in
+    let at-open = at-n .before .before .before .before in
+    let a = at-open .before .before .before .before .before .args in
+    called-refused (at-open .«open» .ensures) (at-open .«open» .kept .1 .0) (a .call)
+    (c .before .before .clear .ensures) (at-n .n .given .0 .0) (at-n .n .given .1) (a .out .now)
 
 same-length-2 : tie.Need-same-length-2
 same-length-2 c = search needs
@@ -39,7 +58,14 @@ same-length-3 : tie.Need-same-length-3
 same-length-3 c = search needs
 
 returns-2 : tie.Need-returns-2
-returns-2 c = called-sheet (c .before .before .before .before .before .before .before .before .before .before .before .before .before .before .before .before .before .before .«open» .ensures) (c .before .before .before .before .before .before .before .before .before .before .before .before .before .before .before .before .before .before .«open» .kept .1 .0) (c .before .before .before .before .before .before .before .before .before .before .before .before .before .before .m .given .0 .0) (c .before .before .before .before .before .before .before .before .before .before .before .before .before .before .m .given .1) (c .before .before .before .before .before .before .before .before .before .before .before .before .before .before .before .before .before .before .before .before .before .before .before .args .call) (c .before .before .before .before .before .before .before .before .before .before .before .answer .ensures) (c .before .before .before .before .before .before .emit .ensures) (c .before .before .clear-rows .ensures)
+returns-2 c =
+    let at-emit = c .before .before .before .before .before .before in
+    let at-m = at-emit .before .before .before .before .before .before .before .before in
+    let at-open = at-m .before .before .before .before in
+    called-sheet (at-open .«open» .ensures) (at-open .«open» .kept .1 .0) (at-m .m .given .0 .0)
+    (at-m .m .given .1) (at-open .before .before .before .before .before .args .call)
+    (at-emit .before .before .before .before .before .answer .ensures) (at-emit .emit .ensures)
+    (c .before .before .clear-rows .ensures)
 
 pub run-spec : {M : Type 1} → statement M
 run-spec =

@@ -9,7 +9,10 @@ run-requires : tie.Need-run-requires
 run-requires c κs = search needs
 
 case-of-requires : tie.Need-case-of-requires
-case-of-requires c κs = told-called (c .before .before .before .before .run .ensures) (ends (c .before .before .before .before .before .before .before .before .before .before .args .call) _ _ _)
+case-of-requires c κs =
+    told-called (c .before .before .before .before .run .ensures)
+    (ends (c .before .before .before .before .before .before .before .before .before .before .args .call) _ _
+    _)
 
 same-length : tie.Need-same-length
 same-length c = search needs

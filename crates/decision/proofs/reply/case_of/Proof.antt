@@ -101,7 +101,49 @@ returns-23 c = with-line 22 _ (c .match .keys23)
 
 returns-24 : tie.Need-returns-24
 unfolding numberOf sizeOf
-returns-24 c = last-case (c .before .pre) (past 22 (past 21 (past 20 (past 19 (past 18 (past 17 (past 16 (past 15 (past 14 (past 13 (past 12 (past 11 (past 10 (past 9 (past 8 (past 7 (past 6 (past 5 (past 4 (past 3 (past 2 (past 1 (past 0 (omega arith) (c .match .rest .0 .0 .0 .0 .0 .0 .0 .0 .0 .0 .0 .0 .0 .0 .0 .0 .0 .0 .0 .0 .0 .0 .1)) (c .match .rest .0 .0 .0 .0 .0 .0 .0 .0 .0 .0 .0 .0 .0 .0 .0 .0 .0 .0 .0 .0 .0 .1)) (c .match .rest .0 .0 .0 .0 .0 .0 .0 .0 .0 .0 .0 .0 .0 .0 .0 .0 .0 .0 .0 .0 .1)) (c .match .rest .0 .0 .0 .0 .0 .0 .0 .0 .0 .0 .0 .0 .0 .0 .0 .0 .0 .0 .0 .1)) (c .match .rest .0 .0 .0 .0 .0 .0 .0 .0 .0 .0 .0 .0 .0 .0 .0 .0 .0 .0 .1)) (c .match .rest .0 .0 .0 .0 .0 .0 .0 .0 .0 .0 .0 .0 .0 .0 .0 .0 .0 .1)) (c .match .rest .0 .0 .0 .0 .0 .0 .0 .0 .0 .0 .0 .0 .0 .0 .0 .0 .1)) (c .match .rest .0 .0 .0 .0 .0 .0 .0 .0 .0 .0 .0 .0 .0 .0 .0 .1)) (c .match .rest .0 .0 .0 .0 .0 .0 .0 .0 .0 .0 .0 .0 .0 .0 .1)) (c .match .rest .0 .0 .0 .0 .0 .0 .0 .0 .0 .0 .0 .0 .0 .1)) (c .match .rest .0 .0 .0 .0 .0 .0 .0 .0 .0 .0 .0 .0 .1)) (c .match .rest .0 .0 .0 .0 .0 .0 .0 .0 .0 .0 .0 .1)) (c .match .rest .0 .0 .0 .0 .0 .0 .0 .0 .0 .0 .1)) (c .match .rest .0 .0 .0 .0 .0 .0 .0 .0 .0 .1)) (c .match .rest .0 .0 .0 .0 .0 .0 .0 .0 .1)) (c .match .rest .0 .0 .0 .0 .0 .0 .0 .1)) (c .match .rest .0 .0 .0 .0 .0 .0 .1)) (c .match .rest .0 .0 .0 .0 .0 .1)) (c .match .rest .0 .0 .0 .0 .1)) (c .match .rest .0 .0 .0 .1)) (c .match .rest .0 .0 .1)) (c .match .rest .0 .1)) (c .match .rest .1))
+returns-24 c =
+    let rest = c .match .rest in
+    let rest-0-0-0-0 = rest .0 .0 .0 .0 in
+    let rest-0-0-0-0-0-0-0-0-0-0-0 = rest-0-0-0-0 .0 .0 .0 .0 .0 .0 .0 in
+    last-case (c .before .pre)
+    (past 22
+    (past 21
+    (past 20
+    (past 19
+    (past 18
+    (past 17
+    (past 16
+    (past 15
+    (past 14
+    (past 13
+    (past 12
+    (past 11
+    (past 10
+    (past 9
+    (past 8
+    (past 7
+    (past 6
+    (past 5
+    (past 4
+    (past 3
+    (past 2
+    (past 1
+    (past 0 (omega arith)
+    (rest-0-0-0-0-0-0-0-0-0-0-0 .0 .0 .0 .0 .0 .0 .0 .0 .0 .0
+    .0 .1))
+    (rest-0-0-0-0-0-0-0-0-0-0-0 .0 .0 .0 .0 .0 .0 .0 .0 .0 .0 .1))
+    (rest-0-0-0-0-0-0-0-0-0-0-0 .0 .0 .0 .0 .0 .0 .0 .0 .0 .1))
+    (rest-0-0-0-0-0-0-0-0-0-0-0 .0 .0 .0 .0 .0 .0 .0 .0 .1))
+    (rest-0-0-0-0-0-0-0-0-0-0-0 .0 .0 .0 .0 .0 .0 .0 .1))
+    (rest-0-0-0-0-0-0-0-0-0-0-0 .0 .0 .0 .0 .0 .0 .1))
+    (rest-0-0-0-0-0-0-0-0-0-0-0 .0 .0 .0 .0 .0 .1))
+    (rest-0-0-0-0-0-0-0-0-0-0-0 .0 .0 .0 .0 .1))
+    (rest-0-0-0-0-0-0-0-0-0-0-0 .0 .0 .0 .1))
+    (rest-0-0-0-0-0-0-0-0-0-0-0 .0 .0 .1)) (rest-0-0-0-0-0-0-0-0-0-0-0 .0 .1))
+    (rest-0-0-0-0-0-0-0-0-0-0-0 .1)) (rest-0-0-0-0 .0 .0 .0 .0 .0 .0 .1))
+    (rest-0-0-0-0 .0 .0 .0 .0 .0 .1)) (rest-0-0-0-0 .0 .0 .0 .0 .1))
+    (rest-0-0-0-0 .0 .0 .0 .1)) (rest-0-0-0-0 .0 .0 .1)) (rest-0-0-0-0 .0 .1)) (rest-0-0-0-0 .1))
+    (rest .0 .0 .0 .1)) (rest .0 .0 .1)) (rest .0 .1)) (rest .1))
 
 pub case-of-spec : {M : Type 1} → statement M
 case-of-spec =

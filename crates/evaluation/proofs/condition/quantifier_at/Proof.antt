@@ -15,7 +15,9 @@ slice-aggregate-named : tie.Need-slice-aggregate-named
 slice-aggregate-named c = search needs
 
 named-requires : tie.Need-named-requires
-named-requires c κs = quantifier-members (c .before .before .before .before .args .work .now) (c .before .before .before .before .pre .1 .known .known) (c .before .after-at .ensures)
+named-requires c κs =
+    quantifier-members (c .before .before .before .before .args .work .now)
+    (c .before .before .before .before .pre .1 .known .known) (c .before .after-at .ensures)
 
 node-of-requires : tie.Need-node-of-requires
 node-of-requires c κs = search needs
@@ -27,7 +29,10 @@ slice-aggregate-named-2 : tie.Need-slice-aggregate-named-2
 slice-aggregate-named-2 c = search needs
 
 named-requires-2 : tie.Need-named-requires-2
-named-requires-2 c κs = quantifier-members (c .before .before .before .before .before .before .before .args .work .now) (c .before .before .before .before .before .before .before .pre .1 .known .known) (c .before .before .before .before .after-at .ensures)
+named-requires-2 c κs =
+    let at-start = c .before .before .before .before .before .before .before in
+    quantifier-members (at-start .args .work .now) (at-start .pre .1 .known .known)
+    (c .before .before .before .before .after-at .ensures)
 
 node-of-requires-2 : tie.Need-node-of-requires-2
 node-of-requires-2 c κs = search needs
@@ -39,13 +44,21 @@ slice-aggregate-named-3 : tie.Need-slice-aggregate-named-3
 slice-aggregate-named-3 c = search needs
 
 named-requires-3 : tie.Need-named-requires-3
-named-requires-3 c κs = quantifier-members (c .before .before .before .before .before .before .before .before .before .before .args .work .now) (c .before .before .before .before .before .before .before .before .before .before .pre .1 .known .known) (c .before .before .before .before .before .before .before .after-at .ensures)
+named-requires-3 c κs =
+    let at-after-at = c .before .before .before .before .before .before .before in
+    quantifier-members (at-after-at .before .before .before .args .work .now)
+    (at-after-at .before .before .before .pre .1 .known .known) (at-after-at .after-at .ensures)
 
 node-of-requires-3 : tie.Need-node-of-requires-3
 node-of-requires-3 c κs = search needs
 
 returns : tie.Need-returns
-returns c = λ m d h. quantifier-parts (c .before .before .before .before .before .before .before .before .before .before .before .before .args .work .now) h (c .before .before .before .before .before .before .before .before .before .after-at .ensures) _ (c .before .before .before .before .before .before .before .named .ensures) (c .before .before .before .before .named2 .ensures) (c .before .named3 .ensures) (c .before .before .before .before .before .before .node-of .ensures) (c .before .before .before .node-of2 .ensures) (c .node-of3 .ensures)
+returns c =
+    let at-node-of = c .before .before .before .before .before .before in
+    λ m d h. quantifier-parts (at-node-of .before .before .before .before .before .before .args .work .now) h
+    (at-node-of .before .before .before .after-at .ensures) _ (at-node-of .before .named .ensures)
+    (c .before .before .before .before .named2 .ensures) (c .before .named3 .ensures)
+    (at-node-of .node-of .ensures) (c .before .before .before .node-of2 .ensures) (c .node-of3 .ensures)
 
 pub quantifier-at-spec : {M : Type 1} → statement M
 quantifier-at-spec =

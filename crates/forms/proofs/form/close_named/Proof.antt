@@ -18,7 +18,10 @@ same-length : tie.Need-same-length
 same-length c = search needs
 
 returns : tie.Need-returns
-returns c = then (then (c .before .before .before .before .before .before .before .before .before .before .byte .ensures) (c .before .before .before .before .before .before .names .ensures)) (c .before .before .byte2 .ensures)
+returns c =
+    let at-names = c .before .before .before .before .before .before in
+    then (then (at-names .before .before .before .before .byte .ensures) (at-names .names .ensures))
+    (c .before .before .byte2 .ensures)
 
 pub close-named-spec : {M : Type 1} → statement M
 close-named-spec =

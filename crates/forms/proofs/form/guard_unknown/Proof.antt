@@ -18,7 +18,10 @@ same-length c = search needs
 
 returns : tie.Need-returns
 unfolding spaced
-returns c = told (simp append-assoc) (then (c .before .before .before .before .before .before .refused-outcome .ensures) (c .before .before .close-named .ensures))
+returns c =
+    told (simp append-assoc)
+    (then (c .before .before .before .before .before .before .refused-outcome .ensures)
+    (c .before .before .close-named .ensures))
 
 pub guard-unknown-spec : {M : Type 1} → statement M
 guard-unknown-spec =

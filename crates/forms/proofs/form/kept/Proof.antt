@@ -27,7 +27,16 @@ same-length c = search needs
 
 returns : tie.Need-returns
 unfolding spaced
-returns c = told (simp append-assoc) (then (then (then (then (c .before .before .before .before .before .before .before .before .before .before .before .before .before .before .before .before .before .before .byte .ensures) (c .before .before .before .before .before .before .before .before .before .before .before .before .before .before .bytes .ensures)) (c .before .before .before .before .before .before .before .before .before .before .number .ensures)) (c .before .before .before .before .before .before .element .ensures)) (c .before .before .byte2 .ensures))
+returns c =
+    let at-number = c .before .before .before .before .before .before .before .before .before .before in
+    told (simp append-assoc)
+    (then
+    (then
+    (then
+    (then (at-number .before .before .before .before .before .before .before .before .byte .ensures)
+    (at-number .before .before .before .before .bytes .ensures)) (at-number .number .ensures))
+    (c .before .before .before .before .before .before .element .ensures))
+    (c .before .before .byte2 .ensures))
 
 pub kept-spec : {M : Type 1} → statement M
 kept-spec =

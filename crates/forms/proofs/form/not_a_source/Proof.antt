@@ -32,13 +32,24 @@ same-length c = search needs
 
 returns : tie.Need-returns
 returns c =
-    let a = c .before .before .before .before .before .before .before .before .before .before .before .before .before .before .before .before .before .before .before .before .before .before .before .before .args in
+    let at-byte = c .before .before .before .before .before .before .before .before .before .before in
+    let at-element = at-byte .before .before .before .before in
+    let a =
+    at-element .before .before .before .before .before .before .before .before .before .before .args in
     let s = a .s .now in
-    let ws = decimalDigits 22 ∷ decimalDigits (a .m .outcome .place) ∷ quoted (textAt s (a .m .outcome .name)) ∷ [] in
+    let ws = decimalDigits 22 ∷ decimalDigits (a .m .outcome .place) ∷ quoted
+    (textAt s (a .m .outcome .name)) ∷ [] in
     let state = quoted (textAt s (a .m .state)) in
     told
-    (closed-with (listed (ascii "from") (textsIn (valueAt s (a .work .now) (a .m .from)))) (ascii "refused") (ws ++ (state ∷ [])))
-    (then (told (opened-further state (ascii "refused") ws) (then (c .before .before .before .before .before .before .before .before .before .before .before .before .before .before .before .before .before .before .refused-outcome .ensures) (c .before .before .before .before .before .before .before .before .before .before .before .before .before .before .element .ensures))) (then (then (c .before .before .before .before .before .before .before .before .before .before .byte .ensures) (c .before .before .before .before .before .before .sources .ensures)) (c .before .before .byte2 .ensures)))
+    (closed-with (listed (ascii "from") (textsIn (valueAt s (a .work .now) (a .m .from)))) (ascii "refused")
+    (ws ++ (state ∷ [])))
+    (then
+    (told (opened-further state (ascii "refused") ws)
+    (then (at-element .before .before .before .before .refused-outcome .ensures)
+    (at-element .element .ensures)))
+    (then
+    (then (at-byte .byte .ensures) (c .before .before .before .before .before .before .sources .ensures))
+    (c .before .before .byte2 .ensures)))
 
 pub not-a-source-spec : {M : Type 1} → statement M
 not-a-source-spec =

@@ -15,7 +15,9 @@ same-length : tie.Need-same-length
 same-length c = search needs
 
 returns : tie.Need-returns
-returns c = then (c .before .before .before .before .before .before .byte .ensures) (c .before .before .decimal .ensures)
+returns c =
+    then (c .before .before .before .before .before .before .byte .ensures)
+    (c .before .before .decimal .ensures)
 
 pub number-spec : {M : Type 1} → statement M
 number-spec = tie.close (tie.spec byte-requires decimal-requires same-length returns)

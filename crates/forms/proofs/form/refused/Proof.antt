@@ -20,7 +20,9 @@ same-length c = search needs
 
 returns : tie.Need-returns
 unfolding spaced
-returns c = then (c .before .before .before .before .before .before .bytes .ensures) (c .before .before .number .ensures)
+returns c =
+    then (c .before .before .before .before .before .before .bytes .ensures)
+    (c .before .before .number .ensures)
 
 pub refused-spec : {M : Type 1} → statement M
 refused-spec =

@@ -27,7 +27,14 @@ same-length c = search needs
 
 returns : tie.Need-returns
 unfolding spaced
-returns c = told (simp append-assoc) (then (then (then (c .before .before .before .before .before .before .before .before .before .before .before .before .before .before .before .refused .ensures) (c .before .before .before .before .before .before .before .before .before .before .before .number .ensures)) (c .before .before .before .before .before .before .element-or .ensures)) (c .before .before .element-or2 .ensures))
+returns c =
+    let at-number =
+    c .before .before .before .before .before .before .before .before .before .before .before in
+    told (simp append-assoc)
+    (then
+    (then (then (at-number .before .before .before .before .refused .ensures) (at-number .number .ensures))
+    (c .before .before .before .before .before .before .element-or .ensures))
+    (c .before .before .element-or2 .ensures))
 
 pub refused-rule-spec : {M : Type 1} → statement M
 refused-rule-spec =

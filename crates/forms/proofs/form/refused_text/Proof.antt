@@ -21,7 +21,13 @@ same-length c = search needs
 
 returns : tie.Need-returns
 unfolding spaced
-returns c = told (simp append-assoc) (then (then (c .before .before .before .before .before .before .before .before .before .before .refused .ensures) (c .before .before .before .before .before .before .element .ensures)) (c .before .before .byte .ensures))
+returns c =
+    told (simp append-assoc)
+    (then
+    (then
+    (c .before .before .before .before .before .before .before .before .before .before .refused .ensures)
+    (c .before .before .before .before .before .before .element .ensures))
+    (c .before .before .byte .ensures))
 
 pub refused-text-spec : {M : Type 1} → statement M
 refused-text-spec =

@@ -23,7 +23,11 @@ same-length c = search needs
 
 returns : tie.Need-returns
 unfolding quotedBytes
-returns c = told (rw (c .before .before .before .before .before .before .before .before .before .false-number .ensures)) (then (c .before .before .before .before .before .before .refused-rule .ensures) (c .before .before .byte .ensures))
+returns c =
+    told
+    (rw (c .before .before .before .before .before .before .before .before .before .false-number .ensures))
+    (then (c .before .before .before .before .before .before .refused-rule .ensures)
+    (c .before .before .byte .ensures))
 
 pub rule-false-spec : {M : Type 1} → statement M
 rule-false-spec =

@@ -30,12 +30,17 @@ same-length c = search needs
 returns : tie.Need-returns
 unfolding quotedBytes
 returns c =
-    let a = c .before .before .before .before .before .before .before .before .before .before .before .before .before .args in
+    let at-refused-rule = c .before .before .before .before .before .before in
+    let n = at-refused-rule .before .before .before .unknown-number in
+    let a = at-refused-rule .before .before .before .before .before .before .before .args in
     let s = a .s .now in
-    let n = c .before .before .before .before .before .before .before .before .before .unknown-number in
     told
-    (rw (n .ensures) at (closed-with (names (namesIn s (a .work .now))) (ascii "refused") (decimalDigits (n .result) ∷ decimalDigits (a .r .place) ∷ nameOr (textOf s (a .r .name)) ∷ messageOr (ascii "condition could not be evaluated") (textOf s (a .r .message)) ∷ [])))
-    (then (rw (n .ensures) at (c .before .before .before .before .before .before .refused-rule .ensures)) (c .before .before .close-named .ensures))
+    (rw (n .ensures) at
+    (closed-with (names (namesIn s (a .work .now))) (ascii "refused")
+    (decimalDigits (n .result) ∷ decimalDigits (a .r .place) ∷ nameOr (textOf s (a .r .name)) ∷ messageOr
+    (ascii "condition could not be evaluated") (textOf s (a .r .message)) ∷ [])))
+    (then (rw (n .ensures) at (at-refused-rule .refused-rule .ensures))
+    (c .before .before .close-named .ensures))
 
 pub rule-unknown-spec : {M : Type 1} → statement M
 rule-unknown-spec =

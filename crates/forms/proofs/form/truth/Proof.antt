@@ -24,7 +24,13 @@ same-length c = search needs
 
 returns : tie.Need-returns
 unfolding spaced
-returns c = told (simp append-assoc) (then (then (c .before .before .before .before .before .before .before .before .before .before .bytes .ensures) (c .before .before .before .before .before .before .bytes2 .ensures)) (c .before .before .close-named .ensures))
+returns c =
+    told (simp append-assoc)
+    (then
+    (then
+    (c .before .before .before .before .before .before .before .before .before .before .bytes .ensures)
+    (c .before .before .before .before .before .before .bytes2 .ensures))
+    (c .before .before .close-named .ensures))
 
 pub truth-spec : {M : Type 1} → statement M
 truth-spec =

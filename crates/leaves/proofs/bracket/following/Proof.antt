@@ -15,22 +15,52 @@ byte-at-requires : tie.Need-byte-at-requires
 byte-at-requires c κs = search needs
 
 add-skip : tie.Need-add-skip
-add-skip c = omega (arith, byte-inside (c .before .before .before .before .args .s .now) (c .before .before .skip .result) 44 (sym (c .before .byte-at .ensures) ∙ c .if1 .taken) (omega arith))
+add-skip c =
+    omega (
+      arith,
+      byte-inside (c .before .before .before .before .args .s .now) (c .before .before .skip .result) 44
+          (sym (c .before .byte-at .ensures) ∙ c .if1 .taken) (omega arith),
+    )
 
 skip-requires-2 : tie.Need-skip-requires-2
-skip-requires-2 c κs = omega (arith, byte-inside (c .before .before .before .before .args .s .now) (c .before .before .skip .result) 44 (sym (c .before .byte-at .ensures) ∙ c .if1 .taken) (omega arith))
+skip-requires-2 c κs =
+    omega (
+      arith,
+      byte-inside (c .before .before .before .before .args .s .now) (c .before .before .skip .result) 44
+          (sym (c .before .byte-at .ensures) ∙ c .if1 .taken) (omega arith),
+    )
 
 returns : tie.Need-returns
-returns c = continues-on (c .before .before .before .before .before .args .s .now) (c .before .before .before .before .before .args .at) (c .before .before .before .before .before .args .close) (c .before .before .before .skip .result) (c .before .before .before .before .before .pre .1) (c .before .before .before .before .before .pre .0) (c .before .before .before .skip .ensures) (sym (c .before .before .byte-at .ensures) ∙ c .before .if1 .taken) (c .skip2 .result) (c .skip2 .ensures)
+returns c =
+    let at-start = c .before .before .before .before .before in
+    let a = at-start .args in
+    continues-on (a .s .now) (a .at) (a .close) (c .before .before .before .skip .result) (at-start .pre .1)
+    (at-start .pre .0) (c .before .before .before .skip .ensures)
+    (sym (c .before .before .byte-at .ensures) ∙ c .before .if1 .taken) (c .skip2 .result) (c .skip2 .ensures)
 
 add-t9 : tie.Need-add-t9
-add-t9 c = omega (arith, byte-inside (c .before .before .before .before .before .args .s .now) (c .before .before .before .skip .result) (c .before .before .before .before .before .args .close) (sym (c .before .before .byte-at .ensures) ∙ c .if2 .taken) (c .before .before .before .before .before .pre .1))
+add-t9 c =
+    let at-start = c .before .before .before .before .before in
+    omega (
+      arith,
+      byte-inside (at-start .args .s .now) (c .before .before .before .skip .result) (at-start .args .close)
+          (sym (c .before .before .byte-at .ensures) ∙ c .if2 .taken) (at-start .pre .1),
+    )
 
 returns-2 : tie.Need-returns-2
-returns-2 c = continues-shut (c .before .before .before .before .before .args .s .now) (c .before .before .before .before .before .args .at) (c .before .before .before .before .before .args .close) (c .before .before .before .skip .result) (c .before .before .before .before .before .pre .1) (c .before .before .before .skip .ensures) (sym (c .before .before .byte-at .ensures) ∙ c .if2 .taken)
+returns-2 c =
+    let at-skip = c .before .before .before in
+    let a = at-skip .before .before .args in
+    continues-shut (a .s .now) (a .at) (a .close) (at-skip .skip .result) (at-skip .before .before .pre .1)
+    (at-skip .skip .ensures) (sym (c .before .before .byte-at .ensures) ∙ c .if2 .taken)
 
 returns-3 : tie.Need-returns-3
-returns-3 c = continues-not (c .before .before .before .before .before .args .s .now) (c .before .before .before .before .before .args .at) (c .before .before .before .before .before .args .close) (c .before .before .before .skip .result) (c .before .before .before .before .before .pre .1) (c .before .before .before .skip .ensures) (λ q. c .before .if1 .left (c .before .before .byte-at .ensures ∙ q)) (λ q. c .if2 .left (c .before .before .byte-at .ensures ∙ q))
+returns-3 c =
+    let at-skip = c .before .before .before in
+    let a = at-skip .before .before .args in
+    continues-not (a .s .now) (a .at) (a .close) (at-skip .skip .result) (at-skip .before .before .pre .1)
+    (at-skip .skip .ensures) (λ q. c .before .if1 .left (c .before .before .byte-at .ensures ∙ q))
+    (λ q. c .if2 .left (c .before .before .byte-at .ensures ∙ q))
 
 pub following-spec : {M : Type 1} → statement M
 following-spec =

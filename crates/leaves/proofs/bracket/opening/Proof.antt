@@ -18,13 +18,28 @@ byte-at-requires : tie.Need-byte-at-requires
 byte-at-requires c κs = search needs
 
 add-t8 : tie.Need-add-t8
-add-t8 c = omega (arith, byte-inside (c .before .before .before .before .args .s .now) (c .before .before .skip .result) (c .before .before .before .before .args .close) (sym (c .before .byte-at .ensures) ∙ c .if1 .taken) (c .before .before .before .before .pre .1))
+add-t8 c =
+    let a = c .before .before .before .before .args in
+    omega (
+      arith,
+      byte-inside (a .s .now) (c .before .before .skip .result) (a .close)
+          (sym (c .before .byte-at .ensures) ∙ c .if1 .taken) (c .before .before .before .before .pre .1),
+    )
 
 returns : tie.Need-returns
-returns c = opens-shut (c .before .before .before .before .args .s .now) (c .before .before .before .before .args .at) (c .before .before .before .before .args .close) (c .before .before .skip .result) (c .before .before .before .before .pre .1) (c .before .before .before .before .pre .0) (c .before .before .skip .ensures) (sym (c .before .byte-at .ensures) ∙ c .if1 .taken)
+returns c =
+    let at-start = c .before .before .before .before in
+    let a = at-start .args in
+    opens-shut (a .s .now) (a .at) (a .close) (c .before .before .skip .result) (at-start .pre .1)
+    (at-start .pre .0) (c .before .before .skip .ensures) (sym (c .before .byte-at .ensures) ∙ c .if1 .taken)
 
 returns-2 : tie.Need-returns-2
-returns-2 c = opens-on (c .before .before .before .before .args .s .now) (c .before .before .before .before .args .at) (c .before .before .before .before .args .close) (c .before .before .skip .result) (c .before .before .before .before .pre .1) (c .before .before .before .before .pre .0) (c .before .before .skip .ensures) (λ q. c .if1 .left (c .before .byte-at .ensures ∙ q))
+returns-2 c =
+    let at-start = c .before .before .before .before in
+    let a = at-start .args in
+    opens-on (a .s .now) (a .at) (a .close) (c .before .before .skip .result) (at-start .pre .1)
+    (at-start .pre .0) (c .before .before .skip .ensures)
+    (λ q. c .if1 .left (c .before .byte-at .ensures ∙ q))
 
 pub opening-spec : {M : Type 1} → statement M
 opening-spec =

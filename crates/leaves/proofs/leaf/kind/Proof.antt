@@ -31,10 +31,20 @@ returns-8 : tie.Need-returns-8
 returns-8 c = (starts-digit (c .before .before .before .args .c) (omega arith) (omega arith), omega arith)
 
 returns-9 : tie.Need-returns-9
-returns-9 c = (starts-none (c .before .before .args .c) (c .before .match .rest .0 .0 .0 .0 .0 .0 .1) (c .before .match .rest .0 .0 .0 .0 .0 .1) (λ p q. omega arith) (c .before .match .rest .0 .0 .0 .0 .1) (c .before .match .rest .0 .0 .0 .1) (c .before .match .rest .0 .0 .1) (c .before .match .rest .0 .1) (c .before .match .rest .1), omega arith)
+returns-9 c =
+    let rest = c .before .match .rest in (
+      starts-none (c .before .before .args .c) (rest .0 .0 .0 .0 .0 .0 .1) (rest .0 .0 .0 .0 .0 .1)
+          (λ p q. omega arith) (rest .0 .0 .0 .0 .1) (rest .0 .0 .0 .1) (rest .0 .0 .1) (rest .0 .1) (rest .1),
+      omega arith,
+    )
 
 returns-10 : tie.Need-returns-10
-returns-10 c = (starts-none (c .before .before .before .args .c) (c .before .before .match .rest .0 .0 .0 .0 .0 .0 .1) (c .before .before .match .rest .0 .0 .0 .0 .0 .1) (λ p q. omega arith) (c .before .before .match .rest .0 .0 .0 .0 .1) (c .before .before .match .rest .0 .0 .0 .1) (c .before .before .match .rest .0 .0 .1) (c .before .before .match .rest .0 .1) (c .before .before .match .rest .1), omega arith)
+returns-10 c =
+    let rest = c .before .before .match .rest in (
+      starts-none (c .before .before .before .args .c) (rest .0 .0 .0 .0 .0 .0 .1) (rest .0 .0 .0 .0 .0 .1)
+          (λ p q. omega arith) (rest .0 .0 .0 .0 .1) (rest .0 .0 .0 .1) (rest .0 .0 .1) (rest .0 .1) (rest .1),
+      omega arith,
+    )
 
 pub kind-spec : {M : Type 1} → statement M
 kind-spec =

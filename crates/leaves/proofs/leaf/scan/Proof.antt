@@ -52,7 +52,12 @@ returns-4 c = rw (c .before .match .keys4) (c .number .ensures)
 
 returns-5 : tie.Need-returns-5
 unfolding scanBy
-returns-5 c = let k : c .before .before .before .args .kind ≡ 4 = last (c .before .before .before .args .kind) (c .before .before .before .pre .1) (c .before .match .rest .0 .0 .0 .1) (c .before .match .rest .0 .0 .1) (c .before .match .rest .0 .1) (c .before .match .rest .1) in rw k (c .string .ensures)
+returns-5 c =
+    let rest = c .before .match .rest in
+    let kind = c .before .before .before .args .kind in
+    let k : kind ≡ 4 = last kind (c .before .before .before .pre .1) (rest .0 .0 .0 .1) (rest .0 .0 .1)
+    (rest .0 .1) (rest .1) in
+    rw k (c .string .ensures)
 
 pub scan-spec : {M : Type 1} → statement M
 scan-spec =

@@ -31,13 +31,21 @@ returns-2 : tie.Need-returns-2
 unfolding foundOf earlier
 returns-2 c =
     let a = c .before .before .before .before .before .before .args in
-    sym (found-none (textAt (a .s .now) (a .name)) (membersAt (a .s .now) (a .work .now) (a .object + 1) (a .count)) (c .before .before .find .ensures .answers ∙ ap (foundOf (a .s .now) (a .work .now)) (c .enum-told .given .1)))
+    sym
+    (found-none (textAt (a .s .now) (a .name))
+    (membersAt (a .s .now) (a .work .now) (a .object + 1) (a .count))
+    (c .before .before .find .ensures .answers ∙ ap (foundOf (a .s .now) (a .work .now))
+    (c .enum-told .given .1)))
 
 returns-3 : tie.Need-returns-3
 unfolding foundOf earlier
 returns-3 c =
     let a = c .before .before .before .before .before .before .before .args in
-    sym (found-some (textAt (a .s .now) (a .name)) (membersAt (a .s .now) (a .work .now) (a .object + 1) (a .count)) _ (c .before .before .before .find .ensures .answers ∙ ap (foundOf (a .s .now) (a .work .now)) (c .before .-n .given .1)))
+    sym
+    (found-some (textAt (a .s .now) (a .name))
+    (membersAt (a .s .now) (a .work .now) (a .object + 1) (a .count)) _
+    (c .before .before .before .find .ensures .answers ∙ ap (foundOf (a .s .now) (a .work .now))
+    (c .before .-n .given .1)))
 
 pub repeated-spec : {M : Type 1} → statement M
 repeated-spec =

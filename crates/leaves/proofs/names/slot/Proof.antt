@@ -18,7 +18,10 @@ begin-requires : tie.Need-begin-requires Inv-loop μ-loop
 begin-requires c κs = search needs
 
 loop-holds : tie.Need-loop-holds Inv-loop μ-loop
-loop-holds c = rw (c .begin .ensures) (hashing (c .before .before .args .s .now) (c .before .before .args .object) (c .before .before .args .name) (c .before .before .pre .0) (c .before .before .pre .1))
+loop-holds c =
+    let a = c .before .before .args in
+    rw (c .begin .ensures)
+    (hashing (a .s .now) (a .object) (a .name) (c .before .before .pre .0) (c .before .before .pre .1))
 
 next-requires : tie.Need-next-requires Inv-loop μ-loop
 next-requires c κs = c .loop .inv .onText
@@ -27,7 +30,13 @@ enum-told : tie.Need-enum-told Inv-loop μ-loop
 enum-told c = search needs
 
 returns : tie.Need-returns Inv-loop μ-loop
-returns c = (hashed-all (c .before .before .before .loop .inv) (was-end (c .before .before .before .before .before .before .args .s .now) (c .before .before .before .loop .c) (c .before .before .next .ensures) (c .enum-told .given .1)), c .before .before .before .loop .inv .small)
+returns c =
+    let loop = c .before .before .before .loop in (
+      hashed-all (loop .inv)
+          (was-end (c .before .before .before .before .before .before .args .s .now) (loop .c)
+          (c .before .before .next .ensures) (c .enum-told .given .1)),
+      loop .inv .small,
+    )
 
 enum-known-t : tie.Need-enum-known-t Inv-loop μ-loop
 enum-known-t c = search needs
@@ -42,10 +51,16 @@ add-h : tie.Need-add-h Inv-loop μ-loop
 add-h c = omega (arith, c .wide .ok)
 
 loop-less : tie.Need-loop-less Inv-loop μ-loop
-loop-less c = was-byte (c .before .before .before .t .given .0 .0) (c .before .before .before .before .before .next .ensures) (c .before .before .before .t .given .1) .falls
+loop-less c =
+    let at-t = c .before .before .before in
+    was-byte (at-t .t .given .0 .0) (at-t .before .before .next .ensures) (at-t .t .given .1) .falls
 
 loop-again : tie.Need-loop-again Inv-loop μ-loop
-loop-again c = hashed-on (c .before .before .before .before .before .before .loop .inv) (c .before .before .before .t .given .0 .0) (c .before .wide .result) (was-byte (c .before .before .before .t .given .0 .0) (c .before .before .before .before .before .next .ensures) (c .before .before .before .t .given .1)) (c .before .wide .ensures)
+loop-again c =
+    let at-t = c .before .before .before in
+    hashed-on (at-t .before .before .before .loop .inv) (at-t .t .given .0 .0) (c .before .wide .result)
+    (was-byte (at-t .t .given .0 .0) (at-t .before .before .next .ensures) (at-t .t .given .1))
+    (c .before .wide .ensures)
 
 pub slot-spec : {M : Type 1} → statement M
 slot-spec =

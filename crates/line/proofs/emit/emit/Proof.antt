@@ -15,7 +15,8 @@ number-requires c κs = search needs
 returns : tie.Need-returns
 returns c =
     let a = c .before .before .before .before .before .args in
-    emitted-none (a .s .now) (a .work .now) (a .a) (a .out .now) (c .before .number .ensures (a .s .now) (a .work .now)) (c .if1 .taken)
+    emitted-none (a .s .now) (a .work .now) (a .a) (a .out .now)
+    (c .before .number .ensures (a .s .now) (a .work .now)) (c .if1 .taken)
 
 sub-form : tie.Need-sub-form
 sub-form c = search needs
@@ -34,10 +35,12 @@ same-length c = search needs
 
 returns-2 : tie.Need-returns-2
 returns-2 c =
-    let a = c .before .before .before .before .before .before .before .before .before .before .args in
-    rw
-    (measured (c .before .before .before .form .ensures) (a .out .now))
-    (emitted-23 (a .s .now) (a .work .now) (a .a) (a .out .now) (c .before .before .before .before .before .before .number .ensures (a .s .now) (a .work .now)) (c .before .before .before .before .before .if1 .left) (too-long (c .before .before .before .form .ensures) (omega arith)))
+    let at-form = c .before .before .before in
+    let a = at-form .before .before .before .before .before .before .before .args in
+    rw (measured (at-form .form .ensures) (a .out .now))
+    (emitted-23 (a .s .now) (a .work .now) (a .a) (a .out .now)
+    (at-form .before .before .before .number .ensures (a .s .now) (a .work .now))
+    (at-form .before .before .if1 .left) (too-long (at-form .form .ensures) (omega arith)))
 
 form-requires-2 : tie.Need-form-requires-2
 form-requires-2 c κs = search needs
@@ -49,13 +52,22 @@ add-t11 : tie.Need-add-t11
 add-t11 c = search needs
 
 same-length-2 : tie.Need-same-length-2
-same-length-2 c = simp length-set (same-size (c .before .before .form2 .ensures) ∙ ap length (measured (c .before .before .before .before .before .before .before .form .ensures) (c .before .before .before .before .before .before .before .before .before .before .before .before .before .before .args .out .now)))
+same-length-2 c =
+    let at-form = c .before .before .before .before .before .before .before in
+    simp length-set
+    (same-size (c .before .before .form2 .ensures) ∙ ap length
+    (measured (at-form .form .ensures)
+    (at-form .before .before .before .before .before .before .before .args .out .now)))
 
 returns-3 : tie.Need-returns-3
 returns-3 c =
-    let a = c .before .before .before .before .before .before .before .before .before .before .before .before .before .before .args in
-    let r = written (c .before .before .before .before .before .before .before .form .ensures) (a .out .now) (omega arith) (c .before .before .form2 .ensures) in
-    emitted-line (a .s .now) (a .work .now) (a .a) (a .out .now) (c .before .before .before .before .before .before .before .before .before .before .number .ensures (a .s .now) (a .work .now)) (c .before .before .before .before .before .before .before .before .before .if1 .left) (r .0) (r .1) (r .2) refl
+    let at-form = c .before .before .before .before .before .before .before in
+    let a = at-form .before .before .before .before .before .before .before .args in
+    let r = written (at-form .form .ensures) (a .out .now) (omega arith)
+    (c .before .before .form2 .ensures) in
+    emitted-line (a .s .now) (a .work .now) (a .a) (a .out .now)
+    (at-form .before .before .before .number .ensures (a .s .now) (a .work .now))
+    (at-form .before .before .if1 .left) (r .0) (r .1) (r .2) refl
 
 pub emit-spec : {M : Type 1} → statement M
 emit-spec =

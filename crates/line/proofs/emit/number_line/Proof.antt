@@ -25,10 +25,12 @@ same-length c = search needs
 
 returns : tie.Need-returns
 returns c =
-    let start = c .before .before .before .before .before .before .before .before .before .before in
+    let at-refused = c .before .before .before .before .before .before .before in
+    let start = at-refused .before .before .before in
     let n = start .args .n in
-    let laid = then (c .before .before .before .before .before .before .before .refused .ensures) (c .before .before .bytes .ensures) in
-    shown (omega (arith, number-short n, start .pre)) (told (sym (append-assoc (opened (ascii "refused" ∷ decimalDigits n ∷ [])) (41 ∷ []) (10 ∷ []))) laid)
+    let laid = then (at-refused .refused .ensures) (c .before .before .bytes .ensures) in
+    shown (omega (arith, number-short n, start .pre))
+    (told (sym (append-assoc (opened (ascii "refused" ∷ decimalDigits n ∷ [])) (41 ∷ []) (10 ∷ []))) laid)
 
 pub number-line-spec : {M : Type 1} → statement M
 number-line-spec =

@@ -21,10 +21,14 @@ shared-slice-read-c : tie.Need-shared-slice-read-c Inv-loop μ-loop
 shared-slice-read-c c = omega (arith, c .before .before .loop .inv .upto)
 
 returns : tie.Need-returns Inv-loop μ-loop
-returns c = no-digit (c .before .before .before .loop .inv) (c .before .before .loop-test .taken) (below-digits _ (c .if1 .taken))
+returns c =
+    no-digit (c .before .before .before .loop .inv) (c .before .before .loop-test .taken)
+    (below-digits _ (c .if1 .taken))
 
 returns-2 : tie.Need-returns-2 Inv-loop μ-loop
-returns-2 c = no-digit (c .before .before .before .before .loop .inv) (c .before .before .before .loop-test .taken) (above-digits _ (c .if2 .taken))
+returns-2 c =
+    no-digit (c .before .before .before .before .loop .inv) (c .before .before .before .loop-test .taken)
+    (above-digits _ (c .if2 .taken))
 
 mul-n : tie.Need-mul-n Inv-loop μ-loop
 mul-n c = omega (arith, c .before .before .before .before .loop .inv .small)
@@ -33,10 +37,15 @@ cast-n : tie.Need-cast-n Inv-loop μ-loop
 cast-n c = omega (arith, c .before .before .shared-slice-known .given (c .before .before .before .before .loop .i))
 
 add-n : tie.Need-add-n Inv-loop μ-loop
-add-n c = omega (arith, c .before .before .before .before .loop .inv .small, c .before .before .shared-slice-known .given (c .before .before .before .before .loop .i))
+add-n c =
+    let loop = c .before .before .before .before .loop in
+    omega (arith, loop .inv .small, c .before .before .shared-slice-known .given (loop .i))
 
 returns-3 : tie.Need-returns-3 Inv-loop μ-loop
-returns-3 c = too-many (c .before .before .before .before .before .loop .inv) (c .before .before .before .before .loop-test .taken) (a-digit _ (c .before .before .if1 .left) (c .before .if2 .left)) (c .if3 .taken)
+returns-3 c =
+    too-many (c .before .before .before .before .before .loop .inv)
+    (c .before .before .before .before .loop-test .taken)
+    (a-digit _ (c .before .before .if1 .left) (c .before .if2 .left)) (c .if3 .taken)
 
 add-i : tie.Need-add-i Inv-loop μ-loop
 add-i c = omega (arith, c .before .before .before .before .before .loop .inv .upto)
@@ -45,7 +54,10 @@ loop-less : tie.Need-loop-less Inv-loop μ-loop
 loop-less c = omega arith
 
 loop-again : tie.Need-loop-again Inv-loop μ-loop
-loop-again c = one-more (c .before .before .before .before .before .loop .inv) (c .before .before .before .before .loop-test .taken) (a-digit _ (c .before .before .if1 .left) (c .before .if2 .left)) (c .if3 .left)
+loop-again c =
+    one-more (c .before .before .before .before .before .loop .inv)
+    (c .before .before .before .before .loop-test .taken)
+    (a-digit _ (c .before .before .if1 .left) (c .before .if2 .left)) (c .if3 .left)
 
 returns-4 : tie.Need-returns-4 Inv-loop μ-loop
 returns-4 c = digits-ended (c .before .loop .inv) (c .loop-test .left)

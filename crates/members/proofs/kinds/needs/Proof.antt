@@ -13,13 +13,20 @@ enum-known-found : tie.Need-enum-known-found
 enum-known-found c = search needs
 
 fits-requires : tie.Need-fits-requires
-fits-requires c κs = found-node (c .before .found .given .0 .0) (c .before .found .given .1) (c .before .before .before .before .before .pre)
+fits-requires c κs =
+    found-node (c .before .found .given .0 .0) (c .before .found .given .1)
+    (c .before .before .before .before .before .pre)
 
 returns : tie.Need-returns
-returns c = needs-nothing (c .before .before .before .before .args .s .now) (c .before .before .before .before .args .work .now) (meets (c .before .before .before .before .args .want)) _ (c .enum-told .given .1)
+returns c =
+    let a = c .before .before .before .before .args in
+    needs-nothing (a .s .now) (a .work .now) (meets (a .want)) _ (c .enum-told .given .1)
 
 returns-2 : tie.Need-returns-2
-returns-2 c = needs-found (c .before .before .before .before .before .before .args .s .now) (c .before .before .before .before .before .before .args .work .now) (meets (c .before .before .before .before .before .before .args .want)) _ (c .before .before .found .given .0 .0) _ (c .before .before .found .given .1) (c .fits2 .ensures)
+returns-2 c =
+    let a = c .before .before .before .before .before .before .args in
+    needs-found (a .s .now) (a .work .now) (meets (a .want)) _ (c .before .before .found .given .0 .0) _
+    (c .before .before .found .given .1) (c .fits2 .ensures)
 
 pub needs-spec : {M : Type 1} → statement M
 needs-spec = tie.close (tie.spec enum-told enum-known-found fits-requires returns returns-2)

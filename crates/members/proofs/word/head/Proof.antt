@@ -19,10 +19,17 @@ enum-known-t : tie.Need-enum-known-t
 enum-known-t c = search needs
 
 returns : tie.Need-returns
-returns c = head-none (c .before .before .before .before .before .args .s .now) (c .before .before .before .begin .ensures) (was-end (c .before .before .before .before .before .args .s .now) (c .before .before .before .begin .result) (c .before .before .next .ensures) (c .enum-told .given .1))
+returns c =
+    let s = c .before .before .before .before .before .args .s .now in
+    head-none s (c .before .before .before .begin .ensures)
+    (was-end s (c .before .before .before .begin .result) (c .before .before .next .ensures)
+    (c .enum-told .given .1))
 
 returns-2 : tie.Need-returns-2
-returns-2 c = head-some (c .before .before .before .before .before .before .args .s .now) (c .before .before .before .before .begin .ensures) (c .before .t .given .0 .0) (was-byte (c .before .t .given .0 .0) (c .before .before .before .next .ensures) (c .before .t .given .1))
+returns-2 c =
+    head-some (c .before .before .before .before .before .before .args .s .now)
+    (c .before .before .before .before .begin .ensures) (c .before .t .given .0 .0)
+    (was-byte (c .before .t .given .0 .0) (c .before .before .before .next .ensures) (c .before .t .given .1))
 
 pub head-spec : {M : Type 1} → statement M
 head-spec =

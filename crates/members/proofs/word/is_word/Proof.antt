@@ -14,7 +14,9 @@ abbrev μ-loop : tie.MeasureT-loop
 μ-loop s at word i₀ i = length word - i
 
 loop-holds : tie.Need-loop-holds Inv-loop μ-loop
-loop-holds c = plainly (c .before .before .args .s .now) (c .before .before .args .at) (c .before .before .args .word .now) (c .before .before .pre)
+loop-holds c =
+    let a = c .before .before .args in
+    plainly (a .s .now) (a .at) (a .word .now) (c .before .before .pre)
 
 add-b : tie.Need-add-b Inv-loop μ-loop
 add-b c = omega (arith, plain-in (c .loop .inv))
@@ -44,13 +46,18 @@ returns-2 : tie.Need-returns-2 Inv-loop μ-loop
 returns-2 c = plain-escape (c .before .before .before .before .before .loop .inv) (c .spells .ensures)
 
 returns-3 : tie.Need-returns-3 Inv-loop μ-loop
-returns-3 c = plain-long (c .before .before .before .before .loop .inv) (c .before .before .if1 .left) (c .before .if2 .left) (c .if3 .taken)
+returns-3 c =
+    plain-long (c .before .before .before .before .loop .inv) (c .before .before .if1 .left)
+    (c .before .if2 .left) (c .if3 .taken)
 
 shared-slice-read-if4 : tie.Need-shared-slice-read-if4 Inv-loop μ-loop
 shared-slice-read-if4 c = omega (arith, c .before .before .before .before .before .loop .inv .upto)
 
 returns-4 : tie.Need-returns-4 Inv-loop μ-loop
-returns-4 c = plain-unlike (c .before .before .before .before .before .before .loop .inv) (c .before .before .before .before .if1 .left) (c .before .before .before .if2 .left) (c .before .before .if3 .left) (c .if4 .taken)
+returns-4 c =
+    let at-if2 = c .before .before .before in
+    plain-unlike (at-if2 .before .before .before .loop .inv) (at-if2 .before .if1 .left) (at-if2 .if2 .left)
+    (c .before .before .if3 .left) (c .if4 .taken)
 
 add-i : tie.Need-add-i Inv-loop μ-loop
 add-i c = omega (arith, c .before .before .before .before .before .before .loop .inv .upto)
@@ -59,7 +66,10 @@ loop-less : tie.Need-loop-less Inv-loop μ-loop
 loop-less c = omega (arith, c .before .before .before .before .before .before .loop .inv .upto)
 
 loop-again : tie.Need-loop-again Inv-loop μ-loop
-loop-again c = plain-like (c .before .before .before .before .before .before .loop .inv) (c .before .before .before .before .if1 .left) (c .before .before .before .if2 .left) (c .before .before .if3 .left) (c .if4 .left)
+loop-again c =
+    let at-if2 = c .before .before .before in
+    plain-like (at-if2 .before .before .before .loop .inv) (at-if2 .before .if1 .left) (at-if2 .if2 .left)
+    (c .before .before .if3 .left) (c .if4 .left)
 
 pub is-word-spec : {M : Type 1} → statement M
 is-word-spec =

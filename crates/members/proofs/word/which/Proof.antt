@@ -21,13 +21,20 @@ head-requires : tie.Need-head-requires Inv-loop μ-loop
 head-requires c κs = c .before .before .pre
 
 loop-holds : tie.Need-loop-holds Inv-loop μ-loop
-loop-holds c = listing (textAt (c .before .before .before .args .s .now) (c .before .before .before .args .at)) (c .before .before .before .args .names .now)
+loop-holds c =
+    let a = c .before .before .before .args in
+    listing (textAt (a .s .now) (a .at)) (a .names .now)
 
 shared-slice-read-if1 : tie.Need-shared-slice-read-if1 Inv-loop μ-loop
 shared-slice-read-if1 c = omega arith
 
 shared-slice-read-if2 : tie.Need-shared-slice-read-if2 Inv-loop μ-loop
-shared-slice-read-if2 c = omega (arith, c .before .before .before .before .loop .inv .order, c .before .before .before .loop-test .taken)
+shared-slice-read-if2 c =
+    omega (
+      arith,
+      c .before .before .before .before .loop .inv .order,
+      c .before .before .before .loop-test .taken,
+    )
 
 sub-is-word : tie.Need-sub-is-word Inv-loop μ-loop
 sub-is-word c = omega (arith, c .before .before .before .before .before .loop .inv .order)
@@ -43,10 +50,18 @@ is-word-requires c κs = c .before .before .before .before .before .before .befo
 
 returns : tie.Need-returns Inv-loop μ-loop
 unfolding placeOf
-returns c = listed (c .before .before .before .before .before .before .before .before .loop .inv) (c .before .before .before .before .before .before .before .loop-test .taken) (c .before .before .before .before .before .if1 .taken) (sym (c .if3 .taken) ∙ c .before .is-word .ensures)
+returns c =
+    let at-if1 = c .before .before .before .before .before in
+    listed (at-if1 .before .before .before .loop .inv) (at-if1 .before .before .loop-test .taken)
+    (at-if1 .if1 .taken) (sym (c .if3 .taken) ∙ c .before .is-word .ensures)
 
 add-n : tie.Need-add-n Inv-loop μ-loop
-add-n c = omega (arith, c .before .before .before .before .before .loop .inv .few, c .before .before .before .before .loop-test .taken)
+add-n c =
+    omega (
+      arith,
+      c .before .before .before .before .before .loop .inv .few,
+      c .before .before .before .before .loop-test .taken,
+    )
 
 add-from : tie.Need-add-from Inv-loop μ-loop
 add-from c = omega (arith, c .before .before .before .before .loop-test .taken)
@@ -59,9 +74,15 @@ loop-less c = omega (arith, c .before .before .loop-test .taken)
 
 loop-again : tie.Need-loop-again Inv-loop μ-loop
 loop-again c =
-    let l = c .before .before .before .loop .inv in
     let h = c .before .before .loop-test .taken in
-    ⊎-elim (λ w. listing-at (w .3) (w .4) (next-word l h (w .0 .taken) (⊎-elim (λ v. sym (v .3 .left) ∙ v .2 .ensures) (λ v. other-word l h (w .0 .taken) (λ e. v .left (e ∙ sym (c .before .before .before .before .head .ensures)))) (w .2 .came)))) (λ w. listing-at (w .1) (w .2) (same-word l h (w .0 .left))) (c .if1 .came)
+    let l = c .before .before .before .loop .inv in
+    ⊎-elim
+    (λ w. listing-at (w .3) (w .4)
+    (next-word l h (w .0 .taken)
+    (⊎-elim (λ v. sym (v .3 .left) ∙ v .2 .ensures)
+    (λ v. other-word l h (w .0 .taken)
+    (λ e. v .left (e ∙ sym (c .before .before .before .before .head .ensures)))) (w .2 .came))))
+    (λ w. listing-at (w .1) (w .2) (same-word l h (w .0 .left))) (c .if1 .came)
 
 returns-2 : tie.Need-returns-2 Inv-loop μ-loop
 unfolding placeOf

@@ -31,33 +31,47 @@ element-copy-out-y c = omega arith
 
 returns : tie.Need-returns Inv-loop μ-loop
 returns c =
-    let a = c .before .before .before .before .before .args .a .now in
-    let b = c .before .before .before .before .before .args .b .now in
-    let i = c .before .before .before .before .loop .i in
-    let p = c .before .before .before .before .before .pre in
+    let at-loop = c .before .before .before .before in
+    let p = at-loop .before .pre in
+    let i = at-loop .loop .i in
+    let a = at-loop .before .args .a .now in
+    let b = at-loop .before .args .b .now in
     let e : i - 1 + 1 ≡ i = omega arith in
-    sym (cmp-is (value a) (value b) Ordering·lt (less (less-here a b (i - 1) (omega (arith, p .0 .long)) (omega (arith, p .1 .long)) (rw e (c .before .before .before .before .loop .inv .1)) (p .0 .small) (c .if1 .taken))))
+    sym
+    (cmp-is (value a) (value b) Ordering·lt
+    (less
+    (less-here a b (i - 1) (omega (arith, p .0 .long)) (omega (arith, p .1 .long))
+    (rw e (at-loop .loop .inv .1)) (p .0 .small) (c .if1 .taken))))
 
 returns-2 : tie.Need-returns-2 Inv-loop μ-loop
 returns-2 c =
-    let a = c .before .before .before .before .before .before .args .a .now in
-    let b = c .before .before .before .before .before .before .args .b .now in
-    let i = c .before .before .before .before .before .loop .i in
-    let p = c .before .before .before .before .before .before .pre in
+    let at-loop = c .before .before .before .before .before in
+    let p = at-loop .before .pre in
+    let i = at-loop .loop .i in
+    let a = at-loop .before .args .a .now in
+    let b = at-loop .before .args .b .now in
     let e : i - 1 + 1 ≡ i = omega arith in
-    sym (cmp-is (value a) (value b) Ordering·gt (more (less-here b a (i - 1) (omega (arith, p .1 .long)) (omega (arith, p .0 .long)) (rw e (sym (c .before .before .before .before .before .loop .inv .1))) (p .1 .small) (c .if2 .taken))))
+    sym
+    (cmp-is (value a) (value b) Ordering·gt
+    (more
+    (less-here b a (i - 1) (omega (arith, p .1 .long)) (omega (arith, p .0 .long))
+    (rw e (sym (at-loop .loop .inv .1))) (p .1 .small) (c .if2 .taken))))
 
 loop-less : tie.Need-loop-less Inv-loop μ-loop
 loop-less c = omega arith
 
 loop-again : tie.Need-loop-again Inv-loop μ-loop
 loop-again c =
-    let a = c .before .before .before .before .before .before .args .a .now in
-    let b = c .before .before .before .before .before .before .args .b .now in
-    let i = c .before .before .before .before .before .loop .i in
-    let p = c .before .before .before .before .before .before .pre in
-    let e : i - 1 + 1 ≡ i = omega arith in
-    (omega arith, equal-here a b (i - 1) (omega (arith, p .0 .long)) (omega (arith, p .1 .long)) (rw e (c .before .before .before .before .before .loop .inv .1)) (omega (arith, c .before .if1 .left, c .if2 .left)))
+    let at-loop = c .before .before .before .before .before in
+    let p = at-loop .before .pre in
+    let i = at-loop .loop .i in
+    let a = at-loop .before .args .a .now in
+    let b = at-loop .before .args .b .now in
+    let e : i - 1 + 1 ≡ i = omega arith in (
+      omega arith,
+      equal-here a b (i - 1) (omega (arith, p .0 .long)) (omega (arith, p .1 .long))
+          (rw e (at-loop .loop .inv .1)) (omega (arith, c .before .if1 .left, c .if2 .left)),
+    )
 
 returns-3 : tie.Need-returns-3 Inv-loop μ-loop
 returns-3 c =

@@ -29,7 +29,12 @@ sub-t : tie.Need-sub-t Inv-loop μ-loop
 sub-t c = omega (arith, c .before .before .before .before .pre .1 .small (c .before .before .before .loop .i))
 
 sub-t-2 : tie.Need-sub-t-2 Inv-loop μ-loop
-sub-t-2 c = omega (arith, c .before .before .before .before .pre .1 .small (c .before .before .before .loop .i), c .before .before .before .loop .inv .1 .small)
+sub-t-2 c =
+    omega (
+      arith,
+      c .before .before .before .before .pre .1 .small (c .before .before .before .loop .i),
+      c .before .before .before .loop .inv .1 .small,
+    )
 
 array-write-digits : tie.Need-array-write-digits Inv-loop μ-loop
 array-write-digits c = omega (arith, c .before .before .before .before .pre .0 .few)
@@ -44,14 +49,27 @@ loop-less : tie.Need-loop-less Inv-loop μ-loop
 loop-less c = omega arith
 
 loop-again : tie.Need-loop-again Inv-loop μ-loop
-loop-again c = (omega arith, borrow-on _ _ _ (c .before .before .before .before .pre .0) (c .before .before .before .before .pre .1) (c .before .before .before .loop .digits) (c .before .before .before .loop .borrow) (c .before .before .before .loop .i) _ (c .before .before .before .loop .inv .1) (omega (arith, c .before .before .before .before .pre .0 .few)) refl)
+loop-again c =
+    let at-loop = c .before .before .before in
+    let pre = at-loop .before .pre in (
+      omega arith,
+      borrow-on _ _ _ (pre .0) (pre .1) (at-loop .loop .digits) (at-loop .loop .borrow) (at-loop .loop .i) _
+          (at-loop .loop .inv .1) (omega (arith, pre .0 .few)) refl,
+    )
 
 returns : tie.Need-returns Inv-loop μ-loop
 returns c =
+    let a = c .before .before .args in
     let p = c .before .before .pre in
     let i = c .before .loop .i in
-    let e : i ≡ c .before .before .args .count = omega arith in
-    (rw (sym e) (written-digits _ i (c .before .loop .inv .1 .written) (omega (arith, p .0 .few))), (all-borrowed (c .before .before .args .a .now) (c .before .before .args .b .now) _ (p .0) (p .1) _ _ i (c .before .loop .inv .1) (omega arith) (p .2), refl))
+    let e : i ≡ a .count = omega arith in (
+      rw (sym e) (written-digits _ i (c .before .loop .inv .1 .written) (omega (arith, p .0 .few))),
+      (
+        all-borrowed (a .a .now) (a .b .now) _ (p .0) (p .1) _ _ i (c .before .loop .inv .1) (omega arith)
+            (p .2),
+        refl,
+      ),
+    )
 
 pub minus-spec : {M : Type 1} → statement M
 minus-spec =

@@ -25,7 +25,12 @@ stop-requires : tie.Need-stop-requires Inv-loop μ-loop
 stop-requires c κs = search needs
 
 returns : tie.Need-returns Inv-loop μ-loop
-returns c = part-stop (c .before .before .before .before .before .before .args .s .now) (c .before .before .before .before .before .before .args .from) (c .before .before .before .before .before .before .args .known) (c .before .before .before .before .before .before .args .pointed) (c .before .before .before .before .loop .at) (c .before .before .before .before .loop .last) (c .before .before .before .before .loop .inv) (c .before .before .before .loop-test .taken) (sym (c .before .stop .ensures) ∙ c .if1 .taken)
+returns c =
+    let at-loop = c .before .before .before .before in
+    let a = at-loop .before .before .args in
+    part-stop (a .s .now) (a .from) (a .known) (a .pointed) (at-loop .loop .at) (at-loop .loop .last)
+    (at-loop .loop .inv) (c .before .before .before .loop-test .taken)
+    (sym (c .before .stop .ensures) ∙ c .if1 .taken)
 
 add-at : tie.Need-add-at Inv-loop μ-loop
 add-at c = omega arith
@@ -34,16 +39,29 @@ loop-less : tie.Need-loop-less Inv-loop μ-loop
 loop-less c = omega arith
 
 loop-again : tie.Need-loop-again Inv-loop μ-loop
-loop-again c = part-other (c .before .before .before .before .before .before .before .args .s .now) (c .before .before .before .before .before .before .before .args .from) (c .before .before .before .before .before .before .before .args .known) (c .before .before .before .before .before .before .before .args .pointed) (c .before .before .before .before .before .loop .at) (c .before .before .before .before .before .loop .last) (c .before .before .before .before .before .loop .inv) (c .before .before .before .before .loop-test .taken) (sym (c .before .before .stop .ensures) ∙ c .before .if1 .left) (c .if2 .taken)
+loop-again c =
+    let at-loop = c .before .before .before .before .before in
+    let a = at-loop .before .before .args in
+    part-other (a .s .now) (a .from) (a .known) (a .pointed) (at-loop .loop .at) (at-loop .loop .last)
+    (at-loop .loop .inv) (c .before .before .before .before .loop-test .taken)
+    (sym (c .before .before .stop .ensures) ∙ c .before .if1 .left) (c .if2 .taken)
 
 loop-less-2 : tie.Need-loop-less-2 Inv-loop μ-loop
 loop-less-2 c = omega arith
 
 loop-again-2 : tie.Need-loop-again-2 Inv-loop μ-loop
-loop-again-2 c = part-zero (c .before .before .before .before .before .before .before .args .s .now) (c .before .before .before .before .before .before .before .args .from) (c .before .before .before .before .before .before .before .args .known) (c .before .before .before .before .before .before .before .args .pointed) (c .before .before .before .before .before .loop .at) (c .before .before .before .before .before .loop .last) (c .before .before .before .before .before .loop .inv) (c .before .before .before .before .loop-test .taken) (sym (c .before .before .stop .ensures) ∙ c .before .if1 .left) (c .if2 .left)
+loop-again-2 c =
+    let at-loop = c .before .before .before .before .before in
+    let a = at-loop .before .before .args in
+    part-zero (a .s .now) (a .from) (a .known) (a .pointed) (at-loop .loop .at) (at-loop .loop .last)
+    (at-loop .loop .inv) (c .before .before .before .before .loop-test .taken)
+    (sym (c .before .before .stop .ensures) ∙ c .before .if1 .left) (c .if2 .left)
 
 returns-2 : tie.Need-returns-2 Inv-loop μ-loop
-returns-2 c = part-end (c .before .before .before .args .s .now) (c .before .before .before .args .from) (c .before .before .before .args .known) (c .before .before .before .args .pointed) (c .before .loop .at) (c .before .loop .last) (c .before .loop .inv) (c .loop-test .left)
+returns-2 c =
+    let a = c .before .before .before .args in
+    part-end (a .s .now) (a .from) (a .known) (a .pointed) (c .before .loop .at) (c .before .loop .last)
+    (c .before .loop .inv) (c .loop-test .left)
 
 pub part-spec : {M : Type 1} → statement M
 part-spec =

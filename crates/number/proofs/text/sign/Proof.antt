@@ -19,16 +19,24 @@ add-t8 : tie.Need-add-t8
 add-t8 c = search needs
 
 returns-2 : tie.Need-returns-2
-returns-2 c = has-sign (c .before .before .before .args .s .now) (c .before .before .before .args .at) (c .before .before .if1 .left) true (sym (eq-eqb _ 45 (c .if2 .taken))) (ap isSign (c .if2 .taken))
+returns-2 c =
+    let a = c .before .before .before .args in
+    has-sign (a .s .now) (a .at) (c .before .before .if1 .left) true (sym (eq-eqb _ 45 (c .if2 .taken)))
+    (ap isSign (c .if2 .taken))
 
 add-t9 : tie.Need-add-t9
 add-t9 c = search needs
 
 returns-3 : tie.Need-returns-3
-returns-3 c = has-sign (c .before .before .before .before .args .s .now) (c .before .before .before .before .args .at) (c .before .before .before .if1 .left) false (sym (ne-eqb _ 45 (c .before .if2 .left))) (ap isSign (c .if3 .taken))
+returns-3 c =
+    let a = c .before .before .before .before .args in
+    has-sign (a .s .now) (a .at) (c .before .before .before .if1 .left) false
+    (sym (ne-eqb _ 45 (c .before .if2 .left))) (ap isSign (c .if3 .taken))
 
 returns-4 : tie.Need-returns-4
-returns-4 c = not-sign (c .before .before .before .before .args .s .now) (c .before .before .before .before .args .at) (c .before .before .before .if1 .left) (c .before .if2 .left) (c .if3 .left)
+returns-4 c =
+    let a = c .before .before .before .before .args in
+    not-sign (a .s .now) (a .at) (c .before .before .before .if1 .left) (c .before .if2 .left) (c .if3 .left)
 
 pub sign-spec : {M : Type 1} → statement M
 sign-spec =

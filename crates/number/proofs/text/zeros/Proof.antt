@@ -21,7 +21,10 @@ shared-slice-read-if1 : tie.Need-shared-slice-read-if1 Inv-loop μ-loop
 shared-slice-read-if1 c = omega arith
 
 returns : tie.Need-returns Inv-loop μ-loop
-returns c = skip-stop (c .before .before .before .before .args .s .now) (c .before .before .before .before .args .from) (c .before .before .before .loop .at) (c .before .before .before .loop .inv) (c .before .before .loop-test .taken) (c .if1 .taken)
+returns c =
+    let at-loop = c .before .before .before in
+    skip-stop (at-loop .before .args .s .now) (at-loop .before .args .from) (at-loop .loop .at)
+    (at-loop .loop .inv) (c .before .before .loop-test .taken) (c .if1 .taken)
 
 add-at : tie.Need-add-at Inv-loop μ-loop
 add-at c = omega arith
@@ -30,10 +33,15 @@ loop-less : tie.Need-loop-less Inv-loop μ-loop
 loop-less c = omega arith
 
 loop-again : tie.Need-loop-again Inv-loop μ-loop
-loop-again c = skip-on (c .before .before .before .before .args .s .now) (c .before .before .before .before .args .from) (c .before .before .before .loop .at) (c .before .before .before .loop .inv) (c .before .before .loop-test .taken) (c .if1 .left)
+loop-again c =
+    let at-loop = c .before .before .before in
+    skip-on (at-loop .before .args .s .now) (at-loop .before .args .from) (at-loop .loop .at)
+    (at-loop .loop .inv) (c .before .before .loop-test .taken) (c .if1 .left)
 
 returns-2 : tie.Need-returns-2 Inv-loop μ-loop
-returns-2 c = skip-end (c .before .before .args .s .now) (c .before .before .args .from) (c .before .loop .at) (c .before .loop .inv) (c .loop-test .left)
+returns-2 c =
+    skip-end (c .before .before .args .s .now) (c .before .before .args .from) (c .before .loop .at)
+    (c .before .loop .inv) (c .loop-test .left)
 
 pub zeros-spec : {M : Type 1} → statement M
 zeros-spec =

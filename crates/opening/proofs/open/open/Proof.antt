@@ -23,10 +23,17 @@ enum-told : tie.Need-enum-told
 enum-told c = search needs
 
 order-requires : tie.Need-order-requires
-order-requires c κs = unordered (c .before .before .before .before .before .read .ensures) (c .before .enum-told .given .0 .0) (c .before .enum-told .given .1) (c .before .before .before .before .before .read .kept .1 .0)
+order-requires c κs =
+    let read = c .before .before .before .before .before .read in
+    unordered (read .ensures) (c .before .enum-told .given .0 .0) (c .before .enum-told .given .1)
+    (read .kept .1 .0)
 
 shape-of-requires : tie.Need-shape-of-requires
-shape-of-requires c κs = stored (c .before .before .before .before .before .before .before .before .before .read .ensures) (c .before .before .before .before .before .enum-told .given .0 .0) (c .before .before .before .before .before .enum-told .given .1) (c .before .before .before .order .ensures)
+shape-of-requires c κs =
+    let at-order = c .before .before .before in
+    stored (at-order .before .before .before .before .before .before .read .ensures)
+    (at-order .before .before .enum-told .given .0 .0) (at-order .before .before .enum-told .given .1)
+    (at-order .order .ensures)
 
 enum-told-2 : tie.Need-enum-told-2
 enum-told-2 c = search needs
@@ -44,34 +51,56 @@ same-length : tie.Need-same-length
 same-length c = search needs
 
 returns : tie.Need-returns
-returns c = stopped-reading (c .before .before .before .before .before .before .read .ensures) (c .before .before .why .given .0 .0) (c .before .before .why .given .1) (c .number .ensures)
+returns c =
+    stopped-reading (c .before .before .before .before .before .before .read .ensures)
+    (c .before .before .why .given .0 .0) (c .before .before .why .given .1) (c .number .ensures)
 
 same-length-2 : tie.Need-same-length-2
 same-length-2 c = search needs
 
 returns-2 : tie.Need-returns-2
 unfolding Shaped refusalNumber refusalLine
-returns-2 c = stopped-shape (c .before .before .before .before .before .before .before .before .before .before .before .before .read .ensures) (c .before .before .before .before .before .before .before .before .enum-told .given .0 .0) (c .before .before .before .before .before .before .before .before .enum-told .given .1) (c .before .before .before .before .before .before .order .ensures) wrongSheet refl refl (c .before .before .shape-of .ensures) shapes.WrongSheet (c .enum-told2 .given .1) (λ h. h)
+returns-2 c =
+    let at-order = c .before .before .before .before .before .before in
+    stopped-shape (at-order .before .before .before .before .before .before .read .ensures)
+    (at-order .before .before .enum-told .given .0 .0) (at-order .before .before .enum-told .given .1)
+    (at-order .order .ensures) wrongSheet refl refl (c .before .before .shape-of .ensures) shapes.WrongSheet
+    (c .enum-told2 .given .1) (λ h. h)
 
 same-length-3 : tie.Need-same-length-3
 same-length-3 c = search needs
 
 returns-3 : tie.Need-returns-3
 unfolding Shaped refusalNumber refusalLine
-returns-3 c = stopped-shape (c .before .before .before .before .before .before .before .before .before .before .before .before .read .ensures) (c .before .before .before .before .before .before .before .before .enum-told .given .0 .0) (c .before .before .before .before .before .before .before .before .enum-told .given .1) (c .before .before .before .before .before .before .order .ensures) wrongShape refl refl (c .before .before .shape-of .ensures) shapes.WrongShape (c .enum-told3 .given .1) (λ h. h)
+returns-3 c =
+    let at-order = c .before .before .before .before .before .before in
+    stopped-shape (at-order .before .before .before .before .before .before .read .ensures)
+    (at-order .before .before .enum-told .given .0 .0) (at-order .before .before .enum-told .given .1)
+    (at-order .order .ensures) wrongShape refl refl (c .before .before .shape-of .ensures) shapes.WrongShape
+    (c .enum-told3 .given .1) (λ h. h)
 
 same-length-4 : tie.Need-same-length-4
 same-length-4 c = search needs
 
 returns-4 : tie.Need-returns-4
 unfolding Shaped refusalNumber refusalLine
-returns-4 c = stopped-shape (c .before .before .before .before .before .before .before .before .before .before .before .before .read .ensures) (c .before .before .before .before .before .before .before .before .enum-told .given .0 .0) (c .before .before .before .before .before .before .before .before .enum-told .given .1) (c .before .before .before .before .before .before .order .ensures) notCarried refl refl (c .before .before .shape-of .ensures) shapes.NotCarried (c .enum-told4 .given .1) (λ h. h)
+returns-4 c =
+    let at-order = c .before .before .before .before .before .before in
+    stopped-shape (at-order .before .before .before .before .before .before .read .ensures)
+    (at-order .before .before .enum-told .given .0 .0) (at-order .before .before .enum-told .given .1)
+    (at-order .order .ensures) notCarried refl refl (c .before .before .shape-of .ensures) shapes.NotCarried
+    (c .enum-told4 .given .1) (λ h. h)
 
 same-length-5 : tie.Need-same-length-5
 same-length-5 c = search needs
 
 returns-5 : tie.Need-returns-5
-returns-5 c = opened-sheet (c .before .before .before .before .before .before .before .before .before .before .before .before .before .read .ensures) (c .before .before .before .before .before .before .before .before .before .enum-told .given .0 .0) (c .before .before .before .before .before .before .before .before .before .enum-told .given .1) (c .before .before .before .before .before .before .before .order .ensures) (c .before .before .before .shape-of .ensures) (c .before .m .given .0 .0) (c .before .m .given .1)
+returns-5 c =
+    let at-order = c .before .before .before .before .before .before .before in
+    opened-sheet (at-order .before .before .before .before .before .before .read .ensures)
+    (at-order .before .before .enum-told .given .0 .0) (at-order .before .before .enum-told .given .1)
+    (at-order .order .ensures) (c .before .before .before .shape-of .ensures) (c .before .m .given .0 .0)
+    (c .before .m .given .1)
 
 pub open-spec : {M : Type 1} → statement M
 open-spec =

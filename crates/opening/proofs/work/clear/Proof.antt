@@ -15,7 +15,9 @@ same-length : tie.Need-same-length
 same-length c = search needs
 
 returns-2 : tie.Need-returns-2
-returns-2 c = cleared-table (c .before .before .before .before .before .before .args .work .now) _ (c .before .before .before .before .if1 .left) (c .before .before .zero .ensures)
+returns-2 c =
+    cleared-table (c .before .before .before .before .before .before .args .work .now) _
+    (c .before .before .before .before .if1 .left) (c .before .before .zero .ensures)
 
 pub clear-spec : {M : Type 1} → statement M
 clear-spec = tie.close (tie.spec returns zero-requires same-length returns-2)

@@ -24,9 +24,11 @@ same-length c = search needs
 
 returns : tie.Need-returns
 returns c =
-    let start = c .before .before .before .before .before .before .before .before .before .before .before in
-    let count = c .before .before .before .before .before .before .before .before .after-at in
-    cleared-rows (start .pre .0) (start .pre .1) (3 * count .result - 0) (omega (arith, count .ensures)) (c .before .before .before .before .before .before .zero .ensures) (c .before .before .zero2 .ensures)
+    let at-zero = c .before .before .before .before .before .before in
+    let count = at-zero .before .before .after-at in
+    let start = at-zero .before .before .before .before .before in
+    cleared-rows (start .pre .0) (start .pre .1) (3 * count .result - 0) (omega (arith, count .ensures))
+    (at-zero .zero .ensures) (c .before .before .zero2 .ensures)
 
 pub clear-rows-spec : {M : Type 1} → statement M
 clear-rows-spec =

@@ -25,7 +25,12 @@ mul-work c = omega arith
 slice-write-work : tie.Need-slice-write-work Inv-loop μ-loop
 slice-write-work c =
     let l = c .before in
-    omega (arith, l .before .pre .1, ap length (l .loop .inv .2) ∙ length-sets (l .before .args .work .now) (l .before .args .from) (zeros (l .loop .i - l .before .args .from)))
+    let a = l .before .args in
+    omega (
+      arith,
+      l .before .pre .1,
+      ap length (l .loop .inv .2) ∙ length-sets (a .work .now) (a .from) (zeros (l .loop .i - a .from)),
+    )
 
 add-i : tie.Need-add-i Inv-loop μ-loop
 add-i c = omega arith
@@ -35,16 +40,24 @@ loop-less c = omega arith
 
 loop-again : tie.Need-loop-again Inv-loop μ-loop
 loop-again c =
-    let l = c .before in
-    (omega (arith, l .loop .inv .0), omega arith, zeros-on (l .before .args .work .now) (l .loop .work) (l .before .args .from) (l .loop .i) (l .loop .inv .0) (l .loop .inv .2))
+    let l = c .before in (
+      omega (arith, l .loop .inv .0),
+      omega arith,
+      zeros-on (l .before .args .work .now) (l .loop .work) (l .before .args .from) (l .loop .i)
+          (l .loop .inv .0) (l .loop .inv .2),
+    )
 
 same-length : tie.Need-same-length Inv-loop μ-loop
 same-length c =
     let l = c .before in
-    ap length (l .loop .inv .2) ∙ length-sets (l .before .args .work .now) (l .before .args .from) (zeros (l .loop .i - l .before .args .from))
+    let a = l .before .args in
+    ap length (l .loop .inv .2) ∙ length-sets (a .work .now) (a .from) (zeros (l .loop .i - a .from))
 
 returns : tie.Need-returns Inv-loop μ-loop
-returns c = let l = c .before in zeros-upto (l .before .args .work .now) (l .before .args .from) (omega (arith, l .loop .inv .1)) (l .loop .inv .2)
+returns c =
+    let l = c .before in
+    zeros-upto (l .before .args .work .now) (l .before .args .from) (omega (arith, l .loop .inv .1))
+    (l .loop .inv .2)
 
 pub zero-spec : {M : Type 1} → statement M
 zero-spec =

@@ -34,25 +34,33 @@ enum-told-3 : tie.Need-enum-told-3
 enum-told-3 c = search needs
 
 two-numbers-requires : tie.Need-two-numbers-requires
-two-numbers-requires c κs = (record { rows = c .before .before .before .before .pre .0 .rows; node = omega arith }, c .before .before .before .before .pre .1, c .before .before .before .before .pre .2)
+two-numbers-requires c κs =
+    let pre = c .before .before .before .before .pre in
+    (record { rows = pre .0 .rows; node = omega arith }, pre .1, pre .2)
 
 enum-told-4 : tie.Need-enum-told-4
 enum-told-4 c = search needs
 
 two-numbers-requires-2 : tie.Need-two-numbers-requires-2
-two-numbers-requires-2 c κs = (record { rows = c .before .before .before .before .pre .0 .rows; node = omega arith }, c .before .before .before .before .pre .1, c .before .before .before .before .pre .2)
+two-numbers-requires-2 c κs =
+    let pre = c .before .before .before .before .pre in
+    (record { rows = pre .0 .rows; node = omega arith }, pre .1, pre .2)
 
 enum-told-5 : tie.Need-enum-told-5
 enum-told-5 c = search needs
 
 two-numbers-requires-3 : tie.Need-two-numbers-requires-3
-two-numbers-requires-3 c κs = (record { rows = c .before .before .before .before .pre .0 .rows; node = omega arith }, c .before .before .before .before .pre .1, c .before .before .before .before .pre .2)
+two-numbers-requires-3 c κs =
+    let pre = c .before .before .before .before .pre in
+    (record { rows = pre .0 .rows; node = omega arith }, pre .1, pre .2)
 
 enum-told-6 : tie.Need-enum-told-6
 enum-told-6 c = search needs
 
 two-numbers-requires-4 : tie.Need-two-numbers-requires-4
-two-numbers-requires-4 c κs = (record { rows = c .before .before .before .before .pre .0 .rows; node = omega arith }, c .before .before .before .before .pre .1, c .before .before .before .before .pre .2)
+two-numbers-requires-4 c κs =
+    let pre = c .before .before .before .before .pre in
+    (record { rows = pre .0 .rows; node = omega arith }, pre .1, pre .2)
 
 enum-told-7 : tie.Need-enum-told-7
 enum-told-7 c = search needs
@@ -70,37 +78,71 @@ enum-told-9 : tie.Need-enum-told-9
 enum-told-9 c = search needs
 
 two-texts-requires : tie.Need-two-texts-requires
-two-texts-requires c κs = (record { rows = c .before .before .before .before .pre .0 .rows; node = omega arith }, c .before .before .before .before .pre .1, c .before .before .before .before .pre .2)
+two-texts-requires c κs =
+    let pre = c .before .before .before .before .pre in
+    (record { rows = pre .0 .rows; node = omega arith }, pre .1, pre .2)
 
 enum-told-10 : tie.Need-enum-told-10
 enum-told-10 c = search needs
 
 two-texts-requires-2 : tie.Need-two-texts-requires-2
-two-texts-requires-2 c κs = (record { rows = c .before .before .before .before .pre .0 .rows; node = omega arith }, c .before .before .before .before .pre .1, c .before .before .before .before .pre .2)
+two-texts-requires-2 c κs =
+    let pre = c .before .before .before .before .pre in
+    (record { rows = pre .0 .rows; node = omega arith }, pre .1, pre .2)
 
 returns : tie.Need-returns
 unfolding formOf
-returns c = rw (c .before .before .enum-told .given .1) (form-eq (sheetIn (c .before .before .before .before .before .before .args .s .now)) (c .before .before .before .before .before .before .args .s .now) (table (c .before .before .before .before .before .before .args .work .now)) (framesOf (c .before .before .before .before .before .before .args .s .now) (table (c .before .before .before .before .before .before .args .work .now)) (c .before .before .before .before .before .before .args .frames)) (c .before .before .before .before .before .before .args .a) (c .before .before .before .before .before .before .args .b) (rw (c .before .nesting .ensures ∙ ap nesting (sym (frames-length (c .before .before .before .before .before .before .pre .0)))) at (c .equal-at .ensures)))
+returns c =
+    let at-start = c .before .before .before .before .before .before in
+    let a = at-start .args in
+    rw (c .before .before .enum-told .given .1)
+    (form-eq (sheetIn (a .s .now)) (a .s .now) (table (a .work .now))
+    (framesOf (a .s .now) (table (a .work .now)) (a .frames)) (a .a) (a .b)
+    (rw (c .before .nesting .ensures ∙ ap nesting (sym (frames-length (at-start .pre .0)))) at
+    (c .equal-at .ensures)))
 
 returns-2 : tie.Need-returns-2
 unfolding formOf
-returns-2 c = rw (c .before .before .enum-told2 .given .1) (form-ne (sheetIn (c .before .before .before .before .before .before .args .s .now)) (c .before .before .before .before .before .before .args .s .now) (table (c .before .before .before .before .before .before .args .work .now)) (framesOf (c .before .before .before .before .before .before .args .s .now) (table (c .before .before .before .before .before .before .args .work .now)) (c .before .before .before .before .before .before .args .frames)) (c .before .before .before .before .before .before .args .a) (c .before .before .before .before .before .before .args .b) (rw (c .before .nesting2 .ensures ∙ ap nesting (sym (frames-length (c .before .before .before .before .before .before .pre .0)))) at (c .equal-at2 .ensures)))
+returns-2 c =
+    let at-start = c .before .before .before .before .before .before in
+    let a = at-start .args in
+    rw (c .before .before .enum-told2 .given .1)
+    (form-ne (sheetIn (a .s .now)) (a .s .now) (table (a .work .now))
+    (framesOf (a .s .now) (table (a .work .now)) (a .frames)) (a .a) (a .b)
+    (rw (c .before .nesting2 .ensures ∙ ap nesting (sym (frames-length (at-start .pre .0)))) at
+    (c .equal-at2 .ensures)))
 
 returns-3 : tie.Need-returns-3
 unfolding formOf
-returns-3 c = rw (c .before .enum-told3 .given .1) (form-gt (sheetIn (c .before .before .before .before .before .args .s .now)) (c .before .before .before .before .before .args .s .now) (table (c .before .before .before .before .before .args .work .now)) (framesOf (c .before .before .before .before .before .args .s .now) (table (c .before .before .before .before .before .args .work .now)) (c .before .before .before .before .before .args .frames)) (c .before .before .before .before .before .args .a) (c .before .before .before .before .before .args .b) (c .two-numbers .ensures))
+returns-3 c =
+    let a = c .before .before .before .before .before .args in
+    rw (c .before .enum-told3 .given .1)
+    (form-gt (sheetIn (a .s .now)) (a .s .now) (table (a .work .now))
+    (framesOf (a .s .now) (table (a .work .now)) (a .frames)) (a .a) (a .b) (c .two-numbers .ensures))
 
 returns-4 : tie.Need-returns-4
 unfolding formOf
-returns-4 c = rw (c .before .enum-told4 .given .1) (form-gte (sheetIn (c .before .before .before .before .before .args .s .now)) (c .before .before .before .before .before .args .s .now) (table (c .before .before .before .before .before .args .work .now)) (framesOf (c .before .before .before .before .before .args .s .now) (table (c .before .before .before .before .before .args .work .now)) (c .before .before .before .before .before .args .frames)) (c .before .before .before .before .before .args .a) (c .before .before .before .before .before .args .b) (c .two-numbers2 .ensures))
+returns-4 c =
+    let a = c .before .before .before .before .before .args in
+    rw (c .before .enum-told4 .given .1)
+    (form-gte (sheetIn (a .s .now)) (a .s .now) (table (a .work .now))
+    (framesOf (a .s .now) (table (a .work .now)) (a .frames)) (a .a) (a .b) (c .two-numbers2 .ensures))
 
 returns-5 : tie.Need-returns-5
 unfolding formOf
-returns-5 c = rw (c .before .enum-told5 .given .1) (form-lt (sheetIn (c .before .before .before .before .before .args .s .now)) (c .before .before .before .before .before .args .s .now) (table (c .before .before .before .before .before .args .work .now)) (framesOf (c .before .before .before .before .before .args .s .now) (table (c .before .before .before .before .before .args .work .now)) (c .before .before .before .before .before .args .frames)) (c .before .before .before .before .before .args .a) (c .before .before .before .before .before .args .b) (c .two-numbers3 .ensures))
+returns-5 c =
+    let a = c .before .before .before .before .before .args in
+    rw (c .before .enum-told5 .given .1)
+    (form-lt (sheetIn (a .s .now)) (a .s .now) (table (a .work .now))
+    (framesOf (a .s .now) (table (a .work .now)) (a .frames)) (a .a) (a .b) (c .two-numbers3 .ensures))
 
 returns-6 : tie.Need-returns-6
 unfolding formOf
-returns-6 c = rw (c .before .enum-told6 .given .1) (form-lte (sheetIn (c .before .before .before .before .before .args .s .now)) (c .before .before .before .before .before .args .s .now) (table (c .before .before .before .before .before .args .work .now)) (framesOf (c .before .before .before .before .before .args .s .now) (table (c .before .before .before .before .before .args .work .now)) (c .before .before .before .before .before .args .frames)) (c .before .before .before .before .before .args .a) (c .before .before .before .before .before .args .b) (c .two-numbers4 .ensures))
+returns-6 c =
+    let a = c .before .before .before .before .before .args in
+    rw (c .before .enum-told6 .given .1)
+    (form-lte (sheetIn (a .s .now)) (a .s .now) (table (a .work .now))
+    (framesOf (a .s .now) (table (a .work .now)) (a .frames)) (a .a) (a .b) (c .two-numbers4 .ensures))
 
 returns-7 : tie.Need-returns-7
 unfolding formOf
@@ -112,11 +154,19 @@ returns-8 c = rw (c .before .enum-told8 .given .1) (c .contains .ensures)
 
 returns-9 : tie.Need-returns-9
 unfolding formOf
-returns-9 c = rw (c .before .enum-told9 .given .1) (form-starts (sheetIn (c .before .before .before .before .before .args .s .now)) (c .before .before .before .before .before .args .s .now) (table (c .before .before .before .before .before .args .work .now)) (framesOf (c .before .before .before .before .before .args .s .now) (table (c .before .before .before .before .before .args .work .now)) (c .before .before .before .before .before .args .frames)) (c .before .before .before .before .before .args .a) (c .before .before .before .before .before .args .b) (c .two-texts .ensures))
+returns-9 c =
+    let a = c .before .before .before .before .before .args in
+    rw (c .before .enum-told9 .given .1)
+    (form-starts (sheetIn (a .s .now)) (a .s .now) (table (a .work .now))
+    (framesOf (a .s .now) (table (a .work .now)) (a .frames)) (a .a) (a .b) (c .two-texts .ensures))
 
 returns-10 : tie.Need-returns-10
 unfolding formOf
-returns-10 c = rw (c .before .enum-told10 .given .1) (form-ends (sheetIn (c .before .before .before .before .before .args .s .now)) (c .before .before .before .before .before .args .s .now) (table (c .before .before .before .before .before .args .work .now)) (framesOf (c .before .before .before .before .before .args .s .now) (table (c .before .before .before .before .before .args .work .now)) (c .before .before .before .before .before .args .frames)) (c .before .before .before .before .before .args .a) (c .before .before .before .before .before .args .b) (c .two-texts2 .ensures))
+returns-10 c =
+    let a = c .before .before .before .before .before .args in
+    rw (c .before .enum-told10 .given .1)
+    (form-ends (sheetIn (a .s .now)) (a .s .now) (table (a .work .now))
+    (framesOf (a .s .now) (table (a .work .now)) (a .frames)) (a .a) (a .b) (c .two-texts2 .ensures))
 
 pub holds-spec : {M : Type 1} → statement M
 holds-spec =

@@ -28,9 +28,13 @@ cast-next c = omega (arith, c .shared-slice-known2 .given (c .before .before .lo
 
 link-requires : tie.Need-link-requires Inv-loop μ-loop
 link-requires c κs =
-    let start = c .before .before .before .before .before .before in
     let turn = c .before .before .before .loop in
-    record { long = omega (arith, turn .inv .long, start .pre .0 .long); here = turn .inv .here; there = omega (arith, start .pre .1 (turn .i) (c .before .before .loop-test .taken)) }
+    let start = c .before .before .before .before .before .before in
+    record {
+      long = omega (arith, turn .inv .long, start .pre .0 .long);
+      here = turn .inv .here;
+      there = omega (arith, start .pre .1 (turn .i) (c .before .before .loop-test .taken));
+    }
 
 add-i : tie.Need-add-i Inv-loop μ-loop
 add-i c = omega arith
@@ -40,15 +44,21 @@ loop-less c = omega arith
 
 loop-again : tie.Need-loop-again Inv-loop μ-loop
 loop-again c =
-    let start = c .before .before .before .before .before .before .before .before .before in
     let turn = c .before .before .before .before .before .before in
-    rw (c .before .before .link .ensures) (chained-step (turn .loop .inv) (c .before .before .before .before .before .loop-test .taken) (start .pre .1))
+    let start = turn .before .before .before in
+    rw (c .before .before .link .ensures)
+    (chained-step (turn .loop .inv) (c .before .before .before .before .before .loop-test .taken)
+    (start .pre .1))
 
 link-requires-2 : tie.Need-link-requires-2 Inv-loop μ-loop
 link-requires-2 c κs =
-    let start = c .before .before .before .before .before in
     let turn = c .before .before .loop in
-    record { long = omega (arith, turn .inv .long, start .pre .0 .long); here = turn .inv .here; there = start .pre .0 .there }
+    let start = c .before .before .before .before .before in
+    record {
+      long = omega (arith, turn .inv .long, start .pre .0 .long);
+      here = turn .inv .here;
+      there = start .pre .0 .there;
+    }
 
 same-length : tie.Need-same-length Inv-loop μ-loop
 same-length c =
@@ -56,7 +66,9 @@ same-length c =
     ap length (c .before .before .link2 .ensures) ∙ length-set (turn .work) _ _ ∙ turn .inv .long
 
 returns : tie.Need-returns Inv-loop μ-loop
-returns c = c .before .before .link2 .ensures ∙ chained-end (c .before .before .before .before .before .loop .inv) (c .before .before .before .before .loop-test .left)
+returns c =
+    c .before .before .link2 .ensures ∙ chained-end (c .before .before .before .before .before .loop .inv)
+    (c .before .before .before .before .loop-test .left)
 
 pub chain-spec : {M : Type 1} → statement M
 chain-spec =

@@ -9,7 +9,8 @@ use Rattle.order.proofs.order.gather.Statement.{statement}
 use Rattle.order.proofs.order.gather.Tie as tie
 
 abbrev Inv-loop : tie.InvT-loop
-Inv-loop work from end names₀ count₀ k₀ names count k = (length names ≡ length names₀) × Gathering work from end names count k
+Inv-loop work from end names₀ count₀ k₀ names count k =
+    (length names ≡ length names₀) × Gathering work from end names count k
 
 abbrev μ-loop : tie.MeasureT-loop
 μ-loop work from end names₀ count₀ k₀ names count k = end - k
@@ -33,13 +34,22 @@ add-after-at : tie.Need-add-after-at Inv-loop μ-loop
 add-after-at c = omega (arith, turn (c .before .loop .inv .1) (c .loop-test .taken))
 
 after-at-requires : tie.Need-after-at-requires Inv-loop μ-loop
-after-at-requires c κs = omega (arith, turn (c .before .loop .inv .1) (c .loop-test .taken), c .before .before .before .before .pre .long)
+after-at-requires c κs =
+    omega (
+      arith,
+      turn (c .before .loop .inv .1) (c .loop-test .taken),
+      c .before .before .before .before .pre .long,
+    )
 
 loop-less : tie.Need-loop-less Inv-loop μ-loop
 loop-less c = rw (c .after-at .ensures) (turn (c .before .before .loop .inv .1) (c .before .loop-test .taken) .falls)
 
 loop-again : tie.Need-loop-again Inv-loop μ-loop
-loop-again c = (length-set (c .before .before .loop .names) _ _ ∙ c .before .before .loop .inv .0, rw (c .after-at .ensures) (gathered-one (c .before .before .loop .inv .1) (c .before .loop-test .taken)))
+loop-again c =
+    let loop = c .before .before .loop in (
+      length-set (loop .names) _ _ ∙ loop .inv .0,
+      rw (c .after-at .ensures) (gathered-one (loop .inv .1) (c .before .loop-test .taken)),
+    )
 
 same-length : tie.Need-same-length Inv-loop μ-loop
 same-length c = c .before .loop .inv .0

@@ -16,11 +16,15 @@ sort-requires c κs = search needs
 
 chain-requires : tie.Need-chain-requires
 chain-requires c κs =
-    let start = c .before .before .before .before .before .before .before .before .before .before .before .before .before .before in
-    let s = start .args .s .now in
-    let w = start .args .work .now in
+    let at-sort = c .before .before .before .before .before .before in
+    let start = at-sort .before .before .before .before .before .before .before .before in
     let names = start .args .names .now in
-    (start .pre .0, subst AllSmall (sym (c .before .before .before .before .before .before .sort .ensures)) (all-small s w (byKey (keyAt s w) names) (text-nodes-sorted s w names (start .pre .1))))
+    let s = start .args .s .now in
+    let w = start .args .work .now in (
+      start .pre .0,
+      subst AllSmall (sym (at-sort .sort .ensures))
+          (all-small s w (byKey (keyAt s w) names) (text-nodes-sorted s w names (start .pre .1))),
+    )
 
 same-length : tie.Need-same-length
 same-length c = search needs
@@ -33,8 +37,11 @@ same-length-3 c = search needs
 
 returns : tie.Need-returns
 returns c =
-    let start = c .before .before .before .before .before .before .before .before .before .before .before .before .before .before .before .before .before in
-    c .before .before .chain .ensures ∙ ap (λ (l : List ℕ). chained (start .args .work .now) (start .args .node) l (start .args .end)) (c .before .before .before .before .before .before .before .before .before .sort .ensures)
+    let at-sort = c .before .before .before .before .before .before .before .before .before in
+    let start = at-sort .before .before .before .before .before .before .before .before in
+    c .before .before .chain .ensures ∙ ap
+    (λ (l : List ℕ). chained (start .args .work .now) (start .args .node) l (start .args .end))
+    (at-sort .sort .ensures)
 
 pub link-names-spec : {M : Type 1} → statement M
 link-names-spec =

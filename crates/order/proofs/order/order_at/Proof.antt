@@ -24,25 +24,38 @@ add-gather c = search needs
 
 gather-requires : tie.Need-gather-requires
 gather-requires c κs =
-    let start = c .before .before .before .before .before .before .before .before in
     let e = c .before .before .after-at .ensures in
-    record { long = start .pre .long; sheet = start .args .s .now; members = rw e (start .pre .members); enough = omega (arith, e, start .pre .members .members .most, start .pre .room) }
+    let start = c .before .before .before .before .before .before .before .before in
+    record {
+      long = start .pre .long;
+      sheet = start .args .s .now;
+      members = rw e (start .pre .members);
+      enough = omega (arith, e, start .pre .members .members .most, start .pre .room);
+    }
 
 slice-relend-prefix-link-names : tie.Need-slice-relend-prefix-link-names
 slice-relend-prefix-link-names c = search needs
 
 slice-aggregate-link-names : tie.Need-slice-aggregate-link-names
-slice-aggregate-link-names c = sym (length-take-le (c .before .before .before .before .gather .result) _ (c .before .before .before .before .gather .ensures .few))
+slice-aggregate-link-names c =
+    let gather = c .before .before .before .before .gather in
+    sym (length-take-le (gather .result) _ (gather .ensures .few))
 
 link-names-requires : tie.Need-link-names-requires
 link-names-requires c κs =
-    let start = c .before .before .before .before .before .before .before .before .before .before .before .before .before .before in
+    let at-after-at = c .before .before .before .before .before .before .before .before in
+    let e = at-after-at .after-at .ensures in
+    let start = at-after-at .before .before .before .before .before .before in
     let s = start .args .s .now in
     let w = start .args .work .now in
-    let e = c .before .before .before .before .before .before .before .before .after-at .ensures in
     let nodes = c .before .before .before .before .before .gather .ensures .nodes s in
-    let members : HasMembers s w (start .args .node + 1) (c .before .before .before .before .before .before .before .before .after-at .result) = rw e (start .pre .members) in (
-      record { long = start .pre .long; here = omega (arith, members-within members); there = members-within members .1 },
+    let members : HasMembers s w (start .args .node + 1) (at-after-at .after-at .result) = rw e
+    (start .pre .members) in (
+      record {
+        long = start .pre .long;
+        here = omega (arith, members-within members);
+        there = members-within members .1;
+      },
       subst (λ (l : List ℕ). TextNodes s w l) (sym nodes) (names-text members),
       omega (arith, ap length nodes, names-few s w members, members-within members, start .pre .more),
     )
@@ -58,13 +71,17 @@ same-length-3 c = search needs
 
 returns : tie.Need-returns
 returns c =
-    let start = c .before .before .before .before .before .before .before .before .before .before .before .before .before .before .before .before .before .before .before .before .before in
+    let at-gather =
+    c .before .before .before .before .before .before .before .before .before .before .before .before in
+    let start = at-gather .before .before .before .before .before .before .before .before .before in
+    let n = start .args .node in
     let s = start .args .s .now in
     let w = start .args .work .now in
-    let n = start .args .node in
-    c .before .before .before .before .before .before .link-names .ensures
-    ∙ ap (λ (l : List ℕ). chained w n (byKey (keyAt s w) l) (c .before .before .before .before .before .before .before .before .before .before .before .before .before .before .before .after-at .result)) (c .before .before .before .before .before .before .before .before .before .before .before .before .gather .ensures .nodes s)
-    ∙ ap (λ (e : ℕ). chained w n (byKey (keyAt s w) (nodesOf (namesAt s w (n + 1) e))) e) (c .before .before .before .before .before .before .before .before .before .before .before .before .before .before .before .after-at .ensures)
+    c .before .before .before .before .before .before .link-names .ensures ∙ ap
+    (λ (l : List ℕ). chained w n (byKey (keyAt s w) l) (at-gather .before .before .before .after-at .result))
+    (at-gather .gather .ensures .nodes s) ∙ ap
+    (λ (e : ℕ). chained w n (byKey (keyAt s w) (nodesOf (namesAt s w (n + 1) e))) e)
+    (at-gather .before .before .before .after-at .ensures)
 
 pub order-at-spec : {M : Type 1} → statement M
 order-at-spec =

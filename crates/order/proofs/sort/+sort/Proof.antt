@@ -34,7 +34,9 @@ sort-returns : (t : ℕ) → sort-lts.Need-returns (
   join-reads.Asked,
   join-reads.Learnt,
 ) (sort-at t) sort.Post
-sort-returns t c = let a = c .before .before .before .before .before .args in short-sorted (keyAt (a .s .now) (a .work .now)) (a .nodes .now) (c .if1 .taken)
+sort-returns t c =
+    let a = c .before .before .before .before .before .args in
+    short-sorted (keyAt (a .s .now) (a .work .now)) (a .nodes .now) (c .if1 .taken)
 
 sort-slice-relend-prefix-sort : (t : ℕ) → sort-lts.Need-slice-relend-prefix-sort (
   sort-below t,
@@ -50,7 +52,9 @@ sort-slice-aggregate-sort : (t : ℕ) → sort-lts.Need-slice-aggregate-sort (
   join-reads.Asked,
   join-reads.Learnt,
 ) (sort-at t) sort.Post
-sort-slice-aggregate-sort t c = let n = c .before .before .before .before .before .before .args .nodes .now in sym (length-take-le (length n / 2) n (omega arith))
+sort-slice-aggregate-sort t c =
+    let n = c .before .before .before .before .before .before .args .nodes .now in
+    sym (length-take-le (length n / 2) n (omega arith))
 
 sort-sort-requires : (t : ℕ) → sort-lts.Need-sort-requires (
   sort-below t,
@@ -59,10 +63,11 @@ sort-sort-requires : (t : ℕ) → sort-lts.Need-sort-requires (
   join-reads.Learnt,
 ) (sort-at t) sort.Post
 sort-sort-requires t c κs =
-    let a = c .before .before .before .before .before .before .before .args in
+    let at-start = c .before .before .before .before .before .before .before in
+    let a = at-start .args in
+    let p = at-start .pre .1 in
     let n = a .nodes .now in
     let mid = length n / 2 in
-    let p = c .before .before .before .before .before .before .before .pre .1 in
     let l = length-take-le mid n (omega arith) in
     let falls : mid < t = omega arith in
     let fits : mid ≤ length (a .spare .now) = omega arith in
@@ -107,13 +112,23 @@ sort-sort-requires-2 : (t : ℕ) → sort-lts.Need-sort-requires-2 (
   join-reads.Learnt,
 ) (sort-at t) sort.Post
 sort-sort-requires-2 t c κs =
-    let a = c .before .before .before .before .before .before .before .before .before .before .before .before .before .before .args in
+    let at-sort = c .before .before .before .before .before .before in
+    let at-start = at-sort .before .before .before .before .before .before .before .before in
+    let a = at-start .args in
+    let p = at-start .pre .1 in
     let n = a .nodes .now in
     let mid = length n / 2 in
-    let p = c .before .before .before .before .before .before .before .before .before .before .before .before .before .before .pre .1 in
-    let l = second-long (a .s .now) (a .work .now) n (c .before .before .before .before .before .before .sort .last .1 .1 .0) mid (omega arith) (c .before .before .before .before .before .before .sort .ensures) in
-    let falls : length n - mid < t = omega arith in
-    (rw l falls, (p .0, second-texts (a .s .now) (a .work .now) n (c .before .before .before .before .before .before .sort .last .1 .1 .0) mid (omega arith) (c .before .before .before .before .before .before .sort .ensures) (p .1), rw l (search needs)))
+    let l = second-long (a .s .now) (a .work .now) n (at-sort .sort .last .1 .1 .0) mid (omega arith)
+    (at-sort .sort .ensures) in
+    let falls : length n - mid < t = omega arith in (
+      rw l falls,
+      (
+        p .0,
+        second-texts (a .s .now) (a .work .now) n (at-sort .sort .last .1 .1 .0) mid (omega arith)
+            (at-sort .sort .ensures) (p .1),
+        rw l (search needs),
+      ),
+    )
 
 sort-join-requires : (t : ℕ) → sort-lts.Need-join-requires (
   sort-below t,
@@ -122,11 +137,18 @@ sort-join-requires : (t : ℕ) → sort-lts.Need-join-requires (
   join-reads.Learnt,
 ) (sort-at t) sort.Post
 sort-join-requires t c κs =
-    let a = c .before .before .before .before .before .before .before .before .before .before .before .before .before .before .before .before .before .before .before .before .before .args in
+    let at-sort2 = c .before .before .before .before .before .before in
+    let at-sort = at-sort2 .before .before .before .before .before .before .before in
+    let at-start = at-sort .before .before .before .before .before .before .before .before in
+    let a = at-start .args in
+    let p = at-start .pre .1 in
     let n = a .nodes .now in
-    let mid = length n / 2 in
-    let p = c .before .before .before .before .before .before .before .before .before .before .before .before .before .before .before .before .before .before .before .before .before .pre .1 in
-    (joinable (a .s .now) (a .work .now) n (c .before .before .before .before .before .before .before .before .before .before .before .before .before .sort .last .1 .1 .0) mid (omega arith) (c .before .before .before .before .before .before .before .before .before .before .before .before .before .sort .ensures) (c .before .before .before .before .before .before .sort2 .last .1 .1 .0) (c .before .before .before .before .before .before .sort2 .ensures) (p .0) (p .1) (omega arith) (omega arith), search needs)
+    let mid = length n / 2 in (
+      joinable (a .s .now) (a .work .now) n (at-sort .sort .last .1 .1 .0) mid (omega arith)
+          (at-sort .sort .ensures) (at-sort2 .sort2 .last .1 .1 .0) (at-sort2 .sort2 .ensures) (p .0) (p .1)
+          (omega arith) (omega arith),
+      search needs,
+    )
 
 sort-same-length : (t : ℕ) → sort-lts.Need-same-length (
   sort-below t,
@@ -151,10 +173,15 @@ sort-returns-2 : (t : ℕ) → sort-lts.Need-returns-2 (
   join-reads.Learnt,
 ) (sort-at t) sort.Post
 sort-returns-2 t c =
-    let a = c .before .before .before .before .before .before .before .before .before .before .before .before .before .before .before .before .before .before .before .before .before .before .before .before .before .before .args in
+    let at-sort2 =
+    c .before .before .before .before .before .before .before .before .before .before .before in
+    let at-sort = at-sort2 .before .before .before .before .before .before .before in
+    let a = at-sort .before .before .before .before .before .before .before .before .args in
     let n = a .nodes .now in
     let mid = length n / 2 in
-    all-sorted (a .s .now) (a .work .now) n (c .before .before .before .before .before .before .before .before .before .before .before .before .before .before .before .before .before .before .sort .last .1 .1 .0) mid (omega arith) (c .before .before .before .before .before .before .before .before .before .before .before .before .before .before .before .before .before .before .sort .ensures) (c .before .before .before .before .before .before .before .before .before .before .before .sort2 .last .1 .1 .0) (c .before .before .before .before .before .before .before .before .before .before .before .sort2 .ensures) _ (c .before .before .before .before .join .ensures)
+    all-sorted (a .s .now) (a .work .now) n (at-sort .sort .last .1 .1 .0) mid (omega arith)
+    (at-sort .sort .ensures) (at-sort2 .sort2 .last .1 .1 .0) (at-sort2 .sort2 .ensures) _
+    (c .before .before .before .before .join .ensures)
 
 pub +sort-spec : {M : Type 1} → statement M
 +sort-spec = close μ-sort λ t. sort-lts.spec (

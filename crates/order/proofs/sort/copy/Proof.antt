@@ -11,10 +11,12 @@ use lib.Seq.{paste-suc, take-length}
 use Rattle.order.proofs.sort.copy.Statement.{statement}
 use Rattle.order.proofs.sort.copy.Tie as tie
 
-one-more : (from to₀ to : List ℕ) (i : ℕ) → i < length from → length from ≤ length to₀ → to ≡ take i from ++ drop i to₀ → set to i (getD from i 0) ≡ take (i + 1) from ++ drop (i + 1) to₀
+one-more : (from to₀ to : List ℕ) (i : ℕ) → i < length from → length from ≤ length to₀
+    → to ≡ take i from ++ drop i to₀ → set to i (getD from i 0) ≡ take (i + 1) from ++ drop (i + 1) to₀
 one-more from to₀ to i h l e = rw (e, add-one) (simp zero-add at (paste-suc to₀ 0 from i 0 (omega arith) h))
 
-all : (from to₀ : List ℕ) (i : ℕ) → i ≤ length from → length from ≤ i → take i from ++ drop i to₀ ≡ from ++ drop (length from) to₀
+all : (from to₀ : List ℕ) (i : ℕ) → i ≤ length from → length from ≤ i
+    → take i from ++ drop i to₀ ≡ from ++ drop (length from) to₀
 all from to₀ i h l = let e : i ≡ length from = omega arith in rw (e, take-length)
 
 abbrev Inv-loop : tie.InvT-loop
@@ -46,16 +48,24 @@ loop-less c = omega arith
 
 loop-again : tie.Need-loop-again Inv-loop μ-loop
 loop-again c =
-    let i = c .before .before .loop .inv in
-    let to = c .before .before .loop .to in
-    let from = c .before .before .before .args .from .now in
-    (omega arith, length-set to (c .before .before .loop .i) _ ∙ i .1, one-more from (c .before .before .before .args .to .now) to (c .before .before .loop .i) (c .before .loop-test .taken) (c .before .before .before .pre) (i .2))
+    let loop = c .before .before .loop in
+    let a = c .before .before .before .args in
+    let i = loop .inv in
+    let to = loop .to in
+    let from = a .from .now in (
+      omega arith,
+      length-set to (loop .i) _ ∙ i .1,
+      one-more from (a .to .now) to (loop .i) (c .before .loop-test .taken) (c .before .before .before .pre)
+          (i .2),
+    )
 
 same-length : tie.Need-same-length Inv-loop μ-loop
 same-length c = c .before .loop .inv .1
 
 returns : tie.Need-returns Inv-loop μ-loop
-returns c = c .before .loop .inv .2 ∙ all (c .before .before .args .from .now) (c .before .before .args .to .now) (c .before .loop .i) (c .before .loop .inv .0) (c .loop-test .left)
+returns c =
+    c .before .loop .inv .2 ∙ all (c .before .before .args .from .now) (c .before .before .args .to .now)
+    (c .before .loop .i) (c .before .loop .inv .0) (c .loop-test .left)
 
 pub copy-spec : {M : Type 1} → statement M
 copy-spec =

@@ -12,7 +12,8 @@ use borrow.Author.Needs.{needs}
 use Rattle.order.proofs.sort.is_after.Statement.{statement}
 use Rattle.order.proofs.sort.is_after.Tie as tie
 
-after : (s : Bytes) (w : List ℕ) (a b x y : ℕ) (o : Ordering) → x ≡ startAt w a → y ≡ startAt w b → orderBytes (textAt s x) (textAt s y) ≡ o → isMore o ≡ isAfter (keyAt s w) a b
+after : (s : Bytes) (w : List ℕ) (a b x y : ℕ) (o : Ordering) → x ≡ startAt w a → y ≡ startAt w b
+    → orderBytes (textAt s x) (textAt s y) ≡ o → isMore o ≡ isAfter (keyAt s w) a b
 after s w a b x y o p q e = rw (← p, ← q, e)
 
 start-at-requires : tie.Need-start-at-requires
@@ -22,7 +23,9 @@ start-at-requires-2 : tie.Need-start-at-requires-2
 start-at-requires-2 c κs = search needs
 
 compare-requires : tie.Need-compare-requires
-compare-requires c κs = (rw (c .before .start-at .ensures) (c .before .before .before .before .pre .1 .onText), rw (c .start-at2 .ensures) (c .before .before .before .before .pre .2 .onText))
+compare-requires c κs =
+    let pre = c .before .before .before .before .pre in
+    (rw (c .before .start-at .ensures) (pre .1 .onText), rw (c .start-at2 .ensures) (pre .2 .onText))
 
 enum-told : tie.Need-enum-told
 enum-told c = search needs
@@ -35,15 +38,27 @@ enum-told-3 c = search needs
 
 returns : tie.Need-returns
 unfolding orderOf
-returns c = let a = c .before .before .before .before .before .before .before .args in after (a .s .now) (a .work .now) (a .a) (a .b) _ _ _ (c .before .before .before .before .start-at .ensures) (c .before .before .before .start-at2 .ensures) (c .before .before .compare .ensures ∙ ap orderOf (c .enum-told .given .1))
+returns c =
+    let a = c .before .before .before .before .before .before .before .args in
+    after (a .s .now) (a .work .now) (a .a) (a .b) _ _ _
+    (c .before .before .before .before .start-at .ensures) (c .before .before .before .start-at2 .ensures)
+    (c .before .before .compare .ensures ∙ ap orderOf (c .enum-told .given .1))
 
 returns-2 : tie.Need-returns-2
 unfolding orderOf
-returns-2 c = let a = c .before .before .before .before .before .before .before .args in after (a .s .now) (a .work .now) (a .a) (a .b) _ _ _ (c .before .before .before .before .start-at .ensures) (c .before .before .before .start-at2 .ensures) (c .before .before .compare .ensures ∙ ap orderOf (c .enum-told2 .given .1))
+returns-2 c =
+    let a = c .before .before .before .before .before .before .before .args in
+    after (a .s .now) (a .work .now) (a .a) (a .b) _ _ _
+    (c .before .before .before .before .start-at .ensures) (c .before .before .before .start-at2 .ensures)
+    (c .before .before .compare .ensures ∙ ap orderOf (c .enum-told2 .given .1))
 
 returns-3 : tie.Need-returns-3
 unfolding orderOf
-returns-3 c = let a = c .before .before .before .before .before .before .before .args in after (a .s .now) (a .work .now) (a .a) (a .b) _ _ _ (c .before .before .before .before .start-at .ensures) (c .before .before .before .start-at2 .ensures) (c .before .before .compare .ensures ∙ ap orderOf (c .enum-told3 .given .1))
+returns-3 c =
+    let a = c .before .before .before .before .before .before .before .args in
+    after (a .s .now) (a .work .now) (a .a) (a .b) _ _ _
+    (c .before .before .before .before .start-at .ensures) (c .before .before .before .start-at2 .ensures)
+    (c .before .before .compare .ensures ∙ ap orderOf (c .enum-told3 .given .1))
 
 pub is-after-spec : {M : Type 1} → statement M
 is-after-spec =

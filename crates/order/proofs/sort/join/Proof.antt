@@ -33,39 +33,56 @@ cast-is-after-2 c = omega (arith, c .slice-known4 .given (c .before .before .bef
 
 is-after-requires : tie.Need-is-after-requires
 is-after-requires c κs =
-    let a = c .before .before .before .before .before .before .args in
-    let p = c .before .before .before .before .before .before .pre .0 in
-    (p .long, text-getD (a .s .now) (a .work .now) (a .nodes .now) (a .mid - 1) (p .texts) (omega arith), text-getD (a .s .now) (a .work .now) (a .nodes .now) (a .mid) (p .texts) (p .within))
+    let at-start = c .before .before .before .before .before .before in
+    let a = at-start .args in
+    let p = at-start .pre .0 in (
+      p .long,
+      text-getD (a .s .now) (a .work .now) (a .nodes .now) (a .mid - 1) (p .texts) (omega arith),
+      text-getD (a .s .now) (a .work .now) (a .nodes .now) (a .mid) (p .texts) (p .within),
+    )
 
 slice-reshare-prefix-copy : tie.Need-slice-reshare-prefix-copy
 slice-reshare-prefix-copy c = search needs
 
 slice-aggregate-copy : tie.Need-slice-aggregate-copy
 slice-aggregate-copy c =
-    let a = c .before .before .before .before .before .before .before .before .before .args in
-    let p = c .before .before .before .before .before .before .before .before .before .pre .0 in
+    let at-start = c .before .before .before .before .before .before .before .before .before in
+    let a = at-start .args in
+    let p = at-start .pre .0 in
     sym (front (a .s .now) (a .work .now) (a .nodes .now) (a .mid) p)
 
 copy-requires : tie.Need-copy-requires
 copy-requires c κs =
-    let a = c .before .before .before .before .before .before .before .before .before .before .args in
-    let p = c .before .before .before .before .before .before .before .before .before .before .pre .0 in
-    rw (front (a .s .now) (a .work .now) (a .nodes .now) (a .mid) p) (c .before .before .before .before .before .before .before .before .before .before .pre .1)
+    let at-start = c .before .before .before .before .before .before .before .before .before .before in
+    let a = at-start .args in
+    let p = at-start .pre .0 in
+    rw (front (a .s .now) (a .work .now) (a .nodes .now) (a .mid) p) (at-start .pre .1)
 
 slice-reshare-prefix-merge : tie.Need-slice-reshare-prefix-merge
 slice-reshare-prefix-merge c = search needs
 
 slice-aggregate-merge : tie.Need-slice-aggregate-merge
 slice-aggregate-merge c =
-    let a = c .before .before .before .before .before .before .before .before .before .before .before .before .before .before .args in
-    let p = c .before .before .before .before .before .before .before .before .before .before .before .before .before .before .pre .0 in
-    sym (ap length (copied (a .s .now) (a .work .now) (a .nodes .now) (a .mid) p (c .before .before .before .copy .last .1 .0) _ (c .before .before .before .copy .ensures)) ∙ front (a .s .now) (a .work .now) (a .nodes .now) (a .mid) p)
+    let at-start = c .before .before .before .before .before .before .before .before .before .before
+    .before .before .before .before in
+    let a = at-start .args in
+    let p = at-start .pre .0 in
+    sym
+    (ap length
+    (copied (a .s .now) (a .work .now) (a .nodes .now) (a .mid) p
+    (c .before .before .before .copy .last .1 .0) _ (c .before .before .before .copy .ensures)) ∙ front
+    (a .s .now) (a .work .now) (a .nodes .now) (a .mid) p)
 
 merge-requires : tie.Need-merge-requires
 merge-requires c κs =
-    let a = c .before .before .before .before .before .before .before .before .before .before .before .before .before .before .before .args in
-    let p = c .before .before .before .before .before .before .before .before .before .before .before .before .before .before .before .pre .0 in
-    halves (a .s .now) (a .work .now) (a .nodes .now) (a .mid) p _ (copied (a .s .now) (a .work .now) (a .nodes .now) (a .mid) p (c .before .before .before .before .copy .last .1 .0) _ (c .before .before .before .before .copy .ensures))
+    let at-copy = c .before .before .before .before in
+    let at-start =
+    at-copy .before .before .before .before .before .before .before .before .before .before .before in
+    let a = at-start .args in
+    let p = at-start .pre .0 in
+    halves (a .s .now) (a .work .now) (a .nodes .now) (a .mid) p _
+    (copied (a .s .now) (a .work .now) (a .nodes .now) (a .mid) p (at-copy .copy .last .1 .0) _
+    (at-copy .copy .ensures))
 
 same-length : tie.Need-same-length
 same-length c = search needs
@@ -75,15 +92,22 @@ same-length-2 c = search needs
 
 returns : tie.Need-returns
 returns c =
-    let a = c .before .before .before .before .before .before .before .before .before .before .before .before .before .before .before .before .before .before .args in
-    let p = c .before .before .before .before .before .before .before .before .before .before .before .before .before .before .before .before .before .before .pre .0 in
-    merged (a .s .now) (a .work .now) (a .nodes .now) (a .mid) p _ (copied (a .s .now) (a .work .now) (a .nodes .now) (a .mid) p (c .before .before .before .before .before .before .before .copy .last .1 .0) _ (c .before .before .before .before .before .before .before .copy .ensures)) _ (c .before .before .merge .ensures)
+    let at-copy = c .before .before .before .before .before .before .before in
+    let at-start =
+    at-copy .before .before .before .before .before .before .before .before .before .before .before in
+    let a = at-start .args in
+    let p = at-start .pre .0 in
+    merged (a .s .now) (a .work .now) (a .nodes .now) (a .mid) p _
+    (copied (a .s .now) (a .work .now) (a .nodes .now) (a .mid) p (at-copy .copy .last .1 .0) _
+    (at-copy .copy .ensures)) _ (c .before .before .merge .ensures)
 
 returns-2 : tie.Need-returns-2
 returns-2 c =
-    let a = c .before .before .before .before .before .before .before .before .args in
-    let p = c .before .before .before .before .before .before .before .before .pre .0 in
-    in-order (a .s .now) (a .work .now) (a .nodes .now) (a .mid) p (sym (c .before .is-after .ensures) ∙ c .if1 .left)
+    let at-start = c .before .before .before .before .before .before .before .before in
+    let a = at-start .args in
+    let p = at-start .pre .0 in
+    in-order (a .s .now) (a .work .now) (a .nodes .now) (a .mid) p
+    (sym (c .before .is-after .ensures) ∙ c .if1 .left)
 
 pub join-spec : {M : Type 1} → statement M
 join-spec =

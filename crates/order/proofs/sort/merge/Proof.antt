@@ -15,19 +15,28 @@ abbrev μ-loop : tie.MeasureT-loop
 μ-loop s work left nodes₀ i₀ j₀ k₀ nodes i j k = length nodes₀ - k
 
 loop-holds : tie.Need-loop-holds Inv-loop μ-loop
-loop-holds c = let a = c .before .before .before .before .args in begins (a .s .now) (a .work .now) (a .left .now) (a .nodes .now) (c .before .before .before .before .pre)
+loop-holds c =
+    let a = c .before .before .before .before .args in
+    begins (a .s .now) (a .work .now) (a .left .now) (a .nodes .now) (c .before .before .before .before .pre)
 
 right-first-requires : tie.Need-right-first-requires Inv-loop μ-loop
-right-first-requires c κs = (c .before .before .before .before .before .before .before .pre .long, c .before .before .before .before .before .before .before .pre .texts, c .before .before .loop .inv .texts, c .before .loop-test .taken)
+right-first-requires c κs =
+    let pre = c .before .before .before .before .before .before .before .pre in
+    (pre .long, pre .texts, c .before .before .loop .inv .texts, c .before .loop-test .taken)
 
 mul-nodes : tie.Need-mul-nodes Inv-loop μ-loop
 mul-nodes c = omega arith
 
 slice-read-nodes : tie.Need-slice-read-nodes Inv-loop μ-loop
 slice-read-nodes c =
-    let a = c .before .before .before .before .before .before .before .before .before .before .args in
     let l = c .before .before .before .before .before .loop in
-    omega (arith, some-right (a .s .now) (a .work .now) (a .left .now) (a .nodes .now) (l .nodes) (l .i) (l .j) (l .k) (l .inv) (c .before .before .before .before .loop-test .taken) _ (c .before .before .right-first .ensures) (c .before .if1 .taken))
+    let a = c .before .before .before .before .before .before .before .before .before .before .args in
+    omega (
+      arith,
+      some-right (a .s .now) (a .work .now) (a .left .now) (a .nodes .now) (l .nodes) (l .i) (l .j) (l .k)
+          (l .inv) (c .before .before .before .before .loop-test .taken) _
+          (c .before .before .right-first .ensures) (c .before .if1 .taken),
+    )
 
 mul-nodes-2 : tie.Need-mul-nodes-2 Inv-loop μ-loop
 mul-nodes-2 c = omega arith
@@ -61,21 +70,27 @@ loop-less c = omega arith
 
 loop-again : tie.Need-loop-again Inv-loop μ-loop
 loop-again c =
-    let a = c .before .before .before .before .before .before .before .before .before .args in
     let l = c .before .before .before .before .loop in
+    let a = c .before .before .before .before .before .before .before .before .before .args in
     ⊎-elim
-    (λ w. rw (w .2, w .3, w .4) (turn-right (a .s .now) (a .work .now) (a .left .now) (a .nodes .now) (l .nodes) (l .i) (l .j) (l .k) (l .inv) (c .before .before .before .loop-test .taken) _ (c .before .right-first .ensures) (w .0 .taken)))
-    (λ w. rw (w .2, w .3, w .4) (turn-left (a .s .now) (a .work .now) (a .left .now) (a .nodes .now) (l .nodes) (l .i) (l .j) (l .k) (l .inv) (c .before .before .before .loop-test .taken) _ (c .before .right-first .ensures) (w .0 .left)))
-    (c .if1 .came)
+    (λ w. rw (w .2, w .3, w .4)
+    (turn-right (a .s .now) (a .work .now) (a .left .now) (a .nodes .now) (l .nodes) (l .i) (l .j) (l .k)
+    (l .inv) (c .before .before .before .loop-test .taken) _ (c .before .right-first .ensures)
+    (w .0 .taken)))
+    (λ w. rw (w .2, w .3, w .4)
+    (turn-left (a .s .now) (a .work .now) (a .left .now) (a .nodes .now) (l .nodes) (l .i) (l .j) (l .k)
+    (l .inv) (c .before .before .before .loop-test .taken) _ (c .before .right-first .ensures)
+    (w .0 .left))) (c .if1 .came)
 
 same-length : tie.Need-same-length Inv-loop μ-loop
 same-length c = c .before .loop .inv .long
 
 returns : tie.Need-returns Inv-loop μ-loop
 returns c =
-    let a = c .before .before .before .before .before .before .args in
     let l = c .before .loop in
-    ended (a .s .now) (a .work .now) (a .left .now) (a .nodes .now) (l .nodes) (l .i) (l .j) (l .k) (l .inv) (c .loop-test .left)
+    let a = c .before .before .before .before .before .before .args in
+    ended (a .s .now) (a .work .now) (a .left .now) (a .nodes .now) (l .nodes) (l .i) (l .j) (l .k) (l .inv)
+    (c .loop-test .left)
 
 pub merge-spec : {M : Type 1} → statement M
 merge-spec =

@@ -26,25 +26,41 @@ loop-holds : tie.Need-loop-holds Inv-loop μ-loop
 loop-holds c = picking (c .before .before .before .before .pre .1) _ (c .after-at .ensures)
 
 start-at-requires : tie.Need-start-at-requires Inv-loop μ-loop
-start-at-requires c κs = let h = room-there (c .before .loop .inv) (c .loop-test .taken) in record { rows = c .before .before .before .before .before .before .pre .0 .rows; node = omega arith }
+start-at-requires c κs =
+    let h = room-there (c .before .loop .inv) (c .loop-test .taken) in
+    record { rows = c .before .before .before .before .before .before .pre .0 .rows; node = omega arith }
 
 add-chosen : tie.Need-add-chosen Inv-loop μ-loop
 add-chosen c = let h = room-there (c .before .before .loop .inv) (c .before .loop-test .taken) in omega arith
 
 chosen-requires : tie.Need-chosen-requires Inv-loop μ-loop
-chosen-requires c κs = (c .before .before .before .before .before .before .before .pre .2, name-there (c .before .before .loop .inv) (c .before .loop-test .taken) (c .start-at .ensures))
+chosen-requires c κs = (
+  c .before .before .before .before .before .before .before .pre .2,
+  name-there (c .before .before .loop .inv) (c .before .loop-test .taken) (c .start-at .ensures),
+)
 
 add-after-at : tie.Need-add-after-at Inv-loop μ-loop
-add-after-at c = let h = room-there (c .before .before .before .loop .inv) (c .before .before .loop-test .taken) in omega arith
+add-after-at c =
+    let h = room-there (c .before .before .before .loop .inv) (c .before .before .loop-test .taken) in
+    omega arith
 
 after-at-requires-2 : tie.Need-after-at-requires-2 Inv-loop μ-loop
-after-at-requires-2 c κs = record { rows = c .before .before .before .before .before .before .before .before .pre .0 .rows; node = room-there (c .before .before .before .loop .inv) (c .before .before .loop-test .taken) }
+after-at-requires-2 c κs =
+    record {
+      rows = c .before .before .before .before .before .before .before .before .pre .0 .rows;
+      node = room-there (c .before .before .before .loop .inv) (c .before .before .loop-test .taken);
+    }
 
 loop-less : tie.Need-loop-less Inv-loop μ-loop
-loop-less c = let f = pick-falls (c .before .before .before .before .loop .inv) (c .before .before .before .loop-test .taken) (c .after-at2 .ensures) in omega (arith, f .0, f .1)
+loop-less c =
+    let f = pick-falls (c .before .before .before .before .loop .inv)
+    (c .before .before .before .loop-test .taken) (c .after-at2 .ensures) in
+    omega (arith, f .0, f .1)
 
 loop-again : tie.Need-loop-again Inv-loop μ-loop
-loop-again c = pick-on (c .before .before .before .before .loop .inv) (c .before .before .before .loop-test .taken) (c .before .before .start-at .ensures) (c .before .chosen .ensures) (c .after-at2 .ensures)
+loop-again c =
+    pick-on (c .before .before .before .before .loop .inv) (c .before .before .before .loop-test .taken)
+    (c .before .before .start-at .ensures) (c .before .chosen .ensures) (c .after-at2 .ensures)
 
 returns : tie.Need-returns Inv-loop μ-loop
 returns c = picked (c .before .loop .inv) (c .loop-test .left)

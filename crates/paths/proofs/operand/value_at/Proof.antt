@@ -13,7 +13,10 @@ value-kind-requires : tie.Need-value-kind-requires
 value-kind-requires c κs = search needs
 
 returns : tie.Need-returns
-returns c = λ s h. rw (c .value-kind .ensures) (value-means s (table (c .before .before .before .args .work .now)) (c .before .before .before .args .node) _ (c .before .kind-at .ensures) h)
+returns c =
+    let a = c .before .before .before .args in
+    λ s h. rw (c .value-kind .ensures)
+    (value-means s (table (a .work .now)) (a .node) _ (c .before .kind-at .ensures) h)
 
 pub value-at-spec : {M : Type 1} → statement M
 value-at-spec = tie.close (tie.spec kind-at-requires value-kind-requires returns)

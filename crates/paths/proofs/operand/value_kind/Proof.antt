@@ -24,7 +24,18 @@ returns-6 : tie.Need-returns-6
 returns-6 c = rw (c .if6 .taken)
 
 returns-7 : tie.Need-returns-7
-returns-7 c = rw (ne-eqb (c .before .before .before .before .before .before .args .code) 0 (c .before .before .before .before .before .if1 .left), ne-eqb (c .before .before .before .before .before .before .args .code) 1 (c .before .before .before .before .if2 .left), ne-eqb (c .before .before .before .before .before .before .args .code) 2 (c .before .before .before .if3 .left), ne-eqb (c .before .before .before .before .before .before .args .code) 3 (c .before .before .if4 .left), ne-eqb (c .before .before .before .before .before .before .args .code) 4 (c .before .if5 .left), ne-eqb (c .before .before .before .before .before .before .args .code) 5 (c .if6 .left), choose)
+returns-7 c =
+    let at-if3 = c .before .before .before in
+    let code = at-if3 .before .before .before .args .code in
+    rw (
+      ne-eqb code 0 (at-if3 .before .before .if1 .left),
+      ne-eqb code 1 (at-if3 .before .if2 .left),
+      ne-eqb code 2 (at-if3 .if3 .left),
+      ne-eqb code 3 (c .before .before .if4 .left),
+      ne-eqb code 4 (c .before .if5 .left),
+      ne-eqb code 5 (c .if6 .left),
+      choose,
+    )
 
 pub value-kind-spec : {M : Type 1} → statement M
 value-kind-spec =

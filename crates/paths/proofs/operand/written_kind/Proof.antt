@@ -17,7 +17,10 @@ value-kind-requires : tie.Need-value-kind-requires
 value-kind-requires c κs = search needs
 
 returns-3 : tie.Need-returns-3
-returns-3 c = c .value-kind .ensures ∙ rw (ne-eqb (c .before .before .before .args .code) 5 (c .before .before .if1 .left), ne-eqb (c .before .before .before .args .code) 6 (c .before .if2 .left), choose)
+returns-3 c =
+    let code = c .before .before .before .args .code in
+    c .value-kind .ensures ∙ rw
+    (ne-eqb code 5 (c .before .before .if1 .left), ne-eqb code 6 (c .before .if2 .left), choose)
 
 pub written-kind-spec : {M : Type 1} → statement M
 written-kind-spec = tie.close (tie.spec returns returns-2 value-kind-requires returns-3)

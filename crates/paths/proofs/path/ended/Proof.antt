@@ -18,10 +18,17 @@ enum-known--b : tie.Need-enum-known--b
 enum-known--b c = search needs
 
 returns : tie.Need-returns
-returns c = sym (same-none refl (was-end (c .before .before .before .before .args .s .now) (c .before .before .before .before .args .c) (c .before .before .next .ensures) (c .enum-told .given .1)))
+returns c =
+    let a = c .before .before .before .before .args in
+    sym
+    (same-none refl (was-end (a .s .now) (a .c) (c .before .before .next .ensures) (c .enum-told .given .1)))
 
 returns-2 : tie.Need-returns-2
-returns-2 c = sym (same-short refl (was-byte (c .before .-b .given .0 .0) (c .before .before .before .next .ensures) (c .before .-b .given .1) .byte))
+returns-2 c =
+    sym
+    (same-short refl
+    (was-byte (c .before .-b .given .0 .0) (c .before .before .before .next .ensures)
+    (c .before .-b .given .1) .byte))
 
 pub ended-spec : {M : Type 1} → statement M
 ended-spec = tie.close (tie.spec next-requires enum-told enum-known--b returns returns-2)

@@ -13,7 +13,10 @@ use Rattle.json.specs.Spans.{textAt}
 use borrow.Author.Needs.{needs}
 
 abbrev Inv-loop : tie.InvT-loop
-Inv-loop path at s name x₀ y₀ x y = OnText path (x .at) (x .left) × OnText s (y .at) (y .left) × (sameBytes (part (textAt path at)) (textAt s name) ≡ sameBytes (part (before path (x .at) (x .unit) (x .left))) (before s (y .at) (y .unit) (y .left)))
+Inv-loop path at s name x₀ y₀ x y =
+    OnText path (x .at) (x .left) × OnText s (y .at) (y .left) ×
+    (sameBytes (part (textAt path at)) (textAt s name) ≡ sameBytes
+    (part (before path (x .at) (x .unit) (x .left))) (before s (y .at) (y .unit) (y .left)))
 
 abbrev μ-loop : tie.MeasureT-loop
 μ-loop path at s name x₀ y₀ x y = weight path (x .at) (x .left)
@@ -26,10 +29,14 @@ begin-requires-2 c κs = search needs
 
 loop-holds : tie.Need-loop-holds Inv-loop μ-loop
 loop-holds c =
-    let start = c .before .before .before .before in
-    let x = c .before .begin .ensures in
     let y = c .begin2 .ensures in
-    (start-on (start .args .path .now) (start .args .at) x (start .pre .0), start-on (start .args .s .now) (start .args .name) y (start .pre .1), rw (start-before (start .args .path .now) (start .args .at) x, start-before (start .args .s .now) (start .args .name) y))
+    let x = c .before .begin .ensures in
+    let start = c .before .before .before .before in
+    let a = start .args in (
+      start-on (a .path .now) (a .at) x (start .pre .0),
+      start-on (a .s .now) (a .name) y (start .pre .1),
+      rw (start-before (a .path .now) (a .at) x, start-before (a .s .now) (a .name) y),
+    )
 
 next-requires : tie.Need-next-requires Inv-loop μ-loop
 next-requires c κs = c .loop .inv .0
@@ -41,7 +48,12 @@ ended-requires : tie.Need-ended-requires Inv-loop μ-loop
 ended-requires c κs = c .before .before .before .loop .inv .1
 
 returns : tie.Need-returns Inv-loop μ-loop
-returns c = c .ended .ensures ∙ sym (c .before .before .before .before .loop .inv .2 ∙ part-ended _ (was-end (c .before .before .before .before .before .before .before .before .before .args .path .now) (c .before .before .before .before .loop .x) (c .before .before .before .next .ensures) (c .before .enum-told .given .1)))
+returns c =
+    let at-next = c .before .before .before in
+    c .ended .ensures ∙ sym
+    (at-next .before .loop .inv .2 ∙ part-ended _
+    (was-end (at-next .before .before .before .before .before .before .args .path .now)
+    (at-next .before .loop .x) (at-next .next .ensures) (c .before .enum-told .given .1)))
 
 enum-known-p : tie.Need-enum-known-p Inv-loop μ-loop
 enum-known-p c = search needs
@@ -50,7 +62,12 @@ ended-requires-2 : tie.Need-ended-requires-2 Inv-loop μ-loop
 ended-requires-2 c κs = c .before .before .before .before .before .before .loop .inv .1
 
 returns-2 : tie.Need-returns-2 Inv-loop μ-loop
-returns-2 c = c .ended2 .ensures ∙ sym (c .before .before .before .before .before .before .before .loop .inv .2 ∙ part-dot _ (was-byte (c .before .before .before .before .p .given .0 .0) (c .before .before .before .before .before .before .next .ensures) (c .before .before .before .before .p .given .1) .byte) (c .before .if1 .taken))
+returns-2 c =
+    let at-p = c .before .before .before .before in
+    c .ended2 .ensures ∙ sym
+    (at-p .before .before .before .loop .inv .2 ∙ part-dot _
+    (was-byte (at-p .p .given .0 .0) (at-p .before .before .next .ensures) (at-p .p .given .1) .byte)
+    (c .before .if1 .taken))
 
 next-requires-2 : tie.Need-next-requires-2 Inv-loop μ-loop
 next-requires-2 c κs = c .before .before .before .before .before .before .loop .inv .1
@@ -59,22 +76,47 @@ enum-told-2 : tie.Need-enum-told-2 Inv-loop μ-loop
 enum-told-2 c = search needs
 
 returns-3 : tie.Need-returns-3 Inv-loop μ-loop
-returns-3 c = sym (c .before .before .before .before .before .before .before .before .before .loop .inv .2 ∙ part-longer _ (was-byte (c .before .before .before .before .before .before .p .given .0 .0) (c .before .before .before .before .before .before .before .before .next .ensures) (c .before .before .before .before .before .before .p .given .1) .byte) (c .before .before .before .if1 .left) (was-end (c .before .before .before .before .before .before .before .before .before .before .before .before .before .before .args .s .now) (c .before .before .before .before .before .before .before .before .before .loop .y) (c .before .before .next2 .ensures) (c .enum-told2 .given .1)))
+returns-3 c =
+    let at-p = c .before .before .before .before .before .before in
+    let at-loop = at-p .before .before .before in
+    sym
+    (at-loop .loop .inv .2 ∙ part-longer _
+    (was-byte (at-p .p .given .0 .0) (at-p .before .before .next .ensures) (at-p .p .given .1) .byte)
+    (c .before .before .before .if1 .left)
+    (was-end (at-loop .before .before .before .before .before .args .s .now) (at-loop .loop .y)
+    (c .before .before .next2 .ensures) (c .enum-told2 .given .1)))
 
 enum-known-q : tie.Need-enum-known-q Inv-loop μ-loop
 enum-known-q c = search needs
 
 returns-4 : tie.Need-returns-4 Inv-loop μ-loop
-returns-4 c = sym (c .before .before .before .before .before .before .before .before .before .before .before .before .before .loop .inv .2 ∙ part-apart _ (was-byte (c .before .before .before .before .before .before .before .before .before .before .p .given .0 .0) (c .before .before .before .before .before .before .before .before .before .before .before .before .next .ensures) (c .before .before .before .before .before .before .before .before .before .before .p .given .1) .byte) (c .before .before .before .before .before .before .before .if1 .left) (was-byte (c .before .before .before .before .q .given .0 .0) (c .before .before .before .before .before .before .next2 .ensures) (c .before .before .before .before .q .given .1) .byte) (c .if2 .taken))
+returns-4 c =
+    let at-q = c .before .before .before .before in
+    let at-p = at-q .before .before .before .before .before .before in
+    sym
+    (at-p .before .before .before .loop .inv .2 ∙ part-apart _
+    (was-byte (at-p .p .given .0 .0) (at-p .before .before .next .ensures) (at-p .p .given .1) .byte)
+    (at-q .before .before .before .if1 .left)
+    (was-byte (at-q .q .given .0 .0) (at-q .before .before .next2 .ensures) (at-q .q .given .1) .byte)
+    (c .if2 .taken))
 
 loop-less : tie.Need-loop-less Inv-loop μ-loop
-loop-less c = was-byte (c .before .before .before .before .before .before .before .before .before .before .before .before .p .given .0 .0) (c .before .before .before .before .before .before .before .before .before .before .before .before .before .before .next .ensures) (c .before .before .before .before .before .before .before .before .before .before .before .before .p .given .1) .falls
+loop-less c =
+    let at-p =
+    c .before .before .before .before .before .before .before .before .before .before .before .before in
+    was-byte (at-p .p .given .0 .0) (at-p .before .before .next .ensures) (at-p .p .given .1) .falls
 
 loop-again : tie.Need-loop-again Inv-loop μ-loop
 loop-again c =
-    let a = was-byte (c .before .before .before .before .before .before .before .before .before .before .before .before .p .given .0 .0) (c .before .before .before .before .before .before .before .before .before .before .before .before .before .before .next .ensures) (c .before .before .before .before .before .before .before .before .before .before .before .before .p .given .1) in
-    let b = was-byte (c .before .before .before .before .before .before .q .given .0 .0) (c .before .before .before .before .before .before .before .before .next2 .ensures) (c .before .before .before .before .before .before .q .given .1) in
-    (a .onText, b .onText, c .before .before .before .before .before .before .before .before .before .before .before .before .before .before .before .loop .inv .2 ∙ part-on _ (a .byte) (c .before .before .before .before .before .before .before .before .before .if1 .left) (b .byte) (c .before .before .if2 .left))
+    let at-q = c .before .before .before .before .before .before in
+    let at-p = at-q .before .before .before .before .before .before in
+    let a = was-byte (at-p .p .given .0 .0) (at-p .before .before .next .ensures) (at-p .p .given .1) in
+    let b = was-byte (at-q .q .given .0 .0) (at-q .before .before .next2 .ensures) (at-q .q .given .1) in (
+      a .onText,
+      b .onText,
+      at-p .before .before .before .loop .inv .2 ∙ part-on _ (a .byte)
+          (at-q .before .before .before .if1 .left) (b .byte) (c .before .before .if2 .left),
+    )
 
 pub part-decoded-spec : {M : Type 1} → statement M
 part-decoded-spec =

@@ -17,7 +17,9 @@ abbrev μ-loop : tie.MeasureT-loop
 μ-loop path s name n₀ n = length path - n
 
 loop-holds : tie.Need-loop-holds Inv-loop μ-loop
-loop-holds c = alongside (c .before .before .args .path .now) (c .before .before .args .s .now) (c .before .before .args .name) (c .before .before .pre .0) (c .before .before .pre .1)
+loop-holds c =
+    let a = c .before .before .args in
+    alongside (a .path .now) (a .s .now) (a .name) (c .before .before .pre .0) (c .before .before .pre .1)
 
 shared-slice-read-c : tie.Need-shared-slice-read-c Inv-loop μ-loop
 shared-slice-read-c c = alongside-inPath (c .before .loop .inv)
@@ -32,31 +34,44 @@ add-part-decoded : tie.Need-add-part-decoded Inv-loop μ-loop
 add-part-decoded c = omega (arith, alongside-inName (c .before .before .before .before .loop .inv))
 
 part-decoded-requires : tie.Need-part-decoded-requires Inv-loop μ-loop
-part-decoded-requires c κs = (c .before .before .before .before .loop .inv .onPath, c .before .before .before .before .loop .inv .onName)
+part-decoded-requires c κs =
+    let inv = c .before .before .before .before .loop .inv in
+    (inv .onPath, inv .onName)
 
 returns : tie.Need-returns Inv-loop μ-loop
 returns c = c .part-decoded .ensures ∙ sym (c .before .before .before .before .before .loop .inv .same)
 
 returns-2 : tie.Need-returns-2 Inv-loop μ-loop
-returns-2 c = alongside-dot (c .before .before .before .before .before .before .loop .inv) (c .if4 .taken) (eqb-false _ 92 (c .before .if3 .left))
+returns-2 c =
+    alongside-dot (c .before .before .before .before .before .before .loop .inv) (c .if4 .taken)
+    (eqb-false _ 92 (c .before .if3 .left))
 
 returns-3 : tie.Need-returns-3 Inv-loop μ-loop
-returns-3 c = ne-eqb _ 46 (c .if4 .left) ∙ alongside-apart (c .before .before .before .before .before .before .loop .inv) (c .before .before .before .if1 .taken) (c .before .before .if2 .left) (eqb-false _ 92 (c .before .if3 .left)) (c .if4 .left)
+returns-3 c =
+    ne-eqb _ 46 (c .if4 .left) ∙ alongside-apart
+    (c .before .before .before .before .before .before .loop .inv) (c .before .before .before .if1 .taken)
+    (c .before .before .if2 .left) (eqb-false _ 92 (c .before .if3 .left)) (c .if4 .left)
 
 add-part-decoded-2 : tie.Need-add-part-decoded-2 Inv-loop μ-loop
 add-part-decoded-2 c = omega (arith, alongside-inName (c .before .before .before .before .loop .inv))
 
 part-decoded-requires-2 : tie.Need-part-decoded-requires-2 Inv-loop μ-loop
-part-decoded-requires-2 c κs = (c .before .before .before .before .loop .inv .onPath, c .before .before .before .before .loop .inv .onName)
+part-decoded-requires-2 c κs =
+    let inv = c .before .before .before .before .loop .inv in
+    (inv .onPath, inv .onName)
 
 returns-4 : tie.Need-returns-4 Inv-loop μ-loop
 returns-4 c = c .part-decoded2 .ensures ∙ sym (c .before .before .before .before .before .loop .inv .same)
 
 returns-5 : tie.Need-returns-5 Inv-loop μ-loop
-returns-5 c = alongside-end (c .before .before .before .before .before .loop .inv) (c .before .before .if1 .left) (c .if6 .taken)
+returns-5 c =
+    alongside-end (c .before .before .before .before .before .loop .inv) (c .before .before .if1 .left)
+    (c .if6 .taken)
 
 returns-6 : tie.Need-returns-6 Inv-loop μ-loop
-returns-6 c = alongside-dots (c .before .before .before .before .before .before .loop .inv) (c .before .before .before .if1 .left) (c .if7 .taken)
+returns-6 c =
+    alongside-dots (c .before .before .before .before .before .before .loop .inv)
+    (c .before .before .before .if1 .left) (c .if7 .taken)
 
 add-n : tie.Need-add-n Inv-loop μ-loop
 add-n c = omega (arith, alongside-inPath (c .before .before .before .before .before .before .loop .inv))
@@ -65,7 +80,10 @@ loop-less : tie.Need-loop-less Inv-loop μ-loop
 loop-less c = omega (arith, alongside-inPath (c .before .before .before .before .before .before .loop .inv))
 
 loop-again : tie.Need-loop-again Inv-loop μ-loop
-loop-again c = alongside-on (c .before .before .before .before .before .before .loop .inv) (c .before .before .before .if1 .left) (c .before .before .if5 .left) (c .before .if6 .left) (c .if7 .left)
+loop-again c =
+    alongside-on (c .before .before .before .before .before .before .loop .inv)
+    (c .before .before .before .if1 .left) (c .before .before .if5 .left) (c .before .if6 .left)
+    (c .if7 .left)
 
 pub part-is-spec : {M : Type 1} → statement M
 part-is-spec =

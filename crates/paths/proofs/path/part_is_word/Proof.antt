@@ -17,7 +17,8 @@ abbrev μ-loop : tie.MeasureT-loop
 μ-loop path word n₀ n = length path - n
 
 loop-holds : tie.Need-loop-holds Inv-loop μ-loop
-loop-holds c = spelled (c .before .before .args .path .now) (c .before .before .args .word .now) (c .before .before .pre)
+loop-holds c =
+    spelled (c .before .before .args .path .now) (c .before .before .args .word .now) (c .before .before .pre)
 
 shared-slice-read-c : tie.Need-shared-slice-read-c Inv-loop μ-loop
 shared-slice-read-c c = spelled-in (c .before .loop .inv)
@@ -29,16 +30,25 @@ returns : tie.Need-returns Inv-loop μ-loop
 returns c = c .word-decoded .ensures ∙ sym (c .before .before .before .loop .inv .same)
 
 returns-2 : tie.Need-returns-2 Inv-loop μ-loop
-returns-2 c = ⊎-elim (λ e. spelled-end (c .before .before .before .loop .inv) (e .taken)) (λ e. spelled-dot (c .before .before .before .loop .inv) (eqb-true _ 46 (e .1 .taken))) (c .if2 .came)
+returns-2 c =
+    let inv = c .before .before .before .loop .inv in
+    ⊎-elim (λ e. spelled-end inv (e .taken)) (λ e. spelled-dot inv (eqb-true _ 46 (e .1 .taken)))
+    (c .if2 .came)
 
 returns-3 : tie.Need-returns-3 Inv-loop μ-loop
-returns-3 c = spelled-longer (c .before .before .before .before .before .loop .inv) (c .before .before .before .if1 .left) (c .before .before .if2 .left) (eqb-false _ 46 (c .before .if3 .left)) (c .if4 .taken)
+returns-3 c =
+    spelled-longer (c .before .before .before .before .before .loop .inv)
+    (c .before .before .before .if1 .left) (c .before .before .if2 .left)
+    (eqb-false _ 46 (c .before .if3 .left)) (c .if4 .taken)
 
 shared-slice-read-if5 : tie.Need-shared-slice-read-if5 Inv-loop μ-loop
 shared-slice-read-if5 c = omega arith
 
 returns-4 : tie.Need-returns-4 Inv-loop μ-loop
-returns-4 c = spelled-apart (c .before .before .before .before .before .before .before .loop .inv) (c .before .before .before .before .before .if1 .left) (c .before .before .before .before .if2 .left) (eqb-false _ 46 (c .before .before .before .if3 .left)) (omega arith) (c .if5 .taken)
+returns-4 c =
+    let at-if3 = c .before .before .before in
+    spelled-apart (at-if3 .before .before .before .before .loop .inv) (at-if3 .before .before .if1 .left)
+    (at-if3 .before .if2 .left) (eqb-false _ 46 (at-if3 .if3 .left)) (omega arith) (c .if5 .taken)
 
 add-n : tie.Need-add-n Inv-loop μ-loop
 add-n c = omega (arith, spelled-in (c .before .before .before .before .before .before .before .loop .inv))
@@ -47,7 +57,10 @@ loop-less : tie.Need-loop-less Inv-loop μ-loop
 loop-less c = omega (arith, spelled-in (c .before .before .before .before .before .before .before .loop .inv))
 
 loop-again : tie.Need-loop-again Inv-loop μ-loop
-loop-again c = spelled-on (c .before .before .before .before .before .before .before .loop .inv) (c .before .before .before .before .before .if1 .left) (c .before .before .before .before .if2 .left) (eqb-false _ 46 (c .before .before .before .if3 .left)) (omega arith) (c .if5 .left)
+loop-again c =
+    let at-if3 = c .before .before .before in
+    spelled-on (at-if3 .before .before .before .before .loop .inv) (at-if3 .before .before .if1 .left)
+    (at-if3 .before .if2 .left) (eqb-false _ 46 (at-if3 .if3 .left)) (omega arith) (c .if5 .left)
 
 pub part-is-word-spec : {M : Type 1} → statement M
 part-is-word-spec =

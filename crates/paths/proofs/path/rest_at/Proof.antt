@@ -30,20 +30,36 @@ enum-told c = search needs
 
 returns : tie.Need-returns Inv-loop μ-loop
 unfolding RestTold further
-returns c = let e = unit-ended (c .before .before .before .before .before .args .path .now) (c .before .before .before .loop .at) (c .before .before .unit-at .ensures) (c .enum-told .given .1) in c .before .before .before .loop .inv .1 ∙ rw e
+returns c =
+    let e = unit-ended (c .before .before .before .before .before .args .path .now)
+    (c .before .before .before .loop .at) (c .before .before .unit-at .ensures) (c .enum-told .given .1) in
+    c .before .before .before .loop .inv .1 ∙ rw e
 
 enum-known-x : tie.Need-enum-known-x Inv-loop μ-loop
 enum-known-x c = search needs
 
 returns-2 : tie.Need-returns-2 Inv-loop μ-loop
 unfolding RestTold
-returns-2 c = let u = unit-was (c .before .before .before .x .given .0 .0) (c .before .before .before .before .before .unit-at .ensures) (c .before .before .before .x .given .1) in (c .before .before .before .before .before .before .loop .inv .1 ∙ dot-here u (c .if1 .taken), u .onText, omega (arith, u .past), u .upto)
+returns-2 c =
+    let at-x = c .before .before .before in
+    let u = unit-was (at-x .x .given .0 .0) (at-x .before .before .unit-at .ensures) (at-x .x .given .1) in (
+      at-x .before .before .before .loop .inv .1 ∙ dot-here u (c .if1 .taken),
+      u .onText,
+      omega (arith, u .past),
+      u .upto,
+    )
 
 loop-less : tie.Need-loop-less Inv-loop μ-loop
-loop-less c = let u = unit-was (c .before .before .before .x .given .0 .0) (c .before .before .before .before .before .unit-at .ensures) (c .before .before .before .x .given .1) in omega (arith, u .past, u .upto)
+loop-less c =
+    let at-x = c .before .before .before in
+    let u = unit-was (at-x .x .given .0 .0) (at-x .before .before .unit-at .ensures) (at-x .x .given .1) in
+    omega (arith, u .past, u .upto)
 
 loop-again : tie.Need-loop-again Inv-loop μ-loop
-loop-again c = let u = unit-was (c .before .before .before .x .given .0 .0) (c .before .before .before .before .before .unit-at .ensures) (c .before .before .before .x .given .1) in (u .onText, c .before .before .before .before .before .before .loop .inv .1 ∙ dot-further u (c .if1 .left))
+loop-again c =
+    let at-x = c .before .before .before in
+    let u = unit-was (at-x .x .given .0 .0) (at-x .before .before .unit-at .ensures) (at-x .x .given .1) in
+    (u .onText, at-x .before .before .before .loop .inv .1 ∙ dot-further u (c .if1 .left))
 
 pub rest-at-spec : {M : Type 1} → statement M
 rest-at-spec =

@@ -60,13 +60,19 @@ returns-6 : tie.Need-returns-6
 returns-6 c = base-none (c .before .before .args .roots) (c .before .before .args .root) (rw (c .enum-told6 .given .1))
 
 returns-7 : tie.Need-returns-7
-returns-7 c = rw (c .object-at .ensures) (base-args (c .before .before .before .args .roots) (c .before .enum-told7 .given .1))
+returns-7 c =
+    rw (c .object-at .ensures)
+    (base-args (c .before .before .before .args .roots) (c .before .enum-told7 .given .1))
 
 returns-8 : tie.Need-returns-8
-returns-8 c = rw (c .object-at2 .ensures) (base-fields (c .before .before .before .args .roots) (c .before .enum-told8 .given .1))
+returns-8 c =
+    rw (c .object-at2 .ensures)
+    (base-fields (c .before .before .before .args .roots) (c .before .enum-told8 .given .1))
 
 returns-9 : tie.Need-returns-9
-returns-9 c = rw (c .object-at3 .ensures) (base-old (c .before .before .before .args .roots) (c .before .enum-told9 .given .1))
+returns-9 c =
+    rw (c .object-at3 .ensures)
+    (base-old (c .before .before .before .args .roots) (c .before .enum-told9 .given .1))
 
 pub base-at-spec : {M : Type 1} → statement M
 base-at-spec =

@@ -12,7 +12,9 @@ enum-told-2 : tie.Need-enum-told-2
 enum-told-2 c = search needs
 
 returns : tie.Need-returns
-returns c = told-no-id (c .before .before .before .before .args .roots) (c .before .before .enum-told2 .given .1) (c .if1 .taken)
+returns c =
+    told-no-id (c .before .before .before .before .args .roots) (c .before .before .enum-told2 .given .1)
+    (c .if1 .taken)
 
 text-at-requires : tie.Need-text-at-requires
 text-at-requires c κs = search needs
@@ -30,7 +32,9 @@ enum-told-5 : tie.Need-enum-told-5
 enum-told-5 c = search needs
 
 returns-2 : tie.Need-returns-2
-returns-2 c = told-no-from (c .before .before .before .before .args .roots) (c .before .before .enum-told5 .given .1) (c .if2 .taken)
+returns-2 c =
+    told-no-from (c .before .before .before .before .args .roots) (c .before .before .enum-told5 .given .1)
+    (c .if2 .taken)
 
 text-at-requires-3 : tie.Need-text-at-requires-3
 text-at-requires-3 c κs = search needs
@@ -63,28 +67,44 @@ returns-3 : tie.Need-returns-3
 returns-3 c = told-unknown (c .before .before .args .roots) (c .enum-told .given .1)
 
 returns-4 : tie.Need-returns-4
-returns-4 c = rw (c .text-at .ensures) (told-id (c .before .before .before .before .before .args .roots) (c .before .before .before .enum-told2 .given .1) (c .before .if1 .left))
+returns-4 c =
+    rw (c .text-at .ensures)
+    (told-id (c .before .before .before .before .before .args .roots)
+    (c .before .before .before .enum-told2 .given .1) (c .before .if1 .left))
 
 returns-5 : tie.Need-returns-5
-returns-5 c = rw (c .text-at2 .ensures) (told-entity (c .before .before .before .args .roots) (c .before .enum-told3 .given .1))
+returns-5 c =
+    rw (c .text-at2 .ensures)
+    (told-entity (c .before .before .before .args .roots) (c .before .enum-told3 .given .1))
 
 returns-6 : tie.Need-returns-6
 returns-6 c = told-version (c .before .before .args .roots) (c .enum-told4 .given .1)
 
 returns-7 : tie.Need-returns-7
-returns-7 c = rw (c .text-at3 .ensures) (told-from (c .before .before .before .before .before .args .roots) (c .before .before .before .enum-told5 .given .1) (c .before .if2 .left))
+returns-7 c =
+    rw (c .text-at3 .ensures)
+    (told-from (c .before .before .before .before .before .args .roots)
+    (c .before .before .before .enum-told5 .given .1) (c .before .if2 .left))
 
 returns-8 : tie.Need-returns-8
-returns-8 c = rw (c .text-at4 .ensures) (told-to (c .before .before .before .args .roots) (c .before .enum-told6 .given .1))
+returns-8 c =
+    rw (c .text-at4 .ensures)
+    (told-to (c .before .before .before .args .roots) (c .before .enum-told6 .given .1))
 
 returns-9 : tie.Need-returns-9
-returns-9 c = rw (c .object-at .ensures) (told-args (c .before .before .before .args .roots) (c .before .enum-told7 .given .1))
+returns-9 c =
+    rw (c .object-at .ensures)
+    (told-args (c .before .before .before .args .roots) (c .before .enum-told7 .given .1))
 
 returns-10 : tie.Need-returns-10
-returns-10 c = rw (c .object-at2 .ensures) (told-fields (c .before .before .before .args .roots) (c .before .enum-told8 .given .1))
+returns-10 c =
+    rw (c .object-at2 .ensures)
+    (told-fields (c .before .before .before .args .roots) (c .before .enum-told8 .given .1))
 
 returns-11 : tie.Need-returns-11
-returns-11 c = rw (c .object-at3 .ensures) (told-old (c .before .before .before .args .roots) (c .before .enum-told9 .given .1))
+returns-11 c =
+    rw (c .object-at3 .ensures)
+    (told-old (c .before .before .before .args .roots) (c .before .enum-told9 .given .1))
 
 pub root-at-spec : {M : Type 1} → statement M
 root-at-spec =

@@ -25,7 +25,12 @@ part-is-word-requires-2 c κs = search needs
 
 returns-2 : tie.Need-returns-2
 unfolding rootOf find
-returns-2 c = rw (sym (c .before .before .before .before .part-is-word .ensures) ∙ c .before .before .before .if1 .left, sym (c .before .part-is-word2 .ensures) ∙ c .if2 .taken, find)
+returns-2 c =
+    rw (
+      sym (c .before .before .before .before .part-is-word .ensures) ∙ c .before .before .before .if1 .left,
+      sym (c .before .part-is-word2 .ensures) ∙ c .if2 .taken,
+      find,
+    )
 
 slice-aggregate-part-is-word-3 : tie.Need-slice-aggregate-part-is-word-3
 slice-aggregate-part-is-word-3 c = search needs
@@ -35,7 +40,15 @@ part-is-word-requires-3 c κs = search needs
 
 returns-3 : tie.Need-returns-3
 unfolding rootOf find
-returns-3 c = rw (sym (c .before .before .before .before .before .before .before .part-is-word .ensures) ∙ c .before .before .before .before .before .before .if1 .left, sym (c .before .before .before .before .part-is-word2 .ensures) ∙ c .before .before .before .if2 .left, sym (c .before .part-is-word3 .ensures) ∙ c .if3 .taken, find)
+returns-3 c =
+    let at-if2 = c .before .before .before in
+    rw (
+      sym (at-if2 .before .before .before .before .part-is-word .ensures) ∙
+          at-if2 .before .before .before .if1 .left,
+      sym (at-if2 .before .part-is-word2 .ensures) ∙ at-if2 .if2 .left,
+      sym (c .before .part-is-word3 .ensures) ∙ c .if3 .taken,
+      find,
+    )
 
 slice-aggregate-part-is-word-4 : tie.Need-slice-aggregate-part-is-word-4
 slice-aggregate-part-is-word-4 c = search needs
@@ -45,7 +58,17 @@ part-is-word-requires-4 c κs = search needs
 
 returns-4 : tie.Need-returns-4
 unfolding rootOf find
-returns-4 c = rw (sym (c .before .before .before .before .before .before .before .before .before .before .part-is-word .ensures) ∙ c .before .before .before .before .before .before .before .before .before .if1 .left, sym (c .before .before .before .before .before .before .before .part-is-word2 .ensures) ∙ c .before .before .before .before .before .before .if2 .left, sym (c .before .before .before .before .part-is-word3 .ensures) ∙ c .before .before .before .if3 .left, sym (c .before .part-is-word4 .ensures) ∙ c .if4 .taken, find)
+returns-4 c =
+    let at-if3 = c .before .before .before in
+    let at-if2 = at-if3 .before .before .before in
+    rw (
+      sym (at-if2 .before .before .before .before .part-is-word .ensures) ∙
+          at-if2 .before .before .before .if1 .left,
+      sym (at-if2 .before .part-is-word2 .ensures) ∙ at-if2 .if2 .left,
+      sym (at-if3 .before .part-is-word3 .ensures) ∙ at-if3 .if3 .left,
+      sym (c .before .part-is-word4 .ensures) ∙ c .if4 .taken,
+      find,
+    )
 
 slice-aggregate-part-is-word-5 : tie.Need-slice-aggregate-part-is-word-5
 slice-aggregate-part-is-word-5 c = search needs
@@ -55,7 +78,19 @@ part-is-word-requires-5 c κs = search needs
 
 returns-5 : tie.Need-returns-5
 unfolding rootOf find
-returns-5 c = rw (sym (c .before .before .before .before .before .before .before .before .before .before .before .before .before .part-is-word .ensures) ∙ c .before .before .before .before .before .before .before .before .before .before .before .before .if1 .left, sym (c .before .before .before .before .before .before .before .before .before .before .part-is-word2 .ensures) ∙ c .before .before .before .before .before .before .before .before .before .if2 .left, sym (c .before .before .before .before .before .before .before .part-is-word3 .ensures) ∙ c .before .before .before .before .before .before .if3 .left, sym (c .before .before .before .before .part-is-word4 .ensures) ∙ c .before .before .before .if4 .left, sym (c .before .part-is-word5 .ensures) ∙ c .if5 .taken, find)
+returns-5 c =
+    let at-if4 = c .before .before .before in
+    let at-if3 = at-if4 .before .before .before in
+    let at-if2 = at-if3 .before .before .before in
+    rw (
+      sym (at-if2 .before .before .before .before .part-is-word .ensures) ∙
+          at-if2 .before .before .before .if1 .left,
+      sym (at-if2 .before .part-is-word2 .ensures) ∙ at-if2 .if2 .left,
+      sym (at-if3 .before .part-is-word3 .ensures) ∙ at-if3 .if3 .left,
+      sym (at-if4 .before .part-is-word4 .ensures) ∙ at-if4 .if4 .left,
+      sym (c .before .part-is-word5 .ensures) ∙ c .if5 .taken,
+      find,
+    )
 
 slice-aggregate-part-is-word-6 : tie.Need-slice-aggregate-part-is-word-6
 slice-aggregate-part-is-word-6 c = search needs
@@ -65,7 +100,21 @@ part-is-word-requires-6 c κs = search needs
 
 returns-6 : tie.Need-returns-6
 unfolding rootOf find
-returns-6 c = rw (sym (c .before .before .before .before .before .before .before .before .before .before .before .before .before .before .before .before .part-is-word .ensures) ∙ c .before .before .before .before .before .before .before .before .before .before .before .before .before .before .before .if1 .left, sym (c .before .before .before .before .before .before .before .before .before .before .before .before .before .part-is-word2 .ensures) ∙ c .before .before .before .before .before .before .before .before .before .before .before .before .if2 .left, sym (c .before .before .before .before .before .before .before .before .before .before .part-is-word3 .ensures) ∙ c .before .before .before .before .before .before .before .before .before .if3 .left, sym (c .before .before .before .before .before .before .before .part-is-word4 .ensures) ∙ c .before .before .before .before .before .before .if4 .left, sym (c .before .before .before .before .part-is-word5 .ensures) ∙ c .before .before .before .if5 .left, sym (c .before .part-is-word6 .ensures) ∙ c .if6 .taken, find)
+returns-6 c =
+    let at-if5 = c .before .before .before in
+    let at-if4 = at-if5 .before .before .before in
+    let at-if3 = at-if4 .before .before .before in
+    let at-if2 = at-if3 .before .before .before in
+    rw (
+      sym (at-if2 .before .before .before .before .part-is-word .ensures) ∙
+          at-if2 .before .before .before .if1 .left,
+      sym (at-if2 .before .part-is-word2 .ensures) ∙ at-if2 .if2 .left,
+      sym (at-if3 .before .part-is-word3 .ensures) ∙ at-if3 .if3 .left,
+      sym (at-if4 .before .part-is-word4 .ensures) ∙ at-if4 .if4 .left,
+      sym (at-if5 .before .part-is-word5 .ensures) ∙ at-if5 .if5 .left,
+      sym (c .before .part-is-word6 .ensures) ∙ c .if6 .taken,
+      find,
+    )
 
 slice-aggregate-part-is-word-7 : tie.Need-slice-aggregate-part-is-word-7
 slice-aggregate-part-is-word-7 c = search needs
@@ -75,7 +124,23 @@ part-is-word-requires-7 c κs = search needs
 
 returns-7 : tie.Need-returns-7
 unfolding rootOf find
-returns-7 c = rw (sym (c .before .before .before .before .before .before .before .before .before .before .before .before .before .before .before .before .before .before .before .part-is-word .ensures) ∙ c .before .before .before .before .before .before .before .before .before .before .before .before .before .before .before .before .before .before .if1 .left, sym (c .before .before .before .before .before .before .before .before .before .before .before .before .before .before .before .before .part-is-word2 .ensures) ∙ c .before .before .before .before .before .before .before .before .before .before .before .before .before .before .before .if2 .left, sym (c .before .before .before .before .before .before .before .before .before .before .before .before .before .part-is-word3 .ensures) ∙ c .before .before .before .before .before .before .before .before .before .before .before .before .if3 .left, sym (c .before .before .before .before .before .before .before .before .before .before .part-is-word4 .ensures) ∙ c .before .before .before .before .before .before .before .before .before .if4 .left, sym (c .before .before .before .before .before .before .before .part-is-word5 .ensures) ∙ c .before .before .before .before .before .before .if5 .left, sym (c .before .before .before .before .part-is-word6 .ensures) ∙ c .before .before .before .if6 .left, sym (c .before .part-is-word7 .ensures) ∙ c .if7 .taken, find)
+returns-7 c =
+    let at-if6 = c .before .before .before in
+    let at-if5 = at-if6 .before .before .before in
+    let at-if4 = at-if5 .before .before .before in
+    let at-if3 = at-if4 .before .before .before in
+    let at-if2 = at-if3 .before .before .before in
+    rw (
+      sym (at-if2 .before .before .before .before .part-is-word .ensures) ∙
+          at-if2 .before .before .before .if1 .left,
+      sym (at-if2 .before .part-is-word2 .ensures) ∙ at-if2 .if2 .left,
+      sym (at-if3 .before .part-is-word3 .ensures) ∙ at-if3 .if3 .left,
+      sym (at-if4 .before .part-is-word4 .ensures) ∙ at-if4 .if4 .left,
+      sym (at-if5 .before .part-is-word5 .ensures) ∙ at-if5 .if5 .left,
+      sym (at-if6 .before .part-is-word6 .ensures) ∙ at-if6 .if6 .left,
+      sym (c .before .part-is-word7 .ensures) ∙ c .if7 .taken,
+      find,
+    )
 
 slice-aggregate-part-is-word-8 : tie.Need-slice-aggregate-part-is-word-8
 slice-aggregate-part-is-word-8 c = search needs
@@ -85,7 +150,25 @@ part-is-word-requires-8 c κs = search needs
 
 returns-8 : tie.Need-returns-8
 unfolding rootOf find
-returns-8 c = rw (sym (c .before .before .before .before .before .before .before .before .before .before .before .before .before .before .before .before .before .before .before .before .before .before .part-is-word .ensures) ∙ c .before .before .before .before .before .before .before .before .before .before .before .before .before .before .before .before .before .before .before .before .before .if1 .left, sym (c .before .before .before .before .before .before .before .before .before .before .before .before .before .before .before .before .before .before .before .part-is-word2 .ensures) ∙ c .before .before .before .before .before .before .before .before .before .before .before .before .before .before .before .before .before .before .if2 .left, sym (c .before .before .before .before .before .before .before .before .before .before .before .before .before .before .before .before .part-is-word3 .ensures) ∙ c .before .before .before .before .before .before .before .before .before .before .before .before .before .before .before .if3 .left, sym (c .before .before .before .before .before .before .before .before .before .before .before .before .before .part-is-word4 .ensures) ∙ c .before .before .before .before .before .before .before .before .before .before .before .before .if4 .left, sym (c .before .before .before .before .before .before .before .before .before .before .part-is-word5 .ensures) ∙ c .before .before .before .before .before .before .before .before .before .if5 .left, sym (c .before .before .before .before .before .before .before .part-is-word6 .ensures) ∙ c .before .before .before .before .before .before .if6 .left, sym (c .before .before .before .before .part-is-word7 .ensures) ∙ c .before .before .before .if7 .left, sym (c .before .part-is-word8 .ensures) ∙ c .if8 .taken, find)
+returns-8 c =
+    let at-if7 = c .before .before .before in
+    let at-if6 = at-if7 .before .before .before in
+    let at-if5 = at-if6 .before .before .before in
+    let at-if4 = at-if5 .before .before .before in
+    let at-if3 = at-if4 .before .before .before in
+    let at-if2 = at-if3 .before .before .before in
+    rw (
+      sym (at-if2 .before .before .before .before .part-is-word .ensures) ∙
+          at-if2 .before .before .before .if1 .left,
+      sym (at-if2 .before .part-is-word2 .ensures) ∙ at-if2 .if2 .left,
+      sym (at-if3 .before .part-is-word3 .ensures) ∙ at-if3 .if3 .left,
+      sym (at-if4 .before .part-is-word4 .ensures) ∙ at-if4 .if4 .left,
+      sym (at-if5 .before .part-is-word5 .ensures) ∙ at-if5 .if5 .left,
+      sym (at-if6 .before .part-is-word6 .ensures) ∙ at-if6 .if6 .left,
+      sym (at-if7 .before .part-is-word7 .ensures) ∙ at-if7 .if7 .left,
+      sym (c .before .part-is-word8 .ensures) ∙ c .if8 .taken,
+      find,
+    )
 
 slice-aggregate-part-is-word-9 : tie.Need-slice-aggregate-part-is-word-9
 slice-aggregate-part-is-word-9 c = search needs
@@ -95,11 +178,51 @@ part-is-word-requires-9 c κs = search needs
 
 returns-9 : tie.Need-returns-9
 unfolding rootOf find
-returns-9 c = rw (sym (c .before .before .before .before .before .before .before .before .before .before .before .before .before .before .before .before .before .before .before .before .before .before .before .before .before .part-is-word .ensures) ∙ c .before .before .before .before .before .before .before .before .before .before .before .before .before .before .before .before .before .before .before .before .before .before .before .before .if1 .left, sym (c .before .before .before .before .before .before .before .before .before .before .before .before .before .before .before .before .before .before .before .before .before .before .part-is-word2 .ensures) ∙ c .before .before .before .before .before .before .before .before .before .before .before .before .before .before .before .before .before .before .before .before .before .if2 .left, sym (c .before .before .before .before .before .before .before .before .before .before .before .before .before .before .before .before .before .before .before .part-is-word3 .ensures) ∙ c .before .before .before .before .before .before .before .before .before .before .before .before .before .before .before .before .before .before .if3 .left, sym (c .before .before .before .before .before .before .before .before .before .before .before .before .before .before .before .before .part-is-word4 .ensures) ∙ c .before .before .before .before .before .before .before .before .before .before .before .before .before .before .before .if4 .left, sym (c .before .before .before .before .before .before .before .before .before .before .before .before .before .part-is-word5 .ensures) ∙ c .before .before .before .before .before .before .before .before .before .before .before .before .if5 .left, sym (c .before .before .before .before .before .before .before .before .before .before .part-is-word6 .ensures) ∙ c .before .before .before .before .before .before .before .before .before .if6 .left, sym (c .before .before .before .before .before .before .before .part-is-word7 .ensures) ∙ c .before .before .before .before .before .before .if7 .left, sym (c .before .before .before .before .part-is-word8 .ensures) ∙ c .before .before .before .if8 .left, sym (c .before .part-is-word9 .ensures) ∙ c .if9 .taken, find)
+returns-9 c =
+    let at-if8 = c .before .before .before in
+    let at-if7 = at-if8 .before .before .before in
+    let at-if6 = at-if7 .before .before .before in
+    let at-if5 = at-if6 .before .before .before in
+    let at-if4 = at-if5 .before .before .before in
+    let at-if3 = at-if4 .before .before .before in
+    let at-if2 = at-if3 .before .before .before in
+    rw (
+      sym (at-if2 .before .before .before .before .part-is-word .ensures) ∙
+          at-if2 .before .before .before .if1 .left,
+      sym (at-if2 .before .part-is-word2 .ensures) ∙ at-if2 .if2 .left,
+      sym (at-if3 .before .part-is-word3 .ensures) ∙ at-if3 .if3 .left,
+      sym (at-if4 .before .part-is-word4 .ensures) ∙ at-if4 .if4 .left,
+      sym (at-if5 .before .part-is-word5 .ensures) ∙ at-if5 .if5 .left,
+      sym (at-if6 .before .part-is-word6 .ensures) ∙ at-if6 .if6 .left,
+      sym (at-if7 .before .part-is-word7 .ensures) ∙ at-if7 .if7 .left,
+      sym (at-if8 .before .part-is-word8 .ensures) ∙ at-if8 .if8 .left,
+      sym (c .before .part-is-word9 .ensures) ∙ c .if9 .taken,
+      find,
+    )
 
 returns-10 : tie.Need-returns-10
 unfolding rootOf find
-returns-10 c = rw (sym (c .before .before .before .before .before .before .before .before .before .before .before .before .before .before .before .before .before .before .before .before .before .before .before .before .before .part-is-word .ensures) ∙ c .before .before .before .before .before .before .before .before .before .before .before .before .before .before .before .before .before .before .before .before .before .before .before .before .if1 .left, sym (c .before .before .before .before .before .before .before .before .before .before .before .before .before .before .before .before .before .before .before .before .before .before .part-is-word2 .ensures) ∙ c .before .before .before .before .before .before .before .before .before .before .before .before .before .before .before .before .before .before .before .before .before .if2 .left, sym (c .before .before .before .before .before .before .before .before .before .before .before .before .before .before .before .before .before .before .before .part-is-word3 .ensures) ∙ c .before .before .before .before .before .before .before .before .before .before .before .before .before .before .before .before .before .before .if3 .left, sym (c .before .before .before .before .before .before .before .before .before .before .before .before .before .before .before .before .part-is-word4 .ensures) ∙ c .before .before .before .before .before .before .before .before .before .before .before .before .before .before .before .if4 .left, sym (c .before .before .before .before .before .before .before .before .before .before .before .before .before .part-is-word5 .ensures) ∙ c .before .before .before .before .before .before .before .before .before .before .before .before .if5 .left, sym (c .before .before .before .before .before .before .before .before .before .before .part-is-word6 .ensures) ∙ c .before .before .before .before .before .before .before .before .before .if6 .left, sym (c .before .before .before .before .before .before .before .part-is-word7 .ensures) ∙ c .before .before .before .before .before .before .if7 .left, sym (c .before .before .before .before .part-is-word8 .ensures) ∙ c .before .before .before .if8 .left, sym (c .before .part-is-word9 .ensures) ∙ c .if9 .left, find)
+returns-10 c =
+    let at-if8 = c .before .before .before in
+    let at-if7 = at-if8 .before .before .before in
+    let at-if6 = at-if7 .before .before .before in
+    let at-if5 = at-if6 .before .before .before in
+    let at-if4 = at-if5 .before .before .before in
+    let at-if3 = at-if4 .before .before .before in
+    let at-if2 = at-if3 .before .before .before in
+    rw (
+      sym (at-if2 .before .before .before .before .part-is-word .ensures) ∙
+          at-if2 .before .before .before .if1 .left,
+      sym (at-if2 .before .part-is-word2 .ensures) ∙ at-if2 .if2 .left,
+      sym (at-if3 .before .part-is-word3 .ensures) ∙ at-if3 .if3 .left,
+      sym (at-if4 .before .part-is-word4 .ensures) ∙ at-if4 .if4 .left,
+      sym (at-if5 .before .part-is-word5 .ensures) ∙ at-if5 .if5 .left,
+      sym (at-if6 .before .part-is-word6 .ensures) ∙ at-if6 .if6 .left,
+      sym (at-if7 .before .part-is-word7 .ensures) ∙ at-if7 .if7 .left,
+      sym (at-if8 .before .part-is-word8 .ensures) ∙ at-if8 .if8 .left,
+      sym (c .before .part-is-word9 .ensures) ∙ c .if9 .left,
+      find,
+    )
 
 pub root-named-spec : {M : Type 1} → statement M
 root-named-spec =

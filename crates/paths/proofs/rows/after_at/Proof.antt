@@ -12,7 +12,9 @@ after-at-requires : tie.Need-after-at-requires
 after-at-requires c κs = search needs
 
 returns : tie.Need-returns
-returns c = c .after-at .ensures ∙ row-word (c .before .before .args .work .now) (3 * c .before .before .args .node + 2) (omega arith)
+returns c =
+    c .after-at .ensures ∙ row-word (c .before .before .args .work .now)
+    (3 * c .before .before .args .node + 2) (omega arith)
 
 pub after-at-spec : {M : Type 1} → statement M
 after-at-spec = tie.close (tie.spec after-at-requires returns)

@@ -12,7 +12,9 @@ start-at-requires : tie.Need-start-at-requires
 start-at-requires c κs = search needs
 
 returns : tie.Need-returns
-returns c = c .start-at .ensures ∙ ap (λ (x : ℕ). x / 8) (row-word (c .before .before .args .work .now) (3 * c .before .before .args .node) (omega arith))
+returns c =
+    c .start-at .ensures ∙ ap (λ (x : ℕ). x / 8)
+    (row-word (c .before .before .args .work .now) (3 * c .before .before .args .node) (omega arith))
 
 pub start-at-spec : {M : Type 1} → statement M
 start-at-spec = tie.close (tie.spec start-at-requires returns)

@@ -14,7 +14,9 @@ shared-slice-read-b c = search needs
 
 returns : tie.Need-returns
 unfolding UnitTold
-returns c = unit-end (c .before .before .before .args .s .now) (c .before .before .before .args .at) (c .before .before .before .pre) (c .if1 .taken)
+returns c =
+    let a = c .before .before .before .args in
+    unit-end (a .s .now) (a .at) (c .before .before .before .pre) (c .if1 .taken)
 
 cast-t8 : tie.Need-cast-t8
 cast-t8 c = omega (arith, c .before .before .shared-slice-known2 .given (c .before .before .before .before .args .at))
@@ -24,7 +26,10 @@ add-t9 c = search needs
 
 returns-2 : tie.Need-returns-2
 unfolding UnitTold
-returns-2 c = unit-raw (c .before .before .before .before .args .s .now) (c .before .before .before .before .args .at) (c .before .before .before .before .pre) (c .before .if1 .left) (c .if2 .taken)
+returns-2 c =
+    let a = c .before .before .before .before .args in
+    unit-raw (a .s .now) (a .at) (c .before .before .before .before .pre) (c .before .if1 .left)
+    (c .if2 .taken)
 
 add-escape : tie.Need-add-escape
 add-escape c = search needs
@@ -40,11 +45,20 @@ enum-known-x c = search needs
 
 returns-3 : tie.Need-returns-3
 unfolding UnitTold
-returns-3 c = unit-bad (c .before .before .before .before .before .before .before .args .s .now) (c .before .before .before .before .before .before .before .args .at) (c .before .before .before .before .before .before .before .pre) notJson (c .before .before .before .if2 .left) (escape-was-bad (c .before .before .escape .ensures) (c .enum-told .given .1))
+returns-3 c =
+    let at-start = c .before .before .before .before .before .before .before in
+    unit-bad (at-start .args .s .now) (at-start .args .at) (at-start .pre) notJson
+    (c .before .before .before .if2 .left)
+    (escape-was-bad (c .before .before .escape .ensures) (c .enum-told .given .1))
 
 returns-4 : tie.Need-returns-4
 unfolding UnitTold
-returns-4 c = let w = escape-was (c .before .x .given .0 .0) (c .before .before .before .escape .ensures) (c .before .x .given .1) in unit-escape (c .before .before .before .before .before .before .before .before .args .s .now) (c .before .before .before .before .before .before .before .before .args .at) (c .before .before .before .before .before .before .before .before .pre) _ _ (c .before .before .before .before .if2 .left) (w .0) (w .3)
+returns-4 c =
+    let at-start = c .before .before .before .before .before .before .before .before in
+    let w = escape-was (c .before .x .given .0 .0) (c .before .before .before .escape .ensures)
+    (c .before .x .given .1) in
+    unit-escape (at-start .args .s .now) (at-start .args .at) (at-start .pre) _ _
+    (c .before .before .before .before .if2 .left) (w .0) (w .3)
 
 pub unit-at-spec : {M : Type 1} → statement M
 unit-at-spec =

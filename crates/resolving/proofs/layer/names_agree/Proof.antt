@@ -8,16 +8,35 @@ use Rattle.paths.specs.Layered.{namesAgree}
 use Rattle.paths.specs.Stored.{table}
 
 start-at-requires : tie.Need-start-at-requires
-start-at-requires c κs = name-room (c .before .before .before .args .s .now) (c .before .before .before .args .work .now) (c .before .before .before .pre .0 .rows) (child-name (c .before .before .before .args .s .now) (table (c .before .before .before .args .work .now)) (c .if1 .taken) (c .before .before .before .pre .1))
+start-at-requires c κs =
+    let a = c .before .before .before .args in
+    name-room (a .s .now) (a .work .now) (c .before .before .before .pre .0 .rows)
+    (child-name (a .s .now) (table (a .work .now)) (c .if1 .taken) (c .before .before .before .pre .1))
 
 start-at-requires-2 : tie.Need-start-at-requires-2
-start-at-requires-2 c κs = name-room (c .before .before .before .before .args .s .now) (c .before .before .before .before .args .work .now) (c .before .before .before .before .pre .0 .rows) (child-name (c .before .before .before .before .args .s .now) (table (c .before .before .before .before .args .work .now)) (c .before .if1 .taken) (c .before .before .before .before .pre .2))
+start-at-requires-2 c κs =
+    let at-start = c .before .before .before .before in
+    let a = at-start .args in
+    name-room (a .s .now) (a .work .now) (at-start .pre .0 .rows)
+    (child-name (a .s .now) (table (a .work .now)) (c .before .if1 .taken) (at-start .pre .2))
 
 same-requires : tie.Need-same-requires
-same-requires c κs = (on-name (child-name (c .before .before .before .before .before .args .s .now) (table (c .before .before .before .before .before .args .work .now)) (c .before .before .if1 .taken) (c .before .before .before .before .before .pre .1)) (c .before .start-at .ensures), on-name (child-name (c .before .before .before .before .before .args .s .now) (table (c .before .before .before .before .before .args .work .now)) (c .before .before .if1 .taken) (c .before .before .before .before .before .pre .2)) (c .start-at2 .ensures))
+same-requires c κs =
+    let at-start = c .before .before .before .before .before in
+    let a = at-start .args in (
+      on-name
+          (child-name (a .s .now) (table (a .work .now)) (c .before .before .if1 .taken) (at-start .pre .1))
+          (c .before .start-at .ensures),
+      on-name
+          (child-name (a .s .now) (table (a .work .now)) (c .before .before .if1 .taken) (at-start .pre .2))
+          (c .start-at2 .ensures),
+    )
 
 returns : tie.Need-returns
-returns c = names-same (c .before .before .before .before .before .before .args .s .now) (table (c .before .before .before .before .before .before .args .work .now)) (c .before .before .before .before .before .before .args .i) (c .before .before .before .before .before .before .args .j) (c .before .before .before .if1 .taken) (c .before .before .start-at .ensures) (c .before .start-at2 .ensures) (c .same .ensures)
+returns c =
+    let a = c .before .before .before .before .before .before .args in
+    names-same (a .s .now) (table (a .work .now)) (a .i) (a .j) (c .before .before .before .if1 .taken)
+    (c .before .before .start-at .ensures) (c .before .start-at2 .ensures) (c .same .ensures)
 
 returns-2 : tie.Need-returns-2
 unfolding namesAgree

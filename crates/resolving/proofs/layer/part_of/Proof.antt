@@ -18,10 +18,20 @@ outer-requires : tie.Need-outer-requires
 outer-requires c κs = c .before .before .before .before .pre .0 .bound .within
 
 add-touch-at : tie.Need-add-touch-at
-add-touch-at c = omega (arith, c .before .outer .ensures .1, c .before .before .before .before .before .before .pre .0 .bound .within)
+add-touch-at c =
+    omega (
+      arith,
+      c .before .outer .ensures .1,
+      c .before .before .before .before .before .before .pre .0 .bound .within,
+    )
 
 touch-at-requires : tie.Need-touch-at-requires
-touch-at-requires c κs = (ready-outer (c .before .before .before .before .before .before .pre .0) (c .before .before .before .before .before .before .args .o .depth) (c .before .outer .ensures .1) (c .before .outer .ensures .2), c .before .before .before .before .before .before .pre .1)
+touch-at-requires c κs =
+    let at-start = c .before .before .before .before .before .before in (
+      ready-outer (at-start .pre .0) (at-start .args .o .depth) (c .before .outer .ensures .1)
+          (c .before .outer .ensures .2),
+      at-start .pre .1,
+    )
 
 enum-told-2 : tie.Need-enum-told-2
 enum-told-2 c = search needs
@@ -30,22 +40,57 @@ outer-requires-2 : tie.Need-outer-requires-2
 outer-requires-2 c κs = c .before .before .before .before .pre .0 .bound .within
 
 add-touch-at-2 : tie.Need-add-touch-at-2
-add-touch-at-2 c = omega (arith, c .before .outer2 .ensures .1, c .before .before .before .before .before .before .pre .0 .bound .within)
+add-touch-at-2 c =
+    omega (
+      arith,
+      c .before .outer2 .ensures .1,
+      c .before .before .before .before .before .before .pre .0 .bound .within,
+    )
 
 touch-at-requires-2 : tie.Need-touch-at-requires-2
-touch-at-requires-2 c κs = (ready-outer (c .before .before .before .before .before .before .pre .0) (c .before .before .before .before .before .before .args .o .depth) (c .before .outer2 .ensures .1) (c .before .outer2 .ensures .2), c .before .before .before .before .before .before .pre .1)
+touch-at-requires-2 c κs =
+    let at-start = c .before .before .before .before .before .before in (
+      ready-outer (at-start .pre .0) (at-start .args .o .depth) (c .before .outer2 .ensures .1)
+          (c .before .outer2 .ensures .2),
+      at-start .pre .1,
+    )
 
 value-at-requires : tie.Need-value-at-requires
 value-at-requires c κs = node-room (c .before .before .before .pre .0) (c .before .before .before .pre .1)
 
 returns : tie.Need-returns
-returns c = part-listed (sheetIn (c .before .before .before .before .before .before .before .args .s .now)) (framesOf (c .before .before .before .before .before .before .before .args .s .now) (table (c .before .before .before .before .before .before .before .args .work .now)) (c .before .before .before .before .before .before .before .args .frames)) (c .before .before .before .before .before .before .before .args .o) (c .before .before .before .before .before .before .before .args .node) (c .before .before .before .enum-told .given .1) (frames-outer (c .before .before .before .before .before .before .before .pre .0) (c .before .before .outer .result) (c .before .before .before .before .before .before .before .args .o .depth) (c .before .before .outer .ensures .2)) (ap (λ (x : ℕ). x + 1) (sym (frames-length (ready-outer (c .before .before .before .before .before .before .before .pre .0) (c .before .before .before .before .before .before .before .args .o .depth) (c .before .before .outer .ensures .1) (c .before .before .outer .ensures .2))))) (c .touch-at .ensures)
+returns c =
+    let outer = c .before .before .outer in
+    let at-start = c .before .before .before .before .before .before .before in
+    let a = at-start .args in
+    part-listed (sheetIn (a .s .now)) (framesOf (a .s .now) (table (a .work .now)) (a .frames)) (a .o)
+    (a .node) (c .before .before .before .enum-told .given .1)
+    (frames-outer (at-start .pre .0) (outer .result) (a .o .depth) (outer .ensures .2))
+    (ap (λ (x : ℕ). x + 1)
+    (sym
+    (frames-length (ready-outer (at-start .pre .0) (a .o .depth) (outer .ensures .1) (outer .ensures .2)))))
+    (c .touch-at .ensures)
 
 returns-2 : tie.Need-returns-2
-returns-2 c = part-named (sheetIn (c .before .before .before .before .before .before .before .args .s .now)) (framesOf (c .before .before .before .before .before .before .before .args .s .now) (table (c .before .before .before .before .before .before .before .args .work .now)) (c .before .before .before .before .before .before .before .args .frames)) (c .before .before .before .before .before .before .before .args .o) (c .before .before .before .before .before .before .before .args .node) (c .before .before .before .enum-told2 .given .1) (frames-outer (c .before .before .before .before .before .before .before .pre .0) (c .before .before .outer2 .result) (c .before .before .before .before .before .before .before .args .o .depth) (c .before .before .outer2 .ensures .2)) (ap (λ (x : ℕ). x + 1) (sym (frames-length (ready-outer (c .before .before .before .before .before .before .before .pre .0) (c .before .before .before .before .before .before .before .args .o .depth) (c .before .before .outer2 .ensures .1) (c .before .before .outer2 .ensures .2))))) (c .touch-at2 .ensures)
+returns-2 c =
+    let outer2 = c .before .before .outer2 in
+    let at-start = c .before .before .before .before .before .before .before in
+    let a = at-start .args in
+    part-named (sheetIn (a .s .now)) (framesOf (a .s .now) (table (a .work .now)) (a .frames)) (a .o)
+    (a .node) (c .before .before .before .enum-told2 .given .1)
+    (frames-outer (at-start .pre .0) (outer2 .result) (a .o .depth) (outer2 .ensures .2))
+    (ap (λ (x : ℕ). x + 1)
+    (sym
+    (frames-length
+    (ready-outer (at-start .pre .0) (a .o .depth) (outer2 .ensures .1) (outer2 .ensures .2)))))
+    (c .touch-at2 .ensures)
 
 returns-3 : tie.Need-returns-3
-returns-3 c = part-value (sheetIn (c .before .before .before .before .args .s .now)) (framesOf (c .before .before .before .before .args .s .now) (table (c .before .before .before .before .args .work .now)) (c .before .before .before .before .args .frames)) (c .before .before .before .before .args .o) (c .before .before .before .before .args .node) (c .before .match .keys3) (c .value-at .ensures (c .before .before .before .before .args .s .now) (c .before .before .before .before .pre .1))
+returns-3 c =
+    let a = c .before .before .before .before .args in
+    part-value (sheetIn (a .s .now)) (framesOf (a .s .now) (table (a .work .now)) (a .frames)) (a .o)
+    (a .node) (c .before .match .keys3)
+    (c .value-at .ensures (a .s .now) (c .before .before .before .before .pre .1))
 
 pub part-of-spec : {M : Type 1} → statement M
 part-of-spec =

@@ -44,8 +44,45 @@ use Rattle.members.specs.Sheet.{sheetIn}
 use Rattle.paths.specs.Stack.{held}
 use Rattle.paths.specs.Stored.{Fits, framesOf, operandOf, table}
 use Rattle.paths.specs.declared.operand.Kind.the-variants as kinds
-use Rattle.paths.proofs.Reaching.{bound-fits, fits-as, look-base, look-binder, look-empty, look-root, look-unknown, look-walk, member-is, named-none, named-some, object-none, object-some, other-none, touch-less, touch-looked, touch-none, touch-plain, touch-written, walk-arrives, walk-goes, walk-stops}
-use Rattle.resolving.proofs.Slices.{binder-told, frames-length, frames-outer, length-from, look-falls, node-room, one-less, path-falls, path-from, ready-outer, step-falls, text-from, touch-falls}
+use Rattle.paths.proofs.Reaching.{
+  bound-fits,
+  fits-as,
+  look-base,
+  look-binder,
+  look-empty,
+  look-root,
+  look-unknown,
+  look-walk,
+  member-is,
+  named-none,
+  named-some,
+  object-none,
+  object-some,
+  other-none,
+  touch-less,
+  touch-looked,
+  touch-none,
+  touch-plain,
+  touch-written,
+  walk-arrives,
+  walk-goes,
+  walk-stops,
+}
+use Rattle.resolving.proofs.Slices.{
+  binder-told,
+  frames-length,
+  frames-outer,
+  length-from,
+  look-falls,
+  node-room,
+  one-less,
+  path-falls,
+  path-from,
+  ready-outer,
+  step-falls,
+  text-from,
+  touch-falls,
+}
 use Rattle.paths.proofs.Trees.{text-row}
 use Rattle.paths.proofs.Units.{rest-none, rest-was, was-escaped, was-expression, was-plain}
 use borrow.Author.Needs.{needs}
@@ -89,19 +126,63 @@ abbrev walk-on-below : ℕ → In 3 walk-on-kinds.ps
 walk-on-below t = and 3 walk-on-kinds.ps (falls 3 walk-on-kinds.ps _<_ μ-walk-on t) walk-on.Pre
 
 abbrev look-up-claims : ℕ → look-up-lts.Claims
-look-up-claims t = (find-reads.Asked, find-reads.Learnt, rest-at-reads.Asked, rest-at-reads.Learnt, root-named-reads.Asked, root-named-reads.Learnt, root-at-reads.Asked, root-at-reads.Learnt, walk-on-below t, walk-on.Post, as-looked-reads.Asked, as-looked-reads.Learnt, base-at-reads.Asked, base-at-reads.Learnt, part-is-word-reads.Asked, part-is-word-reads.Learnt)
+look-up-claims t = (
+  find-reads.Asked,
+  find-reads.Learnt,
+  rest-at-reads.Asked,
+  rest-at-reads.Learnt,
+  root-named-reads.Asked,
+  root-named-reads.Learnt,
+  root-at-reads.Asked,
+  root-at-reads.Learnt,
+  walk-on-below t,
+  walk-on.Post,
+  as-looked-reads.Asked,
+  as-looked-reads.Learnt,
+  base-at-reads.Asked,
+  base-at-reads.Learnt,
+  part-is-word-reads.Asked,
+  part-is-word-reads.Learnt,
+)
 
 abbrev step-to-claims : ℕ → step-to-lts.Claims
-step-to-claims t = (member-of-reads.Asked, member-of-reads.Learnt, value-at-reads.Asked, value-at-reads.Learnt, outer-reads.Asked, outer-reads.Learnt, touch-at-below t, touch-at.Post)
+step-to-claims t = (
+  member-of-reads.Asked,
+  member-of-reads.Learnt,
+  value-at-reads.Asked,
+  value-at-reads.Learnt,
+  outer-reads.Asked,
+  outer-reads.Learnt,
+  touch-at-below t,
+  touch-at.Post,
+)
 
 abbrev touch-at-claims : ℕ → touch-at-lts.Claims
-touch-at-claims t = (nothing-reads.Asked, nothing-reads.Learnt, kind-at-reads.Asked, kind-at-reads.Learnt, written-kind-reads.Asked, written-kind-reads.Learnt, start-at-reads.Asked, start-at-reads.Learnt, classify-reads.Asked, classify-reads.Learnt, look-up-below t, look-up.Post, or-null-reads.Asked, or-null-reads.Learnt)
+touch-at-claims t = (
+  nothing-reads.Asked,
+  nothing-reads.Learnt,
+  kind-at-reads.Asked,
+  kind-at-reads.Learnt,
+  written-kind-reads.Asked,
+  written-kind-reads.Learnt,
+  start-at-reads.Asked,
+  start-at-reads.Learnt,
+  classify-reads.Asked,
+  classify-reads.Learnt,
+  look-up-below t,
+  look-up.Post,
+  or-null-reads.Asked,
+  or-null-reads.Learnt,
+)
 
 abbrev walk-on-claims : ℕ → walk-on-lts.Claims
-walk-on-claims t = (step-to-below t, step-to.Post, rest-at-reads.Asked, rest-at-reads.Learnt, walk-on-below t, walk-on.Post)
+walk-on-claims t =
+    (step-to-below t, step-to.Post, rest-at-reads.Asked, rest-at-reads.Learnt, walk-on-below t, walk-on.Post)
 
 look-up-find-requires : (t : ℕ) → look-up-lts.Need-find-requires (look-up-claims t) (look-up-at t) look-up.Post
-look-up-find-requires t c κs = (c .before .before .before .pre .1 .0 .bound .within, c .before .before .before .pre .1 .0 .bound .names, c .before .before .before .pre .1 .1 .onText)
+look-up-find-requires t c κs =
+    let pre = c .before .before .before .pre in
+    (pre .1 .0 .bound .within, pre .1 .0 .bound .names, pre .1 .1 .onText)
 
 look-up-rest-at-requires : (t : ℕ) → look-up-lts.Need-rest-at-requires (look-up-claims t) (look-up-at t) look-up.Post
 look-up-rest-at-requires t c κs = c .before .before .before .before .pre .1 .1 .onText
@@ -115,8 +196,10 @@ look-up-enum-known-bound t c = search needs
 look-up-enum-told-2 : (t : ℕ) → look-up-lts.Need-enum-told-2 (look-up-claims t) (look-up-at t) look-up.Post
 look-up-enum-told-2 t c = search needs
 
-look-up-root-named-requires : (t : ℕ) → look-up-lts.Need-root-named-requires (look-up-claims t) (look-up-at t) look-up.Post
-look-up-root-named-requires t c κs = c .before .before .before .before .before .before .before .before .before .pre .1 .1 .onText
+look-up-root-named-requires : (t : ℕ)
+    → look-up-lts.Need-root-named-requires (look-up-claims t) (look-up-at t) look-up.Post
+look-up-root-named-requires t c κs =
+    c .before .before .before .before .before .before .before .before .before .pre .1 .1 .onText
 
 look-up-root-at-requires : (t : ℕ) → look-up-lts.Need-root-at-requires (look-up-claims t) (look-up-at t) look-up.Post
 look-up-root-at-requires t c κs = search needs
@@ -124,29 +207,65 @@ look-up-root-at-requires t c κs = search needs
 look-up-enum-known-next : (t : ℕ) → look-up-lts.Need-enum-known-next (look-up-claims t) (look-up-at t) look-up.Post
 look-up-enum-known-next t c = search needs
 
-look-up-enum-known-bound-2 : (t : ℕ) → look-up-lts.Need-enum-known-bound-2 (look-up-claims t) (look-up-at t) look-up.Post
+look-up-enum-known-bound-2 : (t : ℕ)
+    → look-up-lts.Need-enum-known-bound-2 (look-up-claims t) (look-up-at t) look-up.Post
 look-up-enum-known-bound-2 t c = search needs
 
 look-up-sub-walk-on : (t : ℕ) → look-up-lts.Need-sub-walk-on (look-up-claims t) (look-up-at t) look-up.Post
-look-up-sub-walk-on t c = omega (arith, (rest-was (c .before .before .before .before .next .given .0 .0) (c .before .before .before .before .before .before .rest-at .ensures) (c .before .before .before .before .next .given .1)) .3)
+look-up-sub-walk-on t c =
+    let at-next = c .before .before .before .before in
+    omega (
+      arith,
+      (rest-was (at-next .next .given .0 .0) (at-next .before .before .rest-at .ensures)
+          (at-next .next .given .1)) .3,
+    )
 
-look-up-part-walk-on-start : (t : ℕ) → look-up-lts.Need-part-walk-on-start (look-up-claims t) (look-up-at t) look-up.Post
-look-up-part-walk-on-start t c = omega (arith, (rest-was (c .before .before .before .before .next .given .0 .0) (c .before .before .before .before .before .before .rest-at .ensures) (c .before .before .before .before .next .given .1)) .3)
+look-up-part-walk-on-start : (t : ℕ)
+    → look-up-lts.Need-part-walk-on-start (look-up-claims t) (look-up-at t) look-up.Post
+look-up-part-walk-on-start t c =
+    let at-next = c .before .before .before .before in
+    omega (
+      arith,
+      (rest-was (at-next .next .given .0 .0) (at-next .before .before .rest-at .ensures)
+          (at-next .next .given .1)) .3,
+    )
 
 look-up-part-walk-on-end : (t : ℕ) → look-up-lts.Need-part-walk-on-end (look-up-claims t) (look-up-at t) look-up.Post
 look-up-part-walk-on-end t c = search needs
 
 look-up-walk-on-requires : (t : ℕ) → look-up-lts.Need-walk-on-requires (look-up-claims t) (look-up-at t) look-up.Post
-look-up-walk-on-requires t c κs = (path-falls (c .before .before .before .before .before .before .before .before .before .before .before .before .args .left) (length (c .before .before .before .before .before .before .before .before .before .before .before .before .args .path .now)) _ (c .before .before .before .before .before .next .given .0 .0) 3 2 (c .before .before .before .before .before .before .before .before .before .before .before .before .pre .0) (length-from (c .before .before .before .before .before .before .before .before .before .before .before .before .args .path .now) (c .before .before .before .before .before .next .given .0 .0)) ((rest-was (c .before .before .before .before .before .next .given .0 .0) (c .before .before .before .before .before .before .before .rest-at .ensures) (c .before .before .before .before .before .next .given .1)) .2) ((rest-was (c .before .before .before .before .before .next .given .0 .0) (c .before .before .before .before .before .before .before .rest-at .ensures) (c .before .before .before .before .before .next .given .1)) .3) (omega arith), (c .before .before .before .before .before .before .before .before .before .before .before .before .pre .1 .0, path-from (c .before .before .before .before .before .before .before .before .before .before .before .before .args .path .now) (c .before .before .before .before .before .next .given .0 .0) ((rest-was (c .before .before .before .before .before .next .given .0 .0) (c .before .before .before .before .before .before .before .rest-at .ensures) (c .before .before .before .before .before .next .given .1)) .1) ((rest-was (c .before .before .before .before .before .next .given .0 .0) (c .before .before .before .before .before .before .before .rest-at .ensures) (c .before .before .before .before .before .next .given .1)) .3) (c .before .before .before .before .before .before .before .before .before .before .before .before .pre .1 .1 .short), bound-fits (binder-told (c .before .before .before .before .before .before .before .before .before .before .before .before .args .s .now) (table (c .before .before .before .before .before .before .before .before .before .before .before .before .args .work .now)) (part (textAt (c .before .before .before .before .before .before .before .before .before .before .before .before .args .path .now) 0)) (held (c .before .before .before .before .before .before .before .before .before .before .before .before .args .frames)) (c .before .before .before .before .before .before .before .before .before .before .before .before .pre .1 .0 .bound .operands) (c .before .before .before .before .before .before .before .before .find .ensures)) _ (c .before .before .bound2 .given .1)))
+look-up-walk-on-requires t c κs =
+    let at-next = c .before .before .before .before .before in
+    let next = at-next .next in
+    let rest-at = at-next .before .before .rest-at in
+    let at-start = at-next .before .before .before .before .before .before .before in
+    let a = at-start .args in
+    let pre = at-start .pre in
+    let path = a .path .now in
+    let rest-was1 = rest-was (next .given .0 .0) (rest-at .ensures) (next .given .1) in (
+      path-falls (a .left) (length path) _ (next .given .0 .0) 3 2 (pre .0)
+          (length-from path (next .given .0 .0)) (rest-was1 .2) (rest-was1 .3) (omega arith),
+      (
+        pre .1 .0,
+        path-from path (next .given .0 .0) (rest-was1 .1) (rest-was1 .3) (pre .1 .1 .short),
+        bound-fits
+            (binder-told (a .s .now) (table (a .work .now)) (part (textAt path 0)) (held (a .frames))
+            (pre .1 .0 .bound .operands) (at-next .before .before .before .find .ensures)) _
+            (c .before .before .bound2 .given .1),
+      ),
+    )
 
-look-up-as-looked-requires : (t : ℕ) → look-up-lts.Need-as-looked-requires (look-up-claims t) (look-up-at t) look-up.Post
+look-up-as-looked-requires : (t : ℕ)
+    → look-up-lts.Need-as-looked-requires (look-up-claims t) (look-up-at t) look-up.Post
 look-up-as-looked-requires t c κs = search needs
 
 look-up-enum-told-3 : (t : ℕ) → look-up-lts.Need-enum-told-3 (look-up-claims t) (look-up-at t) look-up.Post
 look-up-enum-told-3 t c = search needs
 
-look-up-root-named-requires-2 : (t : ℕ) → look-up-lts.Need-root-named-requires-2 (look-up-claims t) (look-up-at t) look-up.Post
-look-up-root-named-requires-2 t c κs = c .before .before .before .before .before .before .before .before .before .before .pre .1 .1 .onText
+look-up-root-named-requires-2 : (t : ℕ)
+    → look-up-lts.Need-root-named-requires-2 (look-up-claims t) (look-up-at t) look-up.Post
+look-up-root-named-requires-2 t c κs =
+    c .before .before .before .before .before .before .before .before .before .before .pre .1 .1 .onText
 
 look-up-base-at-requires : (t : ℕ) → look-up-lts.Need-base-at-requires (look-up-claims t) (look-up-at t) look-up.Post
 look-up-base-at-requires t c κs = search needs
@@ -158,111 +277,325 @@ look-up-enum-known-o : (t : ℕ) → look-up-lts.Need-enum-known-o (look-up-clai
 look-up-enum-known-o t c = search needs
 
 look-up-sub-part-is-word : (t : ℕ) → look-up-lts.Need-sub-part-is-word (look-up-claims t) (look-up-at t) look-up.Post
-look-up-sub-part-is-word t c = omega (arith, (rest-was (c .before .before .before .before .before .before .before .before .next .given .0 .0) (c .before .before .before .before .before .before .before .before .before .before .rest-at .ensures) (c .before .before .before .before .before .before .before .before .next .given .1)) .3)
+look-up-sub-part-is-word t c =
+    let at-next = c .before .before .before .before .before .before .before .before in
+    omega (
+      arith,
+      (rest-was (at-next .next .given .0 .0) (at-next .before .before .rest-at .ensures)
+          (at-next .next .given .1)) .3,
+    )
 
-look-up-part-part-is-word-start : (t : ℕ) → look-up-lts.Need-part-part-is-word-start (look-up-claims t) (look-up-at t) look-up.Post
-look-up-part-part-is-word-start t c = omega (arith, (rest-was (c .before .before .before .before .before .before .before .before .next .given .0 .0) (c .before .before .before .before .before .before .before .before .before .before .rest-at .ensures) (c .before .before .before .before .before .before .before .before .next .given .1)) .3)
+look-up-part-part-is-word-start : (t : ℕ)
+    → look-up-lts.Need-part-part-is-word-start (look-up-claims t) (look-up-at t) look-up.Post
+look-up-part-part-is-word-start t c =
+    let at-next = c .before .before .before .before .before .before .before .before in
+    omega (
+      arith,
+      (rest-was (at-next .next .given .0 .0) (at-next .before .before .rest-at .ensures)
+          (at-next .next .given .1)) .3,
+    )
 
-look-up-part-part-is-word-end : (t : ℕ) → look-up-lts.Need-part-part-is-word-end (look-up-claims t) (look-up-at t) look-up.Post
+look-up-part-part-is-word-end : (t : ℕ)
+    → look-up-lts.Need-part-part-is-word-end (look-up-claims t) (look-up-at t) look-up.Post
 look-up-part-part-is-word-end t c = search needs
 
-look-up-slice-aggregate-part-is-word : (t : ℕ) → look-up-lts.Need-slice-aggregate-part-is-word (look-up-claims t) (look-up-at t) look-up.Post
+look-up-slice-aggregate-part-is-word : (t : ℕ)
+    → look-up-lts.Need-slice-aggregate-part-is-word (look-up-claims t) (look-up-at t) look-up.Post
 look-up-slice-aggregate-part-is-word t c = search needs
 
-look-up-part-is-word-requires : (t : ℕ) → look-up-lts.Need-part-is-word-requires (look-up-claims t) (look-up-at t) look-up.Post
-look-up-part-is-word-requires t c κs = (path-from (c .before .before .before .before .before .before .before .before .before .before .before .before .before .before .before .before .before .args .path .now) (c .before .before .before .before .before .before .before .before .before .before .next .given .0 .0) ((rest-was (c .before .before .before .before .before .before .before .before .before .before .next .given .0 .0) (c .before .before .before .before .before .before .before .before .before .before .before .before .rest-at .ensures) (c .before .before .before .before .before .before .before .before .before .before .next .given .1)) .1) ((rest-was (c .before .before .before .before .before .before .before .before .before .before .next .given .0 .0) (c .before .before .before .before .before .before .before .before .before .before .before .before .rest-at .ensures) (c .before .before .before .before .before .before .before .before .before .before .next .given .1)) .3) (c .before .before .before .before .before .before .before .before .before .before .before .before .before .before .before .before .before .pre .1 .1 .short)) .onText
+look-up-part-is-word-requires : (t : ℕ)
+    → look-up-lts.Need-part-is-word-requires (look-up-claims t) (look-up-at t) look-up.Post
+look-up-part-is-word-requires t c κs =
+    let at-next = c .before .before .before .before .before .before .before .before .before .before in
+    let next = at-next .next in
+    let at-start = at-next .before .before .before .before .before .before .before in
+    let rest-was1 = rest-was (next .given .0 .0) (at-next .before .before .rest-at .ensures)
+    (next .given .1) in
+    (path-from (at-start .args .path .now) (next .given .0 .0) (rest-was1 .1) (rest-was1 .3)
+    (at-start .pre .1 .1 .short)) .onText
 
 look-up-returns : (t : ℕ) → look-up-lts.Need-returns (look-up-claims t) (look-up-at t) look-up.Post
-look-up-returns t c = look-empty (sheetIn (c .before .before .before .before .before .before .before .before .before .before .before .before .before .before .before .before .before .before .before .args .s .now)) (touch (sheetIn (c .before .before .before .before .before .before .before .before .before .before .before .before .before .before .before .before .before .before .before .args .s .now)) (c .before .before .before .before .before .before .before .before .before .before .before .before .before .before .before .before .before .before .before .args .left)) (framesOf (c .before .before .before .before .before .before .before .before .before .before .before .before .before .before .before .before .before .before .before .args .s .now) (table (c .before .before .before .before .before .before .before .before .before .before .before .before .before .before .before .before .before .before .before .args .work .now)) (c .before .before .before .before .before .before .before .before .before .before .before .before .before .before .before .before .before .before .before .args .frames)) (textAt (c .before .before .before .before .before .before .before .before .before .before .before .before .before .before .before .before .before .before .before .args .path .now) 0) (binder-told (c .before .before .before .before .before .before .before .before .before .before .before .before .before .before .before .before .before .before .before .args .s .now) (table (c .before .before .before .before .before .before .before .before .before .before .before .before .before .before .before .before .before .before .before .args .work .now)) (part (textAt (c .before .before .before .before .before .before .before .before .before .before .before .before .before .before .before .before .before .before .before .args .path .now) 0)) (held (c .before .before .before .before .before .before .before .before .before .before .before .before .before .before .before .before .before .before .before .args .frames)) (c .before .before .before .before .before .before .before .before .before .before .before .before .before .before .before .before .before .before .before .pre .1 .0 .bound .operands) (c .before .before .before .before .before .before .before .before .before .before .before .before .before .before .before .find .ensures)) (textAt (c .before .before .before .before .before .before .before .before .before .before .before .before .before .before .before .before .before .before .before .args .path .now) (c .before .before .before .before .before .before .before .before .before .before .before .before .next .given .0 .0)) ((rest-was (c .before .before .before .before .before .before .before .before .before .before .before .before .next .given .0 .0) (c .before .before .before .before .before .before .before .before .before .before .before .before .before .before .rest-at .ensures) (c .before .before .before .before .before .before .before .before .before .before .before .before .next .given .1)) .0) (c .before .before .before .before .before .before .before .before .before .enum-told3 .given .1) (rw (c .before .before .before .before .before .before .before .before .root-named2 .ensures) at (c .before .before .before .before .before .before .before .base-at .ensures (sheetIn (c .before .before .before .before .before .before .before .before .before .before .before .before .before .before .before .before .before .before .before .args .s .now)) (c .before .before .before .before .before .before .before .before .before .before .before .before .before .before .before .before .before .before .before .args .s .now) (table (c .before .before .before .before .before .before .before .before .before .before .before .before .before .before .before .before .before .before .before .args .work .now)) (c .before .before .before .before .before .before .before .before .before .before .before .before .before .before .before .before .before .before .before .pre .1 .0 .rooted))) _ (c .before .before .before .before .before .o .given .1) (sym (c .if1 .taken) ∙ (rw text-from at (c .before .part-is-word .ensures)))
+look-up-returns t c =
+    let at-o = c .before .before .before .before .before in
+    let at-next = at-o .before .before .before .before .before .before .before in
+    let at-start = at-next .before .before .before .before .before .before .before in
+    let a = at-start .args in
+    let s = a .s .now in
+    look-empty (sheetIn s) (touch (sheetIn s) (a .left)) (framesOf s (table (a .work .now)) (a .frames))
+    (textAt (a .path .now) 0)
+    (binder-told s (table (a .work .now)) (part (textAt (a .path .now) 0)) (held (a .frames))
+    (at-start .pre .1 .0 .bound .operands) (at-next .before .before .before .find .ensures))
+    (textAt (a .path .now) (at-next .next .given .0 .0))
+    ((rest-was (at-next .next .given .0 .0) (at-next .before .before .rest-at .ensures)
+    (at-next .next .given .1)) .0) (at-o .before .before .before .before .enum-told3 .given .1)
+    (rw (at-o .before .before .before .root-named2 .ensures) at
+    (at-o .before .before .base-at .ensures (sheetIn s) s (table (a .work .now))
+    (at-start .pre .1 .0 .rooted))) _ (at-o .o .given .1)
+    (sym (c .if1 .taken) ∙ (rw text-from at (c .before .part-is-word .ensures)))
 
 look-up-sub-walk-on-2 : (t : ℕ) → look-up-lts.Need-sub-walk-on-2 (look-up-claims t) (look-up-at t) look-up.Post
-look-up-sub-walk-on-2 t c = omega (arith, (rest-was (c .before .before .before .before .before .before .before .before .before .before .before .before .next .given .0 .0) (c .before .before .before .before .before .before .before .before .before .before .before .before .before .before .rest-at .ensures) (c .before .before .before .before .before .before .before .before .before .before .before .before .next .given .1)) .3)
+look-up-sub-walk-on-2 t c =
+    let at-next =
+    c .before .before .before .before .before .before .before .before .before .before .before .before in
+    omega (
+      arith,
+      (rest-was (at-next .next .given .0 .0) (at-next .before .before .rest-at .ensures)
+          (at-next .next .given .1)) .3,
+    )
 
-look-up-part-walk-on-start-2 : (t : ℕ) → look-up-lts.Need-part-walk-on-start-2 (look-up-claims t) (look-up-at t) look-up.Post
-look-up-part-walk-on-start-2 t c = omega (arith, (rest-was (c .before .before .before .before .before .before .before .before .before .before .before .before .next .given .0 .0) (c .before .before .before .before .before .before .before .before .before .before .before .before .before .before .rest-at .ensures) (c .before .before .before .before .before .before .before .before .before .before .before .before .next .given .1)) .3)
+look-up-part-walk-on-start-2 : (t : ℕ)
+    → look-up-lts.Need-part-walk-on-start-2 (look-up-claims t) (look-up-at t) look-up.Post
+look-up-part-walk-on-start-2 t c =
+    let at-next =
+    c .before .before .before .before .before .before .before .before .before .before .before .before in
+    omega (
+      arith,
+      (rest-was (at-next .next .given .0 .0) (at-next .before .before .rest-at .ensures)
+          (at-next .next .given .1)) .3,
+    )
 
-look-up-part-walk-on-end-2 : (t : ℕ) → look-up-lts.Need-part-walk-on-end-2 (look-up-claims t) (look-up-at t) look-up.Post
+look-up-part-walk-on-end-2 : (t : ℕ)
+    → look-up-lts.Need-part-walk-on-end-2 (look-up-claims t) (look-up-at t) look-up.Post
 look-up-part-walk-on-end-2 t c = search needs
 
-look-up-walk-on-requires-2 : (t : ℕ) → look-up-lts.Need-walk-on-requires-2 (look-up-claims t) (look-up-at t) look-up.Post
-look-up-walk-on-requires-2 t c κs = (path-falls (c .before .before .before .before .before .before .before .before .before .before .before .before .before .before .before .before .before .before .before .before .args .left) (length (c .before .before .before .before .before .before .before .before .before .before .before .before .before .before .before .before .before .before .before .before .args .path .now)) _ (c .before .before .before .before .before .before .before .before .before .before .before .before .before .next .given .0 .0) 3 2 (c .before .before .before .before .before .before .before .before .before .before .before .before .before .before .before .before .before .before .before .before .pre .0) (length-from (c .before .before .before .before .before .before .before .before .before .before .before .before .before .before .before .before .before .before .before .before .args .path .now) (c .before .before .before .before .before .before .before .before .before .before .before .before .before .next .given .0 .0)) ((rest-was (c .before .before .before .before .before .before .before .before .before .before .before .before .before .next .given .0 .0) (c .before .before .before .before .before .before .before .before .before .before .before .before .before .before .before .rest-at .ensures) (c .before .before .before .before .before .before .before .before .before .before .before .before .before .next .given .1)) .2) ((rest-was (c .before .before .before .before .before .before .before .before .before .before .before .before .before .next .given .0 .0) (c .before .before .before .before .before .before .before .before .before .before .before .before .before .before .before .rest-at .ensures) (c .before .before .before .before .before .before .before .before .before .before .before .before .before .next .given .1)) .3) (omega arith), (c .before .before .before .before .before .before .before .before .before .before .before .before .before .before .before .before .before .before .before .before .pre .1 .0, path-from (c .before .before .before .before .before .before .before .before .before .before .before .before .before .before .before .before .before .before .before .before .args .path .now) (c .before .before .before .before .before .before .before .before .before .before .before .before .before .next .given .0 .0) ((rest-was (c .before .before .before .before .before .before .before .before .before .before .before .before .before .next .given .0 .0) (c .before .before .before .before .before .before .before .before .before .before .before .before .before .before .before .rest-at .ensures) (c .before .before .before .before .before .before .before .before .before .before .before .before .before .next .given .1)) .1) ((rest-was (c .before .before .before .before .before .before .before .before .before .before .before .before .before .next .given .0 .0) (c .before .before .before .before .before .before .before .before .before .before .before .before .before .before .before .rest-at .ensures) (c .before .before .before .before .before .before .before .before .before .before .before .before .before .next .given .1)) .3) (c .before .before .before .before .before .before .before .before .before .before .before .before .before .before .before .before .before .before .before .before .pre .1 .1 .short), bound-fits (rw (c .before .before .before .before .before .before .before .before .before .root-named2 .ensures) at (c .before .before .before .before .before .before .before .before .base-at .ensures (sheetIn (c .before .before .before .before .before .before .before .before .before .before .before .before .before .before .before .before .before .before .before .before .args .s .now)) (c .before .before .before .before .before .before .before .before .before .before .before .before .before .before .before .before .before .before .before .before .args .s .now) (table (c .before .before .before .before .before .before .before .before .before .before .before .before .before .before .before .before .before .before .before .before .args .work .now)) (c .before .before .before .before .before .before .before .before .before .before .before .before .before .before .before .before .before .before .before .before .pre .1 .0 .rooted))) _ (c .before .before .before .before .before .before .o .given .1)))
+look-up-walk-on-requires-2 : (t : ℕ)
+    → look-up-lts.Need-walk-on-requires-2 (look-up-claims t) (look-up-at t) look-up.Post
+look-up-walk-on-requires-2 t c κs =
+    let at-o = c .before .before .before .before .before .before in
+    let at-next = at-o .before .before .before .before .before .before .before in
+    let next = at-next .next in
+    let rest-at = at-next .before .before .rest-at in
+    let at-start = at-next .before .before .before .before .before .before .before in
+    let a = at-start .args in
+    let pre = at-start .pre in
+    let rest-was1 = rest-was (next .given .0 .0) (rest-at .ensures) (next .given .1) in (
+      path-falls (a .left) (length (a .path .now)) _ (next .given .0 .0) 3 2 (pre .0)
+          (length-from (a .path .now) (next .given .0 .0)) (rest-was1 .2) (rest-was1 .3) (omega arith),
+      (
+        pre .1 .0,
+        path-from (a .path .now) (next .given .0 .0) (rest-was1 .1) (rest-was1 .3) (pre .1 .1 .short),
+        bound-fits
+            (rw (at-o .before .before .before .root-named2 .ensures) at
+            (at-o .before .before .base-at .ensures (sheetIn (a .s .now)) (a .s .now) (table (a .work .now))
+            (pre .1 .0 .rooted))) _ (at-o .o .given .1),
+      ),
+    )
 
-look-up-as-looked-requires-2 : (t : ℕ) → look-up-lts.Need-as-looked-requires-2 (look-up-claims t) (look-up-at t) look-up.Post
+look-up-as-looked-requires-2 : (t : ℕ)
+    → look-up-lts.Need-as-looked-requires-2 (look-up-claims t) (look-up-at t) look-up.Post
 look-up-as-looked-requires-2 t c κs = search needs
 
 look-up-returns-2 : (t : ℕ) → look-up-lts.Need-returns-2 (look-up-claims t) (look-up-at t) look-up.Post
-look-up-returns-2 t c = look-binder (sheetIn (c .before .before .before .before .before .before .before .before .before .before .args .s .now)) (touch (sheetIn (c .before .before .before .before .before .before .before .before .before .before .args .s .now)) (c .before .before .before .before .before .before .before .before .before .before .args .left)) (framesOf (c .before .before .before .before .before .before .before .before .before .before .args .s .now) (table (c .before .before .before .before .before .before .before .before .before .before .args .work .now)) (c .before .before .before .before .before .before .before .before .before .before .args .frames)) (textAt (c .before .before .before .before .before .before .before .before .before .before .args .path .now) 0) (binder-told (c .before .before .before .before .before .before .before .before .before .before .args .s .now) (table (c .before .before .before .before .before .before .before .before .before .before .args .work .now)) (part (textAt (c .before .before .before .before .before .before .before .before .before .before .args .path .now) 0)) (held (c .before .before .before .before .before .before .before .before .before .before .args .frames)) (c .before .before .before .before .before .before .before .before .before .before .pre .1 .0 .bound .operands) (c .before .before .before .before .before .before .find .ensures)) _ (c .before .bound .given .1) (rest-none (c .before .before .before .before .before .before .before .before .before .before .args .path .now) (c .before .before .before .before .before .rest-at .ensures) (c .before .before .before .enum-told .given .1))
+look-up-returns-2 t c =
+    let at-rest-at = c .before .before .before .before .before in
+    let at-start = at-rest-at .before .before .before .before .before in
+    let a = at-start .args in
+    let s = a .s .now in
+    look-binder (sheetIn s) (touch (sheetIn s) (a .left)) (framesOf s (table (a .work .now)) (a .frames))
+    (textAt (a .path .now) 0)
+    (binder-told s (table (a .work .now)) (part (textAt (a .path .now) 0)) (held (a .frames))
+    (at-start .pre .1 .0 .bound .operands) (at-rest-at .before .find .ensures)) _ (c .before .bound .given .1)
+    (rest-none (a .path .now) (at-rest-at .rest-at .ensures) (c .before .before .before .enum-told .given .1))
 
 look-up-returns-3 : (t : ℕ) → look-up-lts.Need-returns-3 (look-up-claims t) (look-up-at t) look-up.Post
-look-up-returns-3 t c = look-root (sheetIn (c .before .before .before .before .before .before .before .before .before .before .before .args .s .now)) (touch (sheetIn (c .before .before .before .before .before .before .before .before .before .before .before .args .s .now)) (c .before .before .before .before .before .before .before .before .before .before .before .args .left)) (framesOf (c .before .before .before .before .before .before .before .before .before .before .before .args .s .now) (table (c .before .before .before .before .before .before .before .before .before .before .before .args .work .now)) (c .before .before .before .before .before .before .before .before .before .before .before .args .frames)) (textAt (c .before .before .before .before .before .before .before .before .before .before .before .args .path .now) 0) (binder-told (c .before .before .before .before .before .before .before .before .before .before .before .args .s .now) (table (c .before .before .before .before .before .before .before .before .before .before .before .args .work .now)) (part (textAt (c .before .before .before .before .before .before .before .before .before .before .before .args .path .now) 0)) (held (c .before .before .before .before .before .before .before .before .before .before .before .args .frames)) (c .before .before .before .before .before .before .before .before .before .before .before .pre .1 .0 .bound .operands) (c .before .before .before .before .before .before .before .find .ensures)) (c .before .before .enum-told2 .given .1) (rest-none (c .before .before .before .before .before .before .before .before .before .before .before .args .path .now) (c .before .before .before .before .before .before .rest-at .ensures) (c .before .before .before .before .enum-told .given .1)) (rw (c .before .root-named .ensures) at (c .root-at .ensures (sheetIn (c .before .before .before .before .before .before .before .before .before .before .before .args .s .now)) (c .before .before .before .before .before .before .before .before .before .before .before .args .s .now) (table (c .before .before .before .before .before .before .before .before .before .before .before .args .work .now)) (textAt (c .before .before .before .before .before .before .before .before .before .before .before .args .path .now) 0) (c .before .before .before .before .before .before .before .before .before .before .before .pre .1 .0 .rooted)))
+look-up-returns-3 t c =
+    let at-rest-at = c .before .before .before .before .before .before in
+    let at-start = at-rest-at .before .before .before .before .before in
+    let a = at-start .args in
+    let path = a .path .now in
+    let s = a .s .now in
+    look-root (sheetIn s) (touch (sheetIn s) (a .left)) (framesOf s (table (a .work .now)) (a .frames))
+    (textAt path 0)
+    (binder-told s (table (a .work .now)) (part (textAt path 0)) (held (a .frames))
+    (at-start .pre .1 .0 .bound .operands) (at-rest-at .before .find .ensures))
+    (c .before .before .enum-told2 .given .1)
+    (rest-none path (at-rest-at .rest-at .ensures) (c .before .before .before .before .enum-told .given .1))
+    (rw (c .before .root-named .ensures) at
+    (c .root-at .ensures (sheetIn s) s (table (a .work .now)) (textAt path 0) (at-start .pre .1 .0 .rooted)))
 
 look-up-returns-4 : (t : ℕ) → look-up-lts.Need-returns-4 (look-up-claims t) (look-up-at t) look-up.Post
-look-up-returns-4 t c = look-walk (sheetIn (c .before .before .before .before .before .before .before .before .before .before .before .before .before .before .args .s .now)) (touch (sheetIn (c .before .before .before .before .before .before .before .before .before .before .before .before .before .before .args .s .now)) (c .before .before .before .before .before .before .before .before .before .before .before .before .before .before .args .left)) (framesOf (c .before .before .before .before .before .before .before .before .before .before .before .before .before .before .args .s .now) (table (c .before .before .before .before .before .before .before .before .before .before .before .before .before .before .args .work .now)) (c .before .before .before .before .before .before .before .before .before .before .before .before .before .before .args .frames)) (textAt (c .before .before .before .before .before .before .before .before .before .before .before .before .before .before .args .path .now) 0) (binder-told (c .before .before .before .before .before .before .before .before .before .before .before .before .before .before .args .s .now) (table (c .before .before .before .before .before .before .before .before .before .before .before .before .before .before .args .work .now)) (part (textAt (c .before .before .before .before .before .before .before .before .before .before .before .before .before .before .args .path .now) 0)) (held (c .before .before .before .before .before .before .before .before .before .before .before .before .before .before .args .frames)) (c .before .before .before .before .before .before .before .before .before .before .before .before .before .before .pre .1 .0 .bound .operands) (c .before .before .before .before .before .before .before .before .before .before .find .ensures)) (textAt (c .before .before .before .before .before .before .before .before .before .before .before .before .before .before .args .path .now) (c .before .before .before .before .before .before .before .next .given .0 .0)) ((rest-was (c .before .before .before .before .before .before .before .next .given .0 .0) (c .before .before .before .before .before .before .before .before .before .rest-at .ensures) (c .before .before .before .before .before .before .before .next .given .1)) .0) _ (c .before .before .before .before .bound2 .given .1) (rw text-from at (c .before .walk-on .ensures)) (c .as-looked .ensures)
+look-up-returns-4 t c =
+    let at-next = c .before .before .before .before .before .before .before in
+    let at-start = at-next .before .before .before .before .before .before .before in
+    let a = at-start .args in
+    let s = a .s .now in
+    look-walk (sheetIn s) (touch (sheetIn s) (a .left)) (framesOf s (table (a .work .now)) (a .frames))
+    (textAt (a .path .now) 0)
+    (binder-told s (table (a .work .now)) (part (textAt (a .path .now) 0)) (held (a .frames))
+    (at-start .pre .1 .0 .bound .operands) (at-next .before .before .before .find .ensures))
+    (textAt (a .path .now) (at-next .next .given .0 .0))
+    ((rest-was (at-next .next .given .0 .0) (at-next .before .before .rest-at .ensures)
+    (at-next .next .given .1)) .0) _ (c .before .before .before .before .bound2 .given .1)
+    (rw text-from at (c .before .walk-on .ensures)) (c .as-looked .ensures)
 
 look-up-returns-5 : (t : ℕ) → look-up-lts.Need-returns-5 (look-up-claims t) (look-up-at t) look-up.Post
-look-up-returns-5 t c = look-unknown (sheetIn (c .before .before .before .before .before .before .before .before .before .before .before .before .before .before .args .s .now)) (touch (sheetIn (c .before .before .before .before .before .before .before .before .before .before .before .before .before .before .args .s .now)) (c .before .before .before .before .before .before .before .before .before .before .before .before .before .before .args .left)) (framesOf (c .before .before .before .before .before .before .before .before .before .before .before .before .before .before .args .s .now) (table (c .before .before .before .before .before .before .before .before .before .before .before .before .before .before .args .work .now)) (c .before .before .before .before .before .before .before .before .before .before .before .before .before .before .args .frames)) (textAt (c .before .before .before .before .before .before .before .before .before .before .before .before .before .before .args .path .now) 0) (binder-told (c .before .before .before .before .before .before .before .before .before .before .before .before .before .before .args .s .now) (table (c .before .before .before .before .before .before .before .before .before .before .before .before .before .before .args .work .now)) (part (textAt (c .before .before .before .before .before .before .before .before .before .before .before .before .before .before .args .path .now) 0)) (held (c .before .before .before .before .before .before .before .before .before .before .before .before .before .before .args .frames)) (c .before .before .before .before .before .before .before .before .before .before .before .before .before .before .pre .1 .0 .bound .operands) (c .before .before .before .before .before .before .before .before .before .before .find .ensures)) (textAt (c .before .before .before .before .before .before .before .before .before .before .before .before .before .before .args .path .now) (c .before .before .before .before .before .before .before .next .given .0 .0)) ((rest-was (c .before .before .before .before .before .before .before .next .given .0 .0) (c .before .before .before .before .before .before .before .before .before .rest-at .ensures) (c .before .before .before .before .before .before .before .next .given .1)) .0) (c .before .before .before .before .enum-told3 .given .1) (rw (c .before .before .before .root-named2 .ensures) at (c .before .before .base-at .ensures (sheetIn (c .before .before .before .before .before .before .before .before .before .before .before .before .before .before .args .s .now)) (c .before .before .before .before .before .before .before .before .before .before .before .before .before .before .args .s .now) (table (c .before .before .before .before .before .before .before .before .before .before .before .before .before .before .args .work .now)) (c .before .before .before .before .before .before .before .before .before .before .before .before .before .before .pre .1 .0 .rooted))) (c .enum-told4 .given .1)
+look-up-returns-5 t c =
+    let at-next = c .before .before .before .before .before .before .before in
+    let at-start = at-next .before .before .before .before .before .before .before in
+    let a = at-start .args in
+    let s = a .s .now in
+    look-unknown (sheetIn s) (touch (sheetIn s) (a .left)) (framesOf s (table (a .work .now)) (a .frames))
+    (textAt (a .path .now) 0)
+    (binder-told s (table (a .work .now)) (part (textAt (a .path .now) 0)) (held (a .frames))
+    (at-start .pre .1 .0 .bound .operands) (at-next .before .before .before .find .ensures))
+    (textAt (a .path .now) (at-next .next .given .0 .0))
+    ((rest-was (at-next .next .given .0 .0) (at-next .before .before .rest-at .ensures)
+    (at-next .next .given .1)) .0) (c .before .before .before .before .enum-told3 .given .1)
+    (rw (c .before .before .before .root-named2 .ensures) at
+    (c .before .before .base-at .ensures (sheetIn s) s (table (a .work .now)) (at-start .pre .1 .0 .rooted)))
+    (c .enum-told4 .given .1)
 
 look-up-returns-6 : (t : ℕ) → look-up-lts.Need-returns-6 (look-up-claims t) (look-up-at t) look-up.Post
-look-up-returns-6 t c = look-base (sheetIn (c .before .before .before .before .before .before .before .before .before .before .before .before .before .before .before .before .before .before .before .before .before .before .args .s .now)) (touch (sheetIn (c .before .before .before .before .before .before .before .before .before .before .before .before .before .before .before .before .before .before .before .before .before .before .args .s .now)) (c .before .before .before .before .before .before .before .before .before .before .before .before .before .before .before .before .before .before .before .before .before .before .args .left)) (framesOf (c .before .before .before .before .before .before .before .before .before .before .before .before .before .before .before .before .before .before .before .before .before .before .args .s .now) (table (c .before .before .before .before .before .before .before .before .before .before .before .before .before .before .before .before .before .before .before .before .before .before .args .work .now)) (c .before .before .before .before .before .before .before .before .before .before .before .before .before .before .before .before .before .before .before .before .before .before .args .frames)) (textAt (c .before .before .before .before .before .before .before .before .before .before .before .before .before .before .before .before .before .before .before .before .before .before .args .path .now) 0) (binder-told (c .before .before .before .before .before .before .before .before .before .before .before .before .before .before .before .before .before .before .before .before .before .before .args .s .now) (table (c .before .before .before .before .before .before .before .before .before .before .before .before .before .before .before .before .before .before .before .before .before .before .args .work .now)) (part (textAt (c .before .before .before .before .before .before .before .before .before .before .before .before .before .before .before .before .before .before .before .before .before .before .args .path .now) 0)) (held (c .before .before .before .before .before .before .before .before .before .before .before .before .before .before .before .before .before .before .before .before .before .before .args .frames)) (c .before .before .before .before .before .before .before .before .before .before .before .before .before .before .before .before .before .before .before .before .before .before .pre .1 .0 .bound .operands) (c .before .before .before .before .before .before .before .before .before .before .before .before .before .before .before .before .before .before .find .ensures)) (textAt (c .before .before .before .before .before .before .before .before .before .before .before .before .before .before .before .before .before .before .before .before .before .before .args .path .now) (c .before .before .before .before .before .before .before .before .before .before .before .before .before .before .before .next .given .0 .0)) ((rest-was (c .before .before .before .before .before .before .before .before .before .before .before .before .before .before .before .next .given .0 .0) (c .before .before .before .before .before .before .before .before .before .before .before .before .before .before .before .before .before .rest-at .ensures) (c .before .before .before .before .before .before .before .before .before .before .before .before .before .before .before .next .given .1)) .0) (c .before .before .before .before .before .before .before .before .before .before .before .before .enum-told3 .given .1) (rw (c .before .before .before .before .before .before .before .before .before .before .before .root-named2 .ensures) at (c .before .before .before .before .before .before .before .before .before .before .base-at .ensures (sheetIn (c .before .before .before .before .before .before .before .before .before .before .before .before .before .before .before .before .before .before .before .before .before .before .args .s .now)) (c .before .before .before .before .before .before .before .before .before .before .before .before .before .before .before .before .before .before .before .before .before .before .args .s .now) (table (c .before .before .before .before .before .before .before .before .before .before .before .before .before .before .before .before .before .before .before .before .before .before .args .work .now)) (c .before .before .before .before .before .before .before .before .before .before .before .before .before .before .before .before .before .before .before .before .before .before .pre .1 .0 .rooted))) _ (c .before .before .before .before .before .before .before .before .o .given .1) (sym (c .before .before .before .if1 .left) ∙ (rw text-from at (c .before .before .before .before .part-is-word .ensures))) (rw text-from at (c .before .walk-on2 .ensures)) (c .as-looked2 .ensures)
+look-up-returns-6 t c =
+    let at-if1 = c .before .before .before in
+    let at-o = at-if1 .before .before .before .before .before in
+    let at-next = at-o .before .before .before .before .before .before .before in
+    let at-start = at-next .before .before .before .before .before .before .before in
+    let a = at-start .args in
+    let s = a .s .now in
+    look-base (sheetIn s) (touch (sheetIn s) (a .left)) (framesOf s (table (a .work .now)) (a .frames))
+    (textAt (a .path .now) 0)
+    (binder-told s (table (a .work .now)) (part (textAt (a .path .now) 0)) (held (a .frames))
+    (at-start .pre .1 .0 .bound .operands) (at-next .before .before .before .find .ensures))
+    (textAt (a .path .now) (at-next .next .given .0 .0))
+    ((rest-was (at-next .next .given .0 .0) (at-next .before .before .rest-at .ensures)
+    (at-next .next .given .1)) .0) (at-o .before .before .before .before .enum-told3 .given .1)
+    (rw (at-o .before .before .before .root-named2 .ensures) at
+    (at-o .before .before .base-at .ensures (sheetIn s) s (table (a .work .now))
+    (at-start .pre .1 .0 .rooted))) _ (at-o .o .given .1)
+    (sym (at-if1 .if1 .left) ∙ (rw text-from at (at-if1 .before .part-is-word .ensures)))
+    (rw text-from at (c .before .walk-on2 .ensures)) (c .as-looked2 .ensures)
 
 step-to-enum-told : (t : ℕ) → step-to-lts.Need-enum-told (step-to-claims t) (step-to-at t) step-to.Post
 step-to-enum-told t c = search needs
 
-step-to-member-of-requires : (t : ℕ) → step-to-lts.Need-member-of-requires (step-to-claims t) (step-to-at t) step-to.Post
+step-to-member-of-requires : (t : ℕ)
+    → step-to-lts.Need-member-of-requires (step-to-claims t) (step-to-at t) step-to.Post
 unfolding Fits
-step-to-member-of-requires t c κs = let k = fits-as (c .before .before .before .before .before .args .s .now) (table (c .before .before .before .before .before .args .work .now)) (c .before .before .before .before .before .args .o) kinds.Object (c .enum-told .given .1) (c .before .before .before .before .before .pre .1 .2 .fits) in (node-room (c .before .before .before .before .before .pre .1 .0) (k .node), k, c .before .before .before .before .before .pre .1 .1 .onText)
+step-to-member-of-requires t c κs =
+    let at-start = c .before .before .before .before .before in
+    let a = at-start .args in
+    let k = fits-as (a .s .now) (table (a .work .now)) (a .o) kinds.Object (c .enum-told .given .1)
+    (at-start .pre .1 .2 .fits) in
+    (node-room (at-start .pre .1 .0) (k .node), k, at-start .pre .1 .1 .onText)
 
 step-to-returns : (t : ℕ) → step-to-lts.Need-returns (step-to-claims t) (step-to-at t) step-to.Post
-step-to-returns t c = object-none (sheetIn (c .before .before .before .before .before .before .before .args .s .now)) (touch (sheetIn (c .before .before .before .before .before .before .before .args .s .now)) (c .before .before .before .before .before .before .before .args .left)) (framesOf (c .before .before .before .before .before .before .before .args .s .now) (table (c .before .before .before .before .before .before .before .args .work .now)) (c .before .before .before .before .before .before .before .args .frames)) _ (c .before .before .before .before .before .before .before .args .o) (c .before .before .enum-told .given .1) (c .before .member-of .ensures) (c .if1 .taken)
+step-to-returns t c =
+    let a = c .before .before .before .before .before .before .before .args in
+    object-none (sheetIn (a .s .now)) (touch (sheetIn (a .s .now)) (a .left))
+    (framesOf (a .s .now) (table (a .work .now)) (a .frames)) _ (a .o)
+    (c .before .before .enum-told .given .1) (c .before .member-of .ensures) (c .if1 .taken)
 
 step-to-value-at-requires : (t : ℕ) → step-to-lts.Need-value-at-requires (step-to-claims t) (step-to-at t) step-to.Post
-step-to-value-at-requires t c κs = node-room (c .before .before .before .before .before .before .before .pre .1 .0) (member-is (c .before .member-of .ensures) (c .if1 .left) .1)
+step-to-value-at-requires t c κs =
+    node-room (c .before .before .before .before .before .before .before .pre .1 .0)
+    (member-is (c .before .member-of .ensures) (c .if1 .left) .1)
 
 step-to-enum-told-2 : (t : ℕ) → step-to-lts.Need-enum-told-2 (step-to-claims t) (step-to-at t) step-to.Post
 step-to-enum-told-2 t c = search needs
 
-step-to-member-of-requires-2 : (t : ℕ) → step-to-lts.Need-member-of-requires-2 (step-to-claims t) (step-to-at t) step-to.Post
+step-to-member-of-requires-2 : (t : ℕ)
+    → step-to-lts.Need-member-of-requires-2 (step-to-claims t) (step-to-at t) step-to.Post
 unfolding Fits
-step-to-member-of-requires-2 t c κs = let k = fits-as (c .before .before .before .before .before .args .s .now) (table (c .before .before .before .before .before .args .work .now)) (c .before .before .before .before .before .args .o) kinds.Named (c .enum-told2 .given .1) (c .before .before .before .before .before .pre .1 .2 .fits) in (node-room (c .before .before .before .before .before .pre .1 .0) (k .node), k, c .before .before .before .before .before .pre .1 .1 .onText)
+step-to-member-of-requires-2 t c κs =
+    let at-start = c .before .before .before .before .before in
+    let a = at-start .args in
+    let k = fits-as (a .s .now) (table (a .work .now)) (a .o) kinds.Named (c .enum-told2 .given .1)
+    (at-start .pre .1 .2 .fits) in
+    (node-room (at-start .pre .1 .0) (k .node), k, at-start .pre .1 .1 .onText)
 
 step-to-returns-2 : (t : ℕ) → step-to-lts.Need-returns-2 (step-to-claims t) (step-to-at t) step-to.Post
-step-to-returns-2 t c = named-none (sheetIn (c .before .before .before .before .before .before .before .args .s .now)) (touch (sheetIn (c .before .before .before .before .before .before .before .args .s .now)) (c .before .before .before .before .before .before .before .args .left)) (framesOf (c .before .before .before .before .before .before .before .args .s .now) (table (c .before .before .before .before .before .before .before .args .work .now)) (c .before .before .before .before .before .before .before .args .frames)) _ (c .before .before .before .before .before .before .before .args .o) (c .before .before .enum-told2 .given .1) (c .before .member-of2 .ensures) (c .if2 .taken)
+step-to-returns-2 t c =
+    let a = c .before .before .before .before .before .before .before .args in
+    named-none (sheetIn (a .s .now)) (touch (sheetIn (a .s .now)) (a .left))
+    (framesOf (a .s .now) (table (a .work .now)) (a .frames)) _ (a .o)
+    (c .before .before .enum-told2 .given .1) (c .before .member-of2 .ensures) (c .if2 .taken)
 
 step-to-outer-requires : (t : ℕ) → step-to-lts.Need-outer-requires (step-to-claims t) (step-to-at t) step-to.Post
 step-to-outer-requires t c κs = c .before .before .before .before .before .before .before .pre .1 .0 .bound .within
 
 step-to-touch-at-requires : (t : ℕ) → step-to-lts.Need-touch-at-requires (step-to-claims t) (step-to-at t) step-to.Post
-step-to-touch-at-requires t c κs = (touch-falls (c .before .before .before .before .before .before .before .before .args .left) (c .before .before .before .before .before .before .before .before .pre .0), (ready-outer (c .before .before .before .before .before .before .before .before .pre .1 .0) (c .before .before .before .before .before .before .before .before .args .o .depth) (c .outer .ensures .1) (c .outer .ensures .2), member-is (c .before .before .member-of2 .ensures) (c .before .if2 .left) .1))
+step-to-touch-at-requires t c κs =
+    let at-start = c .before .before .before .before .before .before .before .before in (
+      touch-falls (at-start .args .left) (at-start .pre .0),
+      (
+        ready-outer (at-start .pre .1 .0) (at-start .args .o .depth) (c .outer .ensures .1)
+            (c .outer .ensures .2),
+        member-is (c .before .before .member-of2 .ensures) (c .before .if2 .left) .1,
+      ),
+    )
 
 step-to-returns-3 : (t : ℕ) → step-to-lts.Need-returns-3 (step-to-claims t) (step-to-at t) step-to.Post
-step-to-returns-3 t c = object-some (sheetIn (c .before .before .before .before .before .before .before .before .args .s .now)) (touch (sheetIn (c .before .before .before .before .before .before .before .before .args .s .now)) (c .before .before .before .before .before .before .before .before .args .left)) (framesOf (c .before .before .before .before .before .before .before .before .args .s .now) (table (c .before .before .before .before .before .before .before .before .args .work .now)) (c .before .before .before .before .before .before .before .before .args .frames)) _ (c .before .before .before .before .before .before .before .before .args .o) (c .before .before .before .enum-told .given .1) (c .before .before .member-of .ensures) (c .before .if1 .left) (c .value-at .ensures (c .before .before .before .before .before .before .before .before .args .s .now) (member-is (c .before .before .member-of .ensures) (c .before .if1 .left) .1))
+step-to-returns-3 t c =
+    let a = c .before .before .before .before .before .before .before .before .args in
+    let s = a .s .now in
+    object-some (sheetIn s) (touch (sheetIn s) (a .left)) (framesOf s (table (a .work .now)) (a .frames)) _
+    (a .o) (c .before .before .before .enum-told .given .1) (c .before .before .member-of .ensures)
+    (c .before .if1 .left)
+    (c .value-at .ensures s (member-is (c .before .before .member-of .ensures) (c .before .if1 .left) .1))
 
 step-to-returns-4 : (t : ℕ) → step-to-lts.Need-returns-4 (step-to-claims t) (step-to-at t) step-to.Post
-step-to-returns-4 t c = named-some (sheetIn (c .before .before .before .before .before .before .before .before .before .args .s .now)) (touch (sheetIn (c .before .before .before .before .before .before .before .before .before .args .s .now)) (c .before .before .before .before .before .before .before .before .before .args .left)) (framesOf (c .before .before .before .before .before .before .before .before .before .args .s .now) (table (c .before .before .before .before .before .before .before .before .before .args .work .now)) (c .before .before .before .before .before .before .before .before .before .args .frames)) _ (c .before .before .before .before .before .before .before .before .before .args .o) (c .before .before .before .before .enum-told2 .given .1) (c .before .before .before .member-of2 .ensures) (c .before .before .if2 .left) (rw (frames-outer (c .before .before .before .before .before .before .before .before .before .pre .1 .0) (c .before .outer .result) (c .before .before .before .before .before .before .before .before .before .args .o .depth) (c .before .outer .ensures .2)) at (c .touch-at .ensures))
+step-to-returns-4 t c =
+    let at-start = c .before .before .before .before .before .before .before .before .before in
+    let a = at-start .args in
+    named-some (sheetIn (a .s .now)) (touch (sheetIn (a .s .now)) (a .left))
+    (framesOf (a .s .now) (table (a .work .now)) (a .frames)) _ (a .o)
+    (c .before .before .before .before .enum-told2 .given .1) (c .before .before .before .member-of2 .ensures)
+    (c .before .before .if2 .left)
+    (rw
+    (frames-outer (at-start .pre .1 .0) (c .before .outer .result) (a .o .depth)
+    (c .before .outer .ensures .2)) at (c .touch-at .ensures))
 
 step-to-returns-5 : (t : ℕ) → step-to-lts.Need-returns-5 (step-to-claims t) (step-to-at t) step-to.Post
-step-to-returns-5 t c = other-none (sheetIn (c .before .before .before .before .args .s .now)) (touch (sheetIn (c .before .before .before .before .args .s .now)) (c .before .before .before .before .args .left)) (framesOf (c .before .before .before .before .args .s .now) (table (c .before .before .before .before .args .work .now)) (c .before .before .before .before .args .frames)) _ (c .before .before .before .before .args .o) (c .match .keys3)
+step-to-returns-5 t c =
+    let a = c .before .before .before .before .args in
+    other-none (sheetIn (a .s .now)) (touch (sheetIn (a .s .now)) (a .left))
+    (framesOf (a .s .now) (table (a .work .now)) (a .frames)) _ (a .o) (c .match .keys3)
 
-touch-at-nothing-requires : (t : ℕ) → touch-at-lts.Need-nothing-requires (touch-at-claims t) (touch-at-at t) touch-at.Post
+touch-at-nothing-requires : (t : ℕ)
+    → touch-at-lts.Need-nothing-requires (touch-at-claims t) (touch-at-at t) touch-at.Post
 touch-at-nothing-requires t c κs = search needs
 
 touch-at-returns : (t : ℕ) → touch-at-lts.Need-returns (touch-at-claims t) (touch-at-at t) touch-at.Post
-touch-at-returns t c = touch-none (sheetIn (c .before .before .before .before .args .s .now)) (framesOf (c .before .before .before .before .args .s .now) (table (c .before .before .before .before .args .work .now)) (c .before .before .before .before .args .frames)) (c .before .before .before .before .args .node) (c .before .before .before .before .args .left) (c .before .if1 .taken) (c .nothing .ensures)
+touch-at-returns t c =
+    let a = c .before .before .before .before .args in
+    touch-none (sheetIn (a .s .now)) (framesOf (a .s .now) (table (a .work .now)) (a .frames)) (a .node)
+    (a .left) (c .before .if1 .taken) (c .nothing .ensures)
 
-touch-at-kind-at-requires : (t : ℕ) → touch-at-lts.Need-kind-at-requires (touch-at-claims t) (touch-at-at t) touch-at.Post
-touch-at-kind-at-requires t c κs = node-room (c .before .before .before .pre .1 .0) (c .before .before .before .pre .1 .1)
+touch-at-kind-at-requires : (t : ℕ)
+    → touch-at-lts.Need-kind-at-requires (touch-at-claims t) (touch-at-at t) touch-at.Post
+touch-at-kind-at-requires t c κs =
+    node-room (c .before .before .before .pre .1 .0) (c .before .before .before .pre .1 .1)
 
-touch-at-written-kind-requires : (t : ℕ) → touch-at-lts.Need-written-kind-requires (touch-at-claims t) (touch-at-at t) touch-at.Post
+touch-at-written-kind-requires : (t : ℕ)
+    → touch-at-lts.Need-written-kind-requires (touch-at-claims t) (touch-at-at t) touch-at.Post
 touch-at-written-kind-requires t c κs = search needs
 
 touch-at-returns-2 : (t : ℕ) → touch-at-lts.Need-returns-2 (touch-at-claims t) (touch-at-at t) touch-at.Post
-touch-at-returns-2 t c = touch-written (sheetIn (c .before .before .before .before .before .before .args .s .now)) (framesOf (c .before .before .before .before .before .before .args .s .now) (table (c .before .before .before .before .before .before .args .work .now)) (c .before .before .before .before .before .before .args .frames)) (c .before .before .before .before .before .before .args .node) (c .before .before .before .before .before .before .args .left) (c .before .before .before .if1 .left) (c .before .before .before .before .before .before .pre .1 .1) _ (c .before .before .kind-at .ensures) (c .before .if2 .taken) (c .written-kind .ensures) (sym (frames-length (c .before .before .before .before .before .before .pre .1 .0))) (c .before .before .before .before .before .before .pre .1 .0 .bound .within)
+touch-at-returns-2 t c =
+    let at-start = c .before .before .before .before .before .before in
+    let a = at-start .args in
+    touch-written (sheetIn (a .s .now)) (framesOf (a .s .now) (table (a .work .now)) (a .frames)) (a .node)
+    (a .left) (c .before .before .before .if1 .left) (at-start .pre .1 .1) _
+    (c .before .before .kind-at .ensures) (c .before .if2 .taken) (c .written-kind .ensures)
+    (sym (frames-length (at-start .pre .1 .0))) (at-start .pre .1 .0 .bound .within)
 
-touch-at-start-at-requires : (t : ℕ) → touch-at-lts.Need-start-at-requires (touch-at-claims t) (touch-at-at t) touch-at.Post
-touch-at-start-at-requires t c κs = node-room (c .before .before .before .before .before .pre .1 .0) (c .before .before .before .before .before .pre .1 .1)
+touch-at-start-at-requires : (t : ℕ)
+    → touch-at-lts.Need-start-at-requires (touch-at-claims t) (touch-at-at t) touch-at.Post
+touch-at-start-at-requires t c κs =
+    let pre = c .before .before .before .before .before .pre in
+    node-room (pre .1 .0) (pre .1 .1)
 
-touch-at-classify-requires : (t : ℕ) → touch-at-lts.Need-classify-requires (touch-at-claims t) (touch-at-at t) touch-at.Post
-touch-at-classify-requires t c κs = subst (λ (x : ℕ). OnText (c .before .before .before .before .before .before .args .s .now) x 0) (sym (c .start-at .ensures)) (text-row (record { node = c .before .before .before .before .before .before .pre .1 .1; kind = sym (c .before .before .kind-at .ensures) ∙ c .before .if2 .left }) .onText)
+touch-at-classify-requires : (t : ℕ)
+    → touch-at-lts.Need-classify-requires (touch-at-claims t) (touch-at-at t) touch-at.Post
+touch-at-classify-requires t c κs =
+    let at-start = c .before .before .before .before .before .before in
+    subst (λ (x : ℕ). OnText (at-start .args .s .now) x 0) (sym (c .start-at .ensures))
+    (text-row
+    (record {
+      node = at-start .pre .1 .1;
+      kind = sym (c .before .before .kind-at .ensures) ∙ c .before .if2 .left;
+    }) .onText)
 
 touch-at-enum-told : (t : ℕ) → touch-at-lts.Need-enum-told (touch-at-claims t) (touch-at-at t) touch-at.Post
 touch-at-enum-told t c = search needs
@@ -274,38 +607,94 @@ touch-at-enum-known-next : (t : ℕ) → touch-at-lts.Need-enum-known-next (touc
 touch-at-enum-known-next t c = search needs
 
 touch-at-sub-look-up : (t : ℕ) → touch-at-lts.Need-sub-look-up (touch-at-claims t) (touch-at-at t) touch-at.Post
-touch-at-sub-look-up t c = let x = was-expression (c .before .before .before .before .before .before .before .before .before .before .args .s .now) (c .before .before .before .classify .ensures) (c .before .before .before .before .start-at .ensures) _ (c .before .next .given .1) in omega (arith, x .1 .upto)
+touch-at-sub-look-up t c =
+    let x = was-expression
+    (c .before .before .before .before .before .before .before .before .before .before .args .s .now)
+    (c .before .before .before .classify .ensures) (c .before .before .before .before .start-at .ensures) _
+    (c .before .next .given .1) in
+    omega (arith, x .1 .upto)
 
-touch-at-part-look-up-start : (t : ℕ) → touch-at-lts.Need-part-look-up-start (touch-at-claims t) (touch-at-at t) touch-at.Post
-touch-at-part-look-up-start t c = let x = was-expression (c .before .before .before .before .before .before .before .before .before .before .args .s .now) (c .before .before .before .classify .ensures) (c .before .before .before .before .start-at .ensures) _ (c .before .next .given .1) in omega (arith, x .1 .upto)
+touch-at-part-look-up-start : (t : ℕ)
+    → touch-at-lts.Need-part-look-up-start (touch-at-claims t) (touch-at-at t) touch-at.Post
+touch-at-part-look-up-start t c =
+    let x = was-expression
+    (c .before .before .before .before .before .before .before .before .before .before .args .s .now)
+    (c .before .before .before .classify .ensures) (c .before .before .before .before .start-at .ensures) _
+    (c .before .next .given .1) in
+    omega (arith, x .1 .upto)
 
-touch-at-part-look-up-end : (t : ℕ) → touch-at-lts.Need-part-look-up-end (touch-at-claims t) (touch-at-at t) touch-at.Post
+touch-at-part-look-up-end : (t : ℕ)
+    → touch-at-lts.Need-part-look-up-end (touch-at-claims t) (touch-at-at t) touch-at.Post
 touch-at-part-look-up-end t c = search needs
 
 touch-at-sub-look-up-2 : (t : ℕ) → touch-at-lts.Need-sub-look-up-2 (touch-at-claims t) (touch-at-at t) touch-at.Post
-touch-at-sub-look-up-2 t c = one-less (c .before .before .before .before .before .before .before .before .before .before .before .args .left) (c .before .before .before .before .before .before .before .before .if1 .left)
+touch-at-sub-look-up-2 t c =
+    let at-if1 = c .before .before .before .before .before .before .before .before in
+    one-less (at-if1 .before .before .before .args .left) (at-if1 .if1 .left)
 
-touch-at-look-up-requires : (t : ℕ) → touch-at-lts.Need-look-up-requires (touch-at-claims t) (touch-at-at t) touch-at.Post
+touch-at-look-up-requires : (t : ℕ)
+    → touch-at-lts.Need-look-up-requires (touch-at-claims t) (touch-at-at t) touch-at.Post
 touch-at-look-up-requires t c κs =
-    let x = was-expression (c .before .before .before .before .before .before .before .before .before .before .before .args .s .now) (c .before .before .before .before .classify .ensures) (c .before .before .before .before .before .start-at .ensures) _ (c .before .before .next .given .1) in
-    (look-falls (c .before .before .before .before .before .before .before .before .before .before .before .args .left) _ (length (c .before .before .before .before .before .before .before .before .before .before .before .args .s .now)) (c .before .before .next .given .0 .0) (c .before .before .before .before .before .before .before .before .before .before .before .pre .0) (c .before .before .before .before .before .before .before .before .if1 .left) (length-from (c .before .before .before .before .before .before .before .before .before .before .before .args .s .now) (c .before .before .next .given .0 .0)) (c .before .before .before .before .before .before .before .before .before .before .before .pre .1 .0 .short), (c .before .before .before .before .before .before .before .before .before .before .before .pre .1 .0, path-from (c .before .before .before .before .before .before .before .before .before .before .before .args .s .now) (c .before .before .next .given .0 .0) (x .1 .onText) (x .1 .upto) (c .before .before .before .before .before .before .before .before .before .before .before .pre .1 .0 .short)))
+    let at-next = c .before .before in
+    let at-if1 = at-next .before .before .before .before .before .before in
+    let at-start = at-if1 .before .before .before in
+    let pre = at-start .pre in
+    let s = at-start .args .s .now in
+    let x = was-expression s (at-next .before .before .classify .ensures)
+    (at-next .before .before .before .start-at .ensures) _ (at-next .next .given .1) in (
+      look-falls (at-start .args .left) _ (length s) (at-next .next .given .0 .0) (pre .0) (at-if1 .if1 .left)
+          (length-from s (at-next .next .given .0 .0)) (pre .1 .0 .short),
+      (pre .1 .0, path-from s (at-next .next .given .0 .0) (x .1 .onText) (x .1 .upto) (pre .1 .0 .short)),
+    )
 
-touch-at-or-null-requires : (t : ℕ) → touch-at-lts.Need-or-null-requires (touch-at-claims t) (touch-at-at t) touch-at.Post
+touch-at-or-null-requires : (t : ℕ)
+    → touch-at-lts.Need-or-null-requires (touch-at-claims t) (touch-at-at t) touch-at.Post
 touch-at-or-null-requires t c κs = search needs
 
 touch-at-returns-3 : (t : ℕ) → touch-at-lts.Need-returns-3 (touch-at-claims t) (touch-at-at t) touch-at.Post
-touch-at-returns-3 t c = touch-plain (sheetIn (c .before .before .before .before .before .before .before .before .before .args .s .now)) (framesOf (c .before .before .before .before .before .before .before .before .before .args .s .now) (table (c .before .before .before .before .before .before .before .before .before .args .work .now)) (c .before .before .before .before .before .before .before .before .before .args .frames)) (c .before .before .before .before .before .before .before .before .before .args .node) (c .before .before .before .before .before .before .before .before .before .args .left) (c .before .before .before .before .before .before .if1 .left) (record { node = c .before .before .before .before .before .before .before .before .before .pre .1 .1; kind = sym (c .before .before .before .before .before .kind-at .ensures) ∙ c .before .before .before .before .if2 .left }) (was-plain (c .before .before .before .before .before .before .before .before .before .args .s .now) (c .before .before .classify .ensures) (c .before .before .before .start-at .ensures) (c .enum-told .given .1))
+touch-at-returns-3 t c =
+    let at-if2 = c .before .before .before .before in
+    let a = at-if2 .before .before .before .before .before .args in
+    touch-plain (sheetIn (a .s .now)) (framesOf (a .s .now) (table (a .work .now)) (a .frames)) (a .node)
+    (a .left) (at-if2 .before .before .if1 .left)
+    (record {
+      node = at-if2 .before .before .before .before .before .pre .1 .1;
+      kind = sym (at-if2 .before .kind-at .ensures) ∙ at-if2 .if2 .left;
+    })
+    (was-plain (a .s .now) (c .before .before .classify .ensures)
+    (c .before .before .before .start-at .ensures) (c .enum-told .given .1))
 
 touch-at-returns-4 : (t : ℕ) → touch-at-lts.Need-returns-4 (touch-at-claims t) (touch-at-at t) touch-at.Post
-touch-at-returns-4 t c = let x = was-escaped (c .before .before .before .before .before .before .before .before .before .before .args .s .now) (c .before .before .before .classify .ensures) (c .before .before .before .before .start-at .ensures) _ (c .before .-p .given .1) in touch-less (sheetIn (c .before .before .before .before .before .before .before .before .before .before .args .s .now)) (framesOf (c .before .before .before .before .before .before .before .before .before .before .args .s .now) (table (c .before .before .before .before .before .before .before .before .before .before .args .work .now)) (c .before .before .before .before .before .before .before .before .before .before .args .frames)) (c .before .before .before .before .before .before .before .before .before .before .args .node) (c .before .before .before .before .before .before .before .before .before .before .args .left) (c .before .before .before .before .before .before .before .if1 .left) (record { node = c .before .before .before .before .before .before .before .before .before .before .pre .1 .1; kind = sym (c .before .before .before .before .before .before .kind-at .ensures) ∙ c .before .before .before .before .before .if2 .left }) (x .0) (x .1)
+touch-at-returns-4 t c =
+    let at-if2 = c .before .before .before .before .before in
+    let a = at-if2 .before .before .before .before .before .args in
+    let x = was-escaped (a .s .now) (c .before .before .before .classify .ensures)
+    (c .before .before .before .before .start-at .ensures) _ (c .before .-p .given .1) in
+    touch-less (sheetIn (a .s .now)) (framesOf (a .s .now) (table (a .work .now)) (a .frames)) (a .node)
+    (a .left) (at-if2 .before .before .if1 .left)
+    (record {
+      node = at-if2 .before .before .before .before .before .pre .1 .1;
+      kind = sym (at-if2 .before .kind-at .ensures) ∙ at-if2 .if2 .left;
+    }) (x .0) (x .1)
 
 touch-at-returns-5 : (t : ℕ) → touch-at-lts.Need-returns-5 (touch-at-claims t) (touch-at-at t) touch-at.Post
 touch-at-returns-5 t c =
-    let x = was-expression (c .before .before .before .before .before .before .before .before .before .before .before .before .before .args .s .now) (c .before .before .before .before .before .before .classify .ensures) (c .before .before .before .before .before .before .before .start-at .ensures) _ (c .before .before .before .before .next .given .1) in
-    touch-looked (sheetIn (c .before .before .before .before .before .before .before .before .before .before .before .before .before .args .s .now)) (framesOf (c .before .before .before .before .before .before .before .before .before .before .before .before .before .args .s .now) (table (c .before .before .before .before .before .before .before .before .before .before .before .before .before .args .work .now)) (c .before .before .before .before .before .before .before .before .before .before .before .before .before .args .frames)) (c .before .before .before .before .before .before .before .before .before .before .before .before .before .args .node) (c .before .before .before .before .before .before .before .before .before .before .before .before .before .args .left) (c .before .before .before .before .before .before .before .before .before .before .if1 .left) (record { node = c .before .before .before .before .before .before .before .before .before .before .before .before .before .pre .1 .1; kind = sym (c .before .before .before .before .before .before .before .before .before .kind-at .ensures) ∙ c .before .before .before .before .before .before .before .before .if2 .left }) (x .0) (rw text-from at (c .before .look-up .ensures)) (c .or-null .ensures)
+    let at-classify = c .before .before .before .before .before .before in
+    let at-if2 = at-classify .before .before in
+    let at-start = at-if2 .before .before .before .before .before in
+    let a = at-start .args in
+    let x = was-expression (a .s .now) (at-classify .classify .ensures)
+    (at-classify .before .start-at .ensures) _ (c .before .before .before .before .next .given .1) in
+    touch-looked (sheetIn (a .s .now)) (framesOf (a .s .now) (table (a .work .now)) (a .frames)) (a .node)
+    (a .left) (at-if2 .before .before .if1 .left)
+    (record { node = at-start .pre .1 .1; kind = sym (at-if2 .before .kind-at .ensures) ∙ at-if2 .if2 .left })
+    (x .0) (rw text-from at (c .before .look-up .ensures)) (c .or-null .ensures)
 
 walk-on-step-to-requires : (t : ℕ) → walk-on-lts.Need-step-to-requires (walk-on-claims t) (walk-on-at t) walk-on.Post
-walk-on-step-to-requires t c κs = (step-falls (c .before .before .before .args .left) (length (c .before .before .before .args .path .now)) (c .before .before .before .pre .0), (c .before .before .before .pre .1 .0, c .before .before .before .pre .1 .1, c .before .before .before .pre .1 .2))
+walk-on-step-to-requires t c κs =
+    let a = c .before .before .before .args in
+    let pre = c .before .before .before .pre in
+    (step-falls (a .left) (length (a .path .now)) (pre .0), (pre .1 .0, pre .1 .1, pre .1 .2))
 
 walk-on-enum-told : (t : ℕ) → walk-on-lts.Need-enum-told (walk-on-claims t) (walk-on-at t) walk-on.Post
 walk-on-enum-told t c = search needs
@@ -323,25 +712,72 @@ walk-on-enum-known-next : (t : ℕ) → walk-on-lts.Need-enum-known-next (walk-o
 walk-on-enum-known-next t c = search needs
 
 walk-on-sub-walk-on : (t : ℕ) → walk-on-lts.Need-sub-walk-on (walk-on-claims t) (walk-on-at t) walk-on.Post
-walk-on-sub-walk-on t c = omega (arith, (rest-was (c .before .next .given .0 .0) (c .before .before .before .rest-at .ensures) (c .before .next .given .1)) .3)
+walk-on-sub-walk-on t c =
+    omega (
+      arith,
+      (rest-was (c .before .next .given .0 .0) (c .before .before .before .rest-at .ensures)
+          (c .before .next .given .1)) .3,
+    )
 
-walk-on-part-walk-on-start : (t : ℕ) → walk-on-lts.Need-part-walk-on-start (walk-on-claims t) (walk-on-at t) walk-on.Post
-walk-on-part-walk-on-start t c = omega (arith, (rest-was (c .before .next .given .0 .0) (c .before .before .before .rest-at .ensures) (c .before .next .given .1)) .3)
+walk-on-part-walk-on-start : (t : ℕ)
+    → walk-on-lts.Need-part-walk-on-start (walk-on-claims t) (walk-on-at t) walk-on.Post
+walk-on-part-walk-on-start t c =
+    omega (
+      arith,
+      (rest-was (c .before .next .given .0 .0) (c .before .before .before .rest-at .ensures)
+          (c .before .next .given .1)) .3,
+    )
 
 walk-on-part-walk-on-end : (t : ℕ) → walk-on-lts.Need-part-walk-on-end (walk-on-claims t) (walk-on-at t) walk-on.Post
 walk-on-part-walk-on-end t c = search needs
 
 walk-on-walk-on-requires : (t : ℕ) → walk-on-lts.Need-walk-on-requires (walk-on-claims t) (walk-on-at t) walk-on.Post
-walk-on-walk-on-requires t c κs = (path-falls (c .before .before .before .before .before .before .before .before .before .before .before .before .args .left) (length (c .before .before .before .before .before .before .before .before .before .before .before .before .args .path .now)) _ (c .before .before .next .given .0 .0) 2 2 (c .before .before .before .before .before .before .before .before .before .before .before .before .pre .0) (length-from (c .before .before .before .before .before .before .before .before .before .before .before .before .args .path .now) (c .before .before .next .given .0 .0)) ((rest-was (c .before .before .next .given .0 .0) (c .before .before .before .before .rest-at .ensures) (c .before .before .next .given .1)) .2) ((rest-was (c .before .before .next .given .0 .0) (c .before .before .before .before .rest-at .ensures) (c .before .before .next .given .1)) .3) (omega arith), (c .before .before .before .before .before .before .before .before .before .before .before .before .pre .1 .0, path-from (c .before .before .before .before .before .before .before .before .before .before .before .before .args .path .now) (c .before .before .next .given .0 .0) ((rest-was (c .before .before .next .given .0 .0) (c .before .before .before .before .rest-at .ensures) (c .before .before .next .given .1)) .1) ((rest-was (c .before .before .next .given .0 .0) (c .before .before .before .before .rest-at .ensures) (c .before .before .next .given .1)) .3) (c .before .before .before .before .before .before .before .before .before .before .before .before .pre .1 .1 .short), bound-fits (c .before .before .before .before .before .before .before .before .step-to .ensures) _ (c .before .before .before .before .before .before .found .given .1)))
+walk-on-walk-on-requires t c κs =
+    let next = c .before .before .next in
+    let at-rest-at = c .before .before .before .before in
+    let at-start = at-rest-at .before .before .before .before .before .before .before .before in
+    let path = at-start .args .path .now in
+    let rest-was1 = rest-was (next .given .0 .0) (at-rest-at .rest-at .ensures) (next .given .1) in (
+      path-falls (at-start .args .left) (length path) _ (next .given .0 .0) 2 2 (at-start .pre .0)
+          (length-from path (next .given .0 .0)) (rest-was1 .2) (rest-was1 .3) (omega arith),
+      (
+        at-start .pre .1 .0,
+        path-from path (next .given .0 .0) (rest-was1 .1) (rest-was1 .3) (at-start .pre .1 .1 .short),
+        bound-fits (at-rest-at .before .before .before .before .step-to .ensures) _
+            (at-rest-at .before .before .found .given .1),
+      ),
+    )
 
 walk-on-returns : (t : ℕ) → walk-on-lts.Need-returns (walk-on-claims t) (walk-on-at t) walk-on.Post
-walk-on-returns t c = walk-stops (sheetIn (c .before .before .before .before .before .before .args .s .now)) (touch (sheetIn (c .before .before .before .before .before .before .args .s .now)) (c .before .before .before .before .before .before .args .left)) (framesOf (c .before .before .before .before .before .before .args .s .now) (table (c .before .before .before .before .before .before .args .work .now)) (c .before .before .before .before .before .before .args .frames)) (textAt (c .before .before .before .before .before .before .args .path .now) 0) (operandOf (c .before .before .before .before .before .before .args .s .now) (table (c .before .before .before .before .before .before .args .work .now)) (c .before .before .before .before .before .before .args .o)) (c .before .before .step-to .ensures) (c .enum-told .given .1)
+walk-on-returns t c =
+    let a = c .before .before .before .before .before .before .args in
+    let s = a .s .now in
+    walk-stops (sheetIn s) (touch (sheetIn s) (a .left)) (framesOf s (table (a .work .now)) (a .frames))
+    (textAt (a .path .now) 0) (operandOf s (table (a .work .now)) (a .o))
+    (c .before .before .step-to .ensures) (c .enum-told .given .1)
 
 walk-on-returns-2 : (t : ℕ) → walk-on-lts.Need-returns-2 (walk-on-claims t) (walk-on-at t) walk-on.Post
-walk-on-returns-2 t c = walk-arrives (sheetIn (c .before .before .before .before .before .before .before .before .before .before .args .s .now)) (touch (sheetIn (c .before .before .before .before .before .before .before .before .before .before .args .s .now)) (c .before .before .before .before .before .before .before .before .before .before .args .left)) (framesOf (c .before .before .before .before .before .before .before .before .before .before .args .s .now) (table (c .before .before .before .before .before .before .before .before .before .before .args .work .now)) (c .before .before .before .before .before .before .before .before .before .before .args .frames)) (textAt (c .before .before .before .before .before .before .before .before .before .before .args .path .now) 0) (operandOf (c .before .before .before .before .before .before .before .before .before .before .args .s .now) (table (c .before .before .before .before .before .before .before .before .before .before .args .work .now)) (c .before .before .before .before .before .before .before .before .before .before .args .o)) (c .before .before .before .before .before .before .step-to .ensures) _ (c .before .before .before .before .found .given .1) (rest-none (c .before .before .before .before .before .before .before .before .before .before .args .path .now) (c .before .before .rest-at .ensures) (c .enum-told2 .given .1))
+walk-on-returns-2 t c =
+    let at-found = c .before .before .before .before in
+    let a = at-found .before .before .before .before .before .before .args in
+    let s = a .s .now in
+    walk-arrives (sheetIn s) (touch (sheetIn s) (a .left)) (framesOf s (table (a .work .now)) (a .frames))
+    (textAt (a .path .now) 0) (operandOf s (table (a .work .now)) (a .o))
+    (at-found .before .before .step-to .ensures) _ (at-found .found .given .1)
+    (rest-none (a .path .now) (c .before .before .rest-at .ensures) (c .enum-told2 .given .1))
 
 walk-on-returns-3 : (t : ℕ) → walk-on-lts.Need-returns-3 (walk-on-claims t) (walk-on-at t) walk-on.Post
-walk-on-returns-3 t c = walk-goes (sheetIn (c .before .before .before .before .before .before .before .before .before .before .before .before .before .args .s .now)) (touch (sheetIn (c .before .before .before .before .before .before .before .before .before .before .before .before .before .args .s .now)) (c .before .before .before .before .before .before .before .before .before .before .before .before .before .args .left)) (framesOf (c .before .before .before .before .before .before .before .before .before .before .before .before .before .args .s .now) (table (c .before .before .before .before .before .before .before .before .before .before .before .before .before .args .work .now)) (c .before .before .before .before .before .before .before .before .before .before .before .before .before .args .frames)) (textAt (c .before .before .before .before .before .before .before .before .before .before .before .before .before .args .path .now) 0) (operandOf (c .before .before .before .before .before .before .before .before .before .before .before .before .before .args .s .now) (table (c .before .before .before .before .before .before .before .before .before .before .before .before .before .args .work .now)) (c .before .before .before .before .before .before .before .before .before .before .before .before .before .args .o)) (c .before .before .before .before .before .before .before .before .before .step-to .ensures) _ (c .before .before .before .before .before .before .before .found .given .1) (textAt (c .before .before .before .before .before .before .before .before .before .before .before .before .before .args .path .now) (c .before .before .before .next .given .0 .0)) ((rest-was (c .before .before .before .next .given .0 .0) (c .before .before .before .before .before .rest-at .ensures) (c .before .before .before .next .given .1)) .0) (rw text-from at (c .walk-on .ensures))
+walk-on-returns-3 t c =
+    let at-next = c .before .before .before in
+    let at-found = at-next .before .before .before .before in
+    let a = at-found .before .before .before .before .before .before .args in
+    let s = a .s .now in
+    walk-goes (sheetIn s) (touch (sheetIn s) (a .left)) (framesOf s (table (a .work .now)) (a .frames))
+    (textAt (a .path .now) 0) (operandOf s (table (a .work .now)) (a .o))
+    (at-found .before .before .step-to .ensures) _ (at-found .found .given .1)
+    (textAt (a .path .now) (at-next .next .given .0 .0))
+    ((rest-was (at-next .next .given .0 .0) (at-next .before .before .rest-at .ensures)
+    (at-next .next .given .1)) .0) (rw text-from at (c .walk-on .ensures))
 
 pub +look-up+step-to+touch-at+walk-on-spec : {M : Type 1} → statement M
 +look-up+step-to+touch-at+walk-on-spec =

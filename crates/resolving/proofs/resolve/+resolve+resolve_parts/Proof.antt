@@ -59,13 +59,28 @@ resolve-parts-below t =
     resolve-parts.Pre
 
 abbrev resolve-claims : ℕ → resolve-lts.Claims
-resolve-claims t = (kind-at-reads.Asked, kind-at-reads.Learnt, resolve-text-reads.Asked, resolve-text-reads.Learnt, resolve-parts-below t, resolve-parts.Post, value-kind-reads.Asked, value-kind-reads.Learnt)
+resolve-claims t = (
+  kind-at-reads.Asked,
+  kind-at-reads.Learnt,
+  resolve-text-reads.Asked,
+  resolve-text-reads.Learnt,
+  resolve-parts-below t,
+  resolve-parts.Post,
+  value-kind-reads.Asked,
+  value-kind-reads.Learnt,
+)
 
 resolve-kind-at-requires : (t : ℕ) → resolve-lts.Need-kind-at-requires (resolve-claims t) (resolve-at t) resolve.Post
-resolve-kind-at-requires t c κs = node-room (c .before .before .before .pre .1 .0) (c .before .before .before .pre .1 .1)
+resolve-kind-at-requires t c κs =
+    node-room (c .before .before .before .pre .1 .0) (c .before .before .before .pre .1 .1)
 
-resolve-resolve-text-requires : (t : ℕ) → resolve-lts.Need-resolve-text-requires (resolve-claims t) (resolve-at t) resolve.Post
-resolve-resolve-text-requires t c κs = (c .before .before .before .before .before .before .pre .1 .0, record { node = c .before .before .before .before .before .before .pre .1 .1; kind = sym (c .before .before .kind-at .ensures) ∙ c .before .if1 .taken })
+resolve-resolve-text-requires : (t : ℕ)
+    → resolve-lts.Need-resolve-text-requires (resolve-claims t) (resolve-at t) resolve.Post
+resolve-resolve-text-requires t c κs =
+    let pre = c .before .before .before .before .before .before .pre in (
+      pre .1 .0,
+      record { node = pre .1 .1; kind = sym (c .before .before .kind-at .ensures) ∙ c .before .if1 .taken },
+    )
 
 resolve-same-length : (t : ℕ) → resolve-lts.Need-same-length (resolve-claims t) (resolve-at t) resolve.Post
 resolve-same-length t c = c .before .before .resolve-text .ensures .left .long
@@ -73,8 +88,21 @@ resolve-same-length t c = c .before .before .resolve-text .ensures .left .long
 resolve-returns : (t : ℕ) → resolve-lts.Need-returns (resolve-claims t) (resolve-at t) resolve.Post
 resolve-returns t c = c .before .before .resolve-text .ensures
 
-resolve-resolve-parts-requires : (t : ℕ) → resolve-lts.Need-resolve-parts-requires (resolve-claims t) (resolve-at t) resolve.Post
-resolve-resolve-parts-requires t c κs = (part-falls (c .before .before .before .before .before .before .before .args .left) (c .before .before .before .before .before .before .before .pre .0), (c .before .before .before .before .before .before .before .pre .1 .0, record { node = c .before .before .before .before .before .before .before .pre .1 .1; kind = sym (c .before .before .before .kind-at .ensures) ∙ c .before .if2 .taken }, c .before .before .before .before .before .before .before .pre .1 .2))
+resolve-resolve-parts-requires : (t : ℕ)
+    → resolve-lts.Need-resolve-parts-requires (resolve-claims t) (resolve-at t) resolve.Post
+resolve-resolve-parts-requires t c κs =
+    let at-start = c .before .before .before .before .before .before .before in
+    let pre = at-start .pre in (
+      part-falls (at-start .args .left) (pre .0),
+      (
+        pre .1 .0,
+        record {
+          node = pre .1 .1;
+          kind = sym (c .before .before .before .kind-at .ensures) ∙ c .before .if2 .taken;
+        },
+        pre .1 .2,
+      ),
+    )
 
 resolve-same-length-2 : (t : ℕ) → resolve-lts.Need-same-length-2 (resolve-claims t) (resolve-at t) resolve.Post
 resolve-same-length-2 t c = c .before .before .resolve-parts .ensures .left .long
@@ -82,8 +110,21 @@ resolve-same-length-2 t c = c .before .before .resolve-parts .ensures .left .lon
 resolve-returns-2 : (t : ℕ) → resolve-lts.Need-returns-2 (resolve-claims t) (resolve-at t) resolve.Post
 resolve-returns-2 t c = c .before .before .resolve-parts .ensures
 
-resolve-resolve-parts-requires-2 : (t : ℕ) → resolve-lts.Need-resolve-parts-requires-2 (resolve-claims t) (resolve-at t) resolve.Post
-resolve-resolve-parts-requires-2 t c κs = (part-falls (c .before .before .before .before .before .before .before .before .args .left) (c .before .before .before .before .before .before .before .before .pre .0), (c .before .before .before .before .before .before .before .before .pre .1 .0, record { node = c .before .before .before .before .before .before .before .before .pre .1 .1; kind = sym (c .before .before .before .before .kind-at .ensures) ∙ c .before .if3 .taken }, c .before .before .before .before .before .before .before .before .pre .1 .2))
+resolve-resolve-parts-requires-2 : (t : ℕ)
+    → resolve-lts.Need-resolve-parts-requires-2 (resolve-claims t) (resolve-at t) resolve.Post
+resolve-resolve-parts-requires-2 t c κs =
+    let at-start = c .before .before .before .before .before .before .before .before in
+    let pre = at-start .pre in (
+      part-falls (at-start .args .left) (pre .0),
+      (
+        pre .1 .0,
+        record {
+          node = pre .1 .1;
+          kind = sym (c .before .before .before .before .kind-at .ensures) ∙ c .before .if3 .taken;
+        },
+        pre .1 .2,
+      ),
+    )
 
 resolve-same-length-3 : (t : ℕ) → resolve-lts.Need-same-length-3 (resolve-claims t) (resolve-at t) resolve.Post
 resolve-same-length-3 t c = c .before .before .resolve-parts2 .ensures .left .long
@@ -91,85 +132,227 @@ resolve-same-length-3 t c = c .before .before .resolve-parts2 .ensures .left .lo
 resolve-returns-3 : (t : ℕ) → resolve-lts.Need-returns-3 (resolve-claims t) (resolve-at t) resolve.Post
 resolve-returns-3 t c = c .before .before .resolve-parts2 .ensures
 
-resolve-value-kind-requires : (t : ℕ) → resolve-lts.Need-value-kind-requires (resolve-claims t) (resolve-at t) resolve.Post
+resolve-value-kind-requires : (t : ℕ)
+    → resolve-lts.Need-value-kind-requires (resolve-claims t) (resolve-at t) resolve.Post
 resolve-value-kind-requires t c κs = search needs
 
 resolve-same-length-4 : (t : ℕ) → resolve-lts.Need-same-length-4 (resolve-claims t) (resolve-at t) resolve.Post
 resolve-same-length-4 t c = search needs
 
 resolve-returns-4 : (t : ℕ) → resolve-lts.Need-returns-4 (resolve-claims t) (resolve-at t) resolve.Post
-resolve-returns-4 t c = plain-value (c .before .before .before .before .before .before .before .before .args .quiet) (sheetIn (c .before .before .before .before .before .before .before .before .args .s .now)) (framesOf (c .before .before .before .before .before .before .before .before .args .s .now) (table (c .before .before .before .before .before .before .before .before .args .work .now)) (c .before .before .before .before .before .before .before .before .args .frames)) (c .before .before .before .before .before .before .before .before .pre .1 .1) (c .before .before .before .before .kind-at .ensures) (c .before .before .before .if1 .left) (c .before .before .if2 .left) (c .before .if3 .left) (c .value-kind .ensures)
+resolve-returns-4 t c =
+    let at-if1 = c .before .before .before in
+    let a = at-if1 .before .before .before .before .before .args in
+    plain-value (a .quiet) (sheetIn (a .s .now)) (framesOf (a .s .now) (table (a .work .now)) (a .frames))
+    (at-if1 .before .before .before .before .before .pre .1 .1) (at-if1 .before .kind-at .ensures)
+    (at-if1 .if1 .left) (c .before .before .if2 .left) (c .before .if3 .left) (c .value-kind .ensures)
 
 abbrev resolve-parts-claims : ℕ → resolve-parts-lts.Claims
-resolve-parts-claims t = (of-reads.Asked, of-reads.Learnt, next-reads.Asked, next-reads.Learnt, gathered-reads.Asked, gathered-reads.Learnt, value-node-reads.Asked, value-node-reads.Learnt, resolve-below t, resolve.Post, seen-reads.Asked, seen-reads.Learnt, both-reads.Asked, both-reads.Learnt)
+resolve-parts-claims t = (
+  of-reads.Asked,
+  of-reads.Learnt,
+  next-reads.Asked,
+  next-reads.Learnt,
+  gathered-reads.Asked,
+  gathered-reads.Learnt,
+  value-node-reads.Asked,
+  value-node-reads.Learnt,
+  resolve-below t,
+  resolve.Post,
+  seen-reads.Asked,
+  seen-reads.Learnt,
+  both-reads.Asked,
+  both-reads.Learnt,
+)
 
 abbrev resolve-parts-Inv-loop : resolve-parts-lts.InvT-loop
-resolve-parts-Inv-loop s work₀ roots frames node named quiet left whole₀ c₀ work whole c = Gathering quiet s work₀ (sheetIn s) (framesOf s (table work₀) frames) node (frames .depth) named (left - 1) (operand (sheetIn s) (framesOf s (table work₀) frames) (tree s (table work₀) node)) work whole c
+resolve-parts-Inv-loop s work₀ roots frames node named quiet left whole₀ c₀ work whole c =
+    Gathering quiet s work₀ (sheetIn s) (framesOf s (table work₀) frames) node (frames .depth) named
+    (left - 1) (operand (sheetIn s) (framesOf s (table work₀) frames) (tree s (table work₀) node)) work whole
+    c
 
 abbrev resolve-parts-μ-loop : resolve-parts-lts.MeasureT-loop
 resolve-parts-μ-loop s work₀ roots frames node named quiet left whole₀ c₀ work whole c = c .left
 
-resolve-parts-of-requires : (t : ℕ) → resolve-parts-lts.Need-of-requires (resolve-parts-claims t) (resolve-parts-at t) resolve-parts.Post resolve-parts-Inv-loop resolve-parts-μ-loop
-resolve-parts-of-requires t c κs = begin-room (c .before .before .before .args .s .now) (c .before .before .before .args .work .now) (c .before .before .before .args .named) (c .before .before .before .pre .1 .0 .rows) (c .before .before .before .pre .1 .1)
+resolve-parts-of-requires : (t : ℕ)
+    → resolve-parts-lts.Need-of-requires (resolve-parts-claims t) (resolve-parts-at t) resolve-parts.Post
+    resolve-parts-Inv-loop resolve-parts-μ-loop
+resolve-parts-of-requires t c κs =
+    let a = c .before .before .before .args in
+    begin-room (a .s .now) (a .work .now) (a .named) (c .before .before .before .pre .1 .0 .rows)
+    (c .before .before .before .pre .1 .1)
 
-resolve-parts-loop-holds : (t : ℕ) → resolve-parts-lts.Need-loop-holds (resolve-parts-claims t) (resolve-parts-at t) resolve-parts.Post resolve-parts-Inv-loop resolve-parts-μ-loop
-resolve-parts-loop-holds t c = gather-begin (c .before .before .before .before .args .quiet) (c .before .before .before .before .args .s .now) (c .before .before .before .before .args .work .now) (sheetIn (c .before .before .before .before .args .s .now)) (framesOf (c .before .before .before .before .args .s .now) (table (c .before .before .before .before .args .work .now)) (c .before .before .before .before .args .frames)) (c .before .before .before .before .args .node) (c .before .before .before .before .args .frames .depth) (c .before .before .before .before .args .named) (c .before .before .before .before .args .left) (c .before .before .before .before .pre .1 .1) (c .before .before .before .before .pre .1 .0 .linked) (frames-length (c .before .before .before .before .pre .1 .0)) (c .before .before .before .before .pre .1 .2) (c .of .ensures)
+resolve-parts-loop-holds : (t : ℕ)
+    → resolve-parts-lts.Need-loop-holds (resolve-parts-claims t) (resolve-parts-at t) resolve-parts.Post
+    resolve-parts-Inv-loop resolve-parts-μ-loop
+resolve-parts-loop-holds t c =
+    let a = c .before .before .before .before .args in
+    let pre = c .before .before .before .before .pre in
+    gather-begin (a .quiet) (a .s .now) (a .work .now) (sheetIn (a .s .now))
+    (framesOf (a .s .now) (table (a .work .now)) (a .frames)) (a .node) (a .frames .depth) (a .named)
+    (a .left) (pre .1 .1) (pre .1 .0 .linked) (frames-length (pre .1 .0)) (pre .1 .2) (c .of .ensures)
 
-resolve-parts-next-requires : (t : ℕ) → resolve-parts-lts.Need-next-requires (resolve-parts-claims t) (resolve-parts-at t) resolve-parts.Post resolve-parts-Inv-loop resolve-parts-μ-loop
-resolve-parts-next-requires t c κs = (record { rows = ready-after (c .before .before .before .before .before .before .pre .1 .0) (c .before .loop .inv .left) .rows; node = omega arith }, c .before .loop .inv .walk .within)
+resolve-parts-next-requires : (t : ℕ)
+    → resolve-parts-lts.Need-next-requires (resolve-parts-claims t) (resolve-parts-at t) resolve-parts.Post
+    resolve-parts-Inv-loop resolve-parts-μ-loop
+resolve-parts-next-requires t c κs = (
+  record {
+    rows = ready-after (c .before .before .before .before .before .before .pre .1 .0)
+        (c .before .loop .inv .left) .rows;
+    node = omega arith;
+  },
+  c .before .loop .inv .walk .within,
+)
 
-resolve-parts-enum-told : (t : ℕ) → resolve-parts-lts.Need-enum-told (resolve-parts-claims t) (resolve-parts-at t) resolve-parts.Post resolve-parts-Inv-loop resolve-parts-μ-loop
+resolve-parts-enum-told : (t : ℕ)
+    → resolve-parts-lts.Need-enum-told (resolve-parts-claims t) (resolve-parts-at t) resolve-parts.Post
+    resolve-parts-Inv-loop resolve-parts-μ-loop
 resolve-parts-enum-told t c = search needs
 
-resolve-parts-gathered-requires : (t : ℕ) → resolve-parts-lts.Need-gathered-requires (resolve-parts-claims t) (resolve-parts-at t) resolve-parts.Post resolve-parts-Inv-loop resolve-parts-μ-loop
+resolve-parts-gathered-requires : (t : ℕ)
+    → resolve-parts-lts.Need-gathered-requires (resolve-parts-claims t) (resolve-parts-at t)
+    resolve-parts.Post resolve-parts-Inv-loop resolve-parts-μ-loop
 resolve-parts-gathered-requires t c κs = search needs
 
-resolve-parts-same-length : (t : ℕ) → resolve-parts-lts.Need-same-length (resolve-parts-claims t) (resolve-parts-at t) resolve-parts.Post resolve-parts-Inv-loop resolve-parts-μ-loop
+resolve-parts-same-length : (t : ℕ)
+    → resolve-parts-lts.Need-same-length (resolve-parts-claims t) (resolve-parts-at t) resolve-parts.Post
+    resolve-parts-Inv-loop resolve-parts-μ-loop
 resolve-parts-same-length t c = c .before .before .before .before .before .loop .inv .left .long
 
-resolve-parts-returns : (t : ℕ) → resolve-parts-lts.Need-returns (resolve-parts-claims t) (resolve-parts-at t) resolve-parts.Post resolve-parts-Inv-loop resolve-parts-μ-loop
-resolve-parts-returns t c = gather-end (c .before .before .before .before .before .loop .inv) (c .before .before .before .before .before .before .before .before .before .before .pre .1 .1) (c .before .before .before .before .before .before .before .before .before .before .pre .1 .0 .bound .within) (child-end (c .before .before .before .before .before .loop .inv .walk) (rw (c .before .before .before .before .before .loop .inv .left .rows) at (c .before .before .before .next .ensures)) (c .before .enum-told .given .1)) (c .gathered .ensures)
+resolve-parts-returns : (t : ℕ)
+    → resolve-parts-lts.Need-returns (resolve-parts-claims t) (resolve-parts-at t) resolve-parts.Post
+    resolve-parts-Inv-loop resolve-parts-μ-loop
+resolve-parts-returns t c =
+    let at-loop = c .before .before .before .before .before in
+    let inv = at-loop .loop .inv in
+    let pre = at-loop .before .before .before .before .before .pre in
+    gather-end inv (pre .1 .1) (pre .1 .0 .bound .within)
+    (child-end (inv .walk) (rw (inv .left .rows) at (c .before .before .before .next .ensures))
+    (c .before .enum-told .given .1)) (c .gathered .ensures)
 
-resolve-parts-enum-known-x : (t : ℕ) → resolve-parts-lts.Need-enum-known-x (resolve-parts-claims t) (resolve-parts-at t) resolve-parts.Post resolve-parts-Inv-loop resolve-parts-μ-loop
+resolve-parts-enum-known-x : (t : ℕ)
+    → resolve-parts-lts.Need-enum-known-x (resolve-parts-claims t) (resolve-parts-at t) resolve-parts.Post
+    resolve-parts-Inv-loop resolve-parts-μ-loop
 resolve-parts-enum-known-x t c = search needs
 
-resolve-parts-value-node-requires : (t : ℕ) → resolve-parts-lts.Need-value-node-requires (resolve-parts-claims t) (resolve-parts-at t) resolve-parts.Post resolve-parts-Inv-loop resolve-parts-μ-loop
-resolve-parts-value-node-requires t c κs = value-there (c .before .before .before .before .before .before .before .before .before .before .args .s .now) (table (c .before .before .before .before .before .before .before .before .before .before .args .work .now)) (c .before .before .before .before .before .before .before .before .before .before .args .named) (this-child (c .before .before .before .before .before .loop .inv) (child-given (c .before .before .before .before .before .loop .inv .walk) (rw (c .before .before .before .before .before .loop .inv .left .rows) at (c .before .before .before .next .ensures)) (c .before .x .given .0 .0) (c .before .x .given .1))) .1
+resolve-parts-value-node-requires : (t : ℕ)
+    → resolve-parts-lts.Need-value-node-requires (resolve-parts-claims t) (resolve-parts-at t)
+    resolve-parts.Post resolve-parts-Inv-loop resolve-parts-μ-loop
+resolve-parts-value-node-requires t c κs =
+    let inv = c .before .before .before .before .before .loop .inv in
+    let a = c .before .before .before .before .before .before .before .before .before .before .args in
+    value-there (a .s .now) (table (a .work .now)) (a .named)
+    (this-child inv
+    (child-given (inv .walk) (rw (inv .left .rows) at (c .before .before .before .next .ensures))
+    (c .before .x .given .0 .0) (c .before .x .given .1))) .1
 
-resolve-parts-sub-resolve : (t : ℕ) → resolve-parts-lts.Need-sub-resolve (resolve-parts-claims t) (resolve-parts-at t) resolve-parts.Post resolve-parts-Inv-loop resolve-parts-μ-loop
-resolve-parts-sub-resolve t c = whole-shallow (c .before .before .before .before .before .before .before .before .before .before .before .before .args .s .now) (table (c .before .before .before .before .before .before .before .before .before .before .before .before .args .work .now)) (c .before .before .before .before .before .before .before .before .before .before .before .before .args .named) (c .before .before .before .before .before .before .before .before .before .before .before .before .args .node) (c .before .before .before .before .before .before .before .before .before .before .before .before .args .left) (c .before .before .before .before .before .before .before .before .before .before .before .before .pre .1 .1) (c .before .before .before .before .before .before .before .before .before .before .before .before .pre .1 .2) .0
+resolve-parts-sub-resolve : (t : ℕ)
+    → resolve-parts-lts.Need-sub-resolve (resolve-parts-claims t) (resolve-parts-at t) resolve-parts.Post
+    resolve-parts-Inv-loop resolve-parts-μ-loop
+resolve-parts-sub-resolve t c =
+    let at-start =
+    c .before .before .before .before .before .before .before .before .before .before .before .before in
+    let a = at-start .args in
+    whole-shallow (a .s .now) (table (a .work .now)) (a .named) (a .node) (a .left) (at-start .pre .1 .1)
+    (at-start .pre .1 .2) .0
 
-resolve-parts-resolve-requires : (t : ℕ) → resolve-parts-lts.Need-resolve-requires (resolve-parts-claims t) (resolve-parts-at t) resolve-parts.Post resolve-parts-Inv-loop resolve-parts-μ-loop
+resolve-parts-resolve-requires : (t : ℕ)
+    → resolve-parts-lts.Need-resolve-requires (resolve-parts-claims t) (resolve-parts-at t) resolve-parts.Post
+    resolve-parts-Inv-loop resolve-parts-μ-loop
 resolve-parts-resolve-requires t c κs =
-    let one = whole-shallow (c .before .before .before .before .before .before .before .before .before .before .before .before .args .s .now) (table (c .before .before .before .before .before .before .before .before .before .before .before .before .args .work .now)) (c .before .before .before .before .before .before .before .before .before .before .before .before .args .named) (c .before .before .before .before .before .before .before .before .before .before .before .before .args .node) (c .before .before .before .before .before .before .before .before .before .before .before .before .args .left) (c .before .before .before .before .before .before .before .before .before .before .before .before .pre .1 .1) (c .before .before .before .before .before .before .before .before .before .before .before .before .pre .1 .2) .0 in
-    (parts-falls (c .before .before .before .before .before .before .before .before .before .before .before .before .args .left) (c .before .before .before .before .before .before .before .before .before .before .before .before .pre .0) one, (ready-after (c .before .before .before .before .before .before .before .before .before .before .before .before .pre .1 .0) (c .before .before .before .before .before .before .before .loop .inv .left), rw (c .before .before .before .before .before .before .before .loop .inv .left .rows, c .before .value-node .ensures) (value-there (c .before .before .before .before .before .before .before .before .before .before .before .before .args .s .now) (table (c .before .before .before .before .before .before .before .before .before .before .before .before .args .work .now)) (c .before .before .before .before .before .before .before .before .before .before .before .before .args .named) (this-child (c .before .before .before .before .before .before .before .loop .inv) (child-given (c .before .before .before .before .before .before .before .loop .inv .walk) (rw (c .before .before .before .before .before .before .before .loop .inv .left .rows) at (c .before .before .before .before .before .next .ensures)) (c .before .before .before .x .given .0 .0) (c .before .before .before .x .given .1))) .0), rw (c .before .before .before .before .before .before .before .loop .inv .left .rows, c .before .value-node .ensures) (this-shallow (c .before .before .before .before .before .before .before .loop .inv) (child-given (c .before .before .before .before .before .before .before .loop .inv .walk) (rw (c .before .before .before .before .before .before .before .loop .inv .left .rows) at (c .before .before .before .before .before .next .ensures)) (c .before .before .before .x .given .0 .0) (c .before .before .before .x .given .1)))))
+    let at-x = c .before .before .before in
+    let at-next = at-x .before .before in
+    let inv = at-next .before .before .loop .inv in
+    let rows = inv .left .rows in
+    let at-start = at-next .before .before .before .before .before .before .before in
+    let a = at-start .args in
+    let pre = at-start .pre in
+    let one = whole-shallow (a .s .now) (table (a .work .now)) (a .named) (a .node) (a .left) (pre .1 .1)
+    (pre .1 .2) .0 in (
+      parts-falls (a .left) (pre .0) one,
+      (
+        ready-after (pre .1 .0) (inv .left),
+        rw (rows, c .before .value-node .ensures)
+            (value-there (a .s .now) (table (a .work .now)) (a .named)
+            (this-child inv
+            (child-given (inv .walk) (rw rows at (at-next .next .ensures)) (at-x .x .given .0 .0)
+            (at-x .x .given .1))) .0),
+        rw (rows, c .before .value-node .ensures)
+            (this-shallow inv
+            (child-given (inv .walk) (rw rows at (at-next .next .ensures)) (at-x .x .given .0 .0)
+            (at-x .x .given .1))),
+      ),
+    )
 
-resolve-parts-seen-requires : (t : ℕ) → resolve-parts-lts.Need-seen-requires (resolve-parts-claims t) (resolve-parts-at t) resolve-parts.Post resolve-parts-Inv-loop resolve-parts-μ-loop
+resolve-parts-seen-requires : (t : ℕ)
+    → resolve-parts-lts.Need-seen-requires (resolve-parts-claims t) (resolve-parts-at t) resolve-parts.Post
+    resolve-parts-Inv-loop resolve-parts-μ-loop
 resolve-parts-seen-requires t c κs = search needs
 
-resolve-parts-enum-known-r : (t : ℕ) → resolve-parts-lts.Need-enum-known-r (resolve-parts-claims t) (resolve-parts-at t) resolve-parts.Post resolve-parts-Inv-loop resolve-parts-μ-loop
+resolve-parts-enum-known-r : (t : ℕ)
+    → resolve-parts-lts.Need-enum-known-r (resolve-parts-claims t) (resolve-parts-at t) resolve-parts.Post
+    resolve-parts-Inv-loop resolve-parts-μ-loop
 resolve-parts-enum-known-r t c = search needs
 
-resolve-parts-same-length-2 : (t : ℕ) → resolve-parts-lts.Need-same-length-2 (resolve-parts-claims t) (resolve-parts-at t) resolve-parts.Post resolve-parts-Inv-loop resolve-parts-μ-loop
-resolve-parts-same-length-2 t c = c .before .before .before .before .before .before .resolve .ensures .left .long ∙ c .before .before .before .before .before .before .before .before .before .before .before .before .before .before .loop .inv .left .long
+resolve-parts-same-length-2 : (t : ℕ)
+    → resolve-parts-lts.Need-same-length-2 (resolve-parts-claims t) (resolve-parts-at t) resolve-parts.Post
+    resolve-parts-Inv-loop resolve-parts-μ-loop
+resolve-parts-same-length-2 t c =
+    c .before .before .before .before .before .before .resolve .ensures .left .long ∙ c .before .before
+    .before .before .before .before .before .before .before .before .before .before .before .before .loop .inv
+    .left .long
 
-resolve-parts-returns-2 : (t : ℕ) → resolve-parts-lts.Need-returns-2 (resolve-parts-claims t) (resolve-parts-at t) resolve-parts.Post resolve-parts-Inv-loop resolve-parts-μ-loop
-resolve-parts-returns-2 t c = gather-refused (c .before .before .before .before .before .before .before .before .before .before .before .before .before .before .loop .inv) (child-given (c .before .before .before .before .before .before .before .before .before .before .before .before .before .before .loop .inv .walk) (rw (c .before .before .before .before .before .before .before .before .before .before .before .before .before .before .loop .inv .left .rows) at (c .before .before .before .before .before .before .before .before .before .before .before .before .next .ensures)) (c .before .before .before .before .before .before .before .before .before .before .x .given .0 .0) (c .before .before .before .before .before .before .before .before .before .before .x .given .1)) (rw (c .before .before .before .before .before .before .before .before .before .before .before .before .before .before .loop .inv .left .rows, c .before .before .before .before .before .before .before .before .value-node .ensures) at (c .before .before .before .before .before .before .resolve .ensures)) _ (sym (c .before .before .before .seen .ensures) ∙ c .before .r .given .1)
+resolve-parts-returns-2 : (t : ℕ)
+    → resolve-parts-lts.Need-returns-2 (resolve-parts-claims t) (resolve-parts-at t) resolve-parts.Post
+    resolve-parts-Inv-loop resolve-parts-μ-loop
+resolve-parts-returns-2 t c =
+    let at-resolve = c .before .before .before .before .before .before in
+    let at-x = at-resolve .before .before .before .before in
+    let inv = at-x .before .before .before .before .loop .inv in
+    gather-refused inv
+    (child-given (inv .walk) (rw (inv .left .rows) at (at-x .before .before .next .ensures))
+    (at-x .x .given .0 .0) (at-x .x .given .1))
+    (rw (inv .left .rows, at-resolve .before .before .value-node .ensures) at (at-resolve .resolve .ensures))
+    _ (sym (c .before .before .before .seen .ensures) ∙ c .before .r .given .1)
 
-resolve-parts-enum-known-present : (t : ℕ) → resolve-parts-lts.Need-enum-known-present (resolve-parts-claims t) (resolve-parts-at t) resolve-parts.Post resolve-parts-Inv-loop resolve-parts-μ-loop
+resolve-parts-enum-known-present : (t : ℕ)
+    → resolve-parts-lts.Need-enum-known-present (resolve-parts-claims t) (resolve-parts-at t)
+    resolve-parts.Post resolve-parts-Inv-loop resolve-parts-μ-loop
 resolve-parts-enum-known-present t c = search needs
 
-resolve-parts-both-requires : (t : ℕ) → resolve-parts-lts.Need-both-requires (resolve-parts-claims t) (resolve-parts-at t) resolve-parts.Post resolve-parts-Inv-loop resolve-parts-μ-loop
+resolve-parts-both-requires : (t : ℕ)
+    → resolve-parts-lts.Need-both-requires (resolve-parts-claims t) (resolve-parts-at t) resolve-parts.Post
+    resolve-parts-Inv-loop resolve-parts-μ-loop
 resolve-parts-both-requires t c κs = search needs
 
-resolve-parts-loop-less : (t : ℕ) → resolve-parts-lts.Need-loop-less (resolve-parts-claims t) (resolve-parts-at t) resolve-parts.Post resolve-parts-Inv-loop resolve-parts-μ-loop
-resolve-parts-loop-less t c = (child-given (c .before .before .before .before .before .before .before .before .before .before .before .before .before .before .before .before .loop .inv .walk) (rw (c .before .before .before .before .before .before .before .before .before .before .before .before .before .before .before .before .loop .inv .left .rows) at (c .before .before .before .before .before .before .before .before .before .before .before .before .before .before .next .ensures)) (c .before .before .before .before .before .before .before .before .before .before .before .before .x .given .0 .0) (c .before .before .before .before .before .before .before .before .before .before .before .before .x .given .1)) .falls
+resolve-parts-loop-less : (t : ℕ)
+    → resolve-parts-lts.Need-loop-less (resolve-parts-claims t) (resolve-parts-at t) resolve-parts.Post
+    resolve-parts-Inv-loop resolve-parts-μ-loop
+resolve-parts-loop-less t c =
+    let at-x =
+    c .before .before .before .before .before .before .before .before .before .before .before .before in
+    let inv = at-x .before .before .before .before .loop .inv in
+    (child-given (inv .walk) (rw (inv .left .rows) at (at-x .before .before .next .ensures))
+    (at-x .x .given .0 .0) (at-x .x .given .1)) .falls
 
-resolve-parts-loop-again : (t : ℕ) → resolve-parts-lts.Need-loop-again (resolve-parts-claims t) (resolve-parts-at t) resolve-parts.Post resolve-parts-Inv-loop resolve-parts-μ-loop
-resolve-parts-loop-again t c = gather-on (c .before .before .before .before .before .before .before .before .before .before .before .before .before .before .before .before .loop .inv) (child-given (c .before .before .before .before .before .before .before .before .before .before .before .before .before .before .before .before .loop .inv .walk) (rw (c .before .before .before .before .before .before .before .before .before .before .before .before .before .before .before .before .loop .inv .left .rows) at (c .before .before .before .before .before .before .before .before .before .before .before .before .before .before .next .ensures)) (c .before .before .before .before .before .before .before .before .before .before .before .before .x .given .0 .0) (c .before .before .before .before .before .before .before .before .before .before .before .before .x .given .1)) (rw (c .before .before .before .before .before .before .before .before .before .before .before .before .before .before .before .before .loop .inv .left .rows, c .before .before .before .before .before .before .before .before .before .before .value-node .ensures) at (c .before .before .before .before .before .before .before .before .resolve .ensures)) _ (sym (c .before .before .before .before .before .seen .ensures) ∙ c .before .before .before .present .given .1) (c .before .both .ensures)
+resolve-parts-loop-again : (t : ℕ)
+    → resolve-parts-lts.Need-loop-again (resolve-parts-claims t) (resolve-parts-at t) resolve-parts.Post
+    resolve-parts-Inv-loop resolve-parts-μ-loop
+resolve-parts-loop-again t c =
+    let at-resolve = c .before .before .before .before .before .before .before .before in
+    let at-x = at-resolve .before .before .before .before in
+    let inv = at-x .before .before .before .before .loop .inv in
+    gather-on inv
+    (child-given (inv .walk) (rw (inv .left .rows) at (at-x .before .before .next .ensures))
+    (at-x .x .given .0 .0) (at-x .x .given .1))
+    (rw (inv .left .rows, at-resolve .before .before .value-node .ensures) at (at-resolve .resolve .ensures))
+    _
+    (sym (c .before .before .before .before .before .seen .ensures) ∙
+    c .before .before .before .present .given .1) (c .before .both .ensures)
 
 pub +resolve+resolve-parts-spec : {M : Type 1} → statement M
-+resolve+resolve-parts-spec = close μ-resolve μ-resolve-parts (λ t. resolve-lts.spec (resolve-claims t) (resolve-at t) resolve.Post
++resolve+resolve-parts-spec = close μ-resolve μ-resolve-parts (λ t. resolve-lts.spec (resolve-claims t)
+    (resolve-at t) resolve.Post
     (resolve-kind-at-requires t)
     (resolve-resolve-text-requires t)
     (resolve-same-length t)

@@ -17,7 +17,12 @@ same-length : tie.Need-same-length
 same-length c = c .before .before .miss .kept .0
 
 returns : tie.Need-returns
-returns c = inl (c .before .before .before .before .enum-told .given .1, c .before .before .miss .ensures .0, c .before .before .miss .ensures .1)
+returns c =
+    inl (
+      c .before .before .before .before .enum-told .given .1,
+      c .before .before .miss .ensures .0,
+      c .before .before .miss .ensures .1,
+    )
 
 returns-2 : tie.Need-returns-2
 returns-2 c = inr (is-not-null (c .before .before .args .found .kind) (c .match .keys2), refl, refl)

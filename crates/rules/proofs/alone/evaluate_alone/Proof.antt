@@ -13,15 +13,18 @@ clear-marks-requires c κs = search needs
 evaluate-condition-requires : tie.Need-evaluate-condition-requires
 evaluate-condition-requires c κs =
     let u = c .before .before .before .clear-marks .ensures .only in
-    (omega (arith, u .long, c .before .before .before .before .before .before .before .pre .0), still-accepted u (c .before .before .before .before .before .before .before .pre .1), still-given u (c .before .before .before .before .before .before .before .pre .2))
+    let pre = c .before .before .before .before .before .before .before .pre in
+    (omega (arith, u .long, pre .0), still-accepted u (pre .1), still-given u (pre .2))
 
 same-length : tie.Need-same-length
 same-length c = search needs
 
 returns : tie.Need-returns
-returns c = λ sheet x a g.
-    let u = c .before .before .before .before .before .before .clear-marks .ensures in
-    alone (c .before .before .before .before .before .before .before .before .before .before .pre .0) u (c .before .before .evaluate-condition .ensures sheet x (accepted-rows (u .only .rows) a) (gives-rows (u .only .rows) g))
+returns c =
+    λ sheet x a g. let u = c .before .before .before .before .before .before .clear-marks .ensures in alone
+    (c .before .before .before .before .before .before .before .before .before .before .pre .0) u
+    (c .before .before .evaluate-condition .ensures sheet x (accepted-rows (u .only .rows) a)
+    (gives-rows (u .only .rows) g))
 
 pub evaluate-alone-spec : {M : Type 1} → statement M
 evaluate-alone-spec =

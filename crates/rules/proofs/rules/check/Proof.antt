@@ -22,7 +22,9 @@ add-k : tie.Need-add-k Inv-loop μ-loop
 add-k c = omega (arith, room (c .before .before .before .before .pre .2 .known .node) .1)
 
 loop-holds : tie.Need-loop-holds Inv-loop μ-loop
-loop-holds c = checking (c .before .before .before .before .args .rules) (c .before .before .before .before .pre) (c .after-at .ensures)
+loop-holds c =
+    checking (c .before .before .before .before .args .rules) (c .before .before .before .before .pre)
+    (c .after-at .ensures)
 
 judge-requires : tie.Need-judge-requires Inv-loop μ-loop
 judge-requires c κs = rule-next (c .before .before .loop .inv) (c .before .loop-test .taken)
@@ -34,22 +36,43 @@ same-length : tie.Need-same-length Inv-loop μ-loop
 same-length c = search needs
 
 returns : tie.Need-returns Inv-loop μ-loop
-returns c = rule-settles (c .before .before .before .before .before .before .before .before .loop .inv) (c .before .before .before .before .before .before .before .loop-test .taken) (c .before .before .before .before .before .judge .ensures) (c .before .a .given .0 .0) (c .before .a .given .1)
+returns c =
+    let at-judge = c .before .before .before .before .before in
+    rule-settles (at-judge .before .before .before .loop .inv) (at-judge .before .before .loop-test .taken)
+    (at-judge .judge .ensures) (c .before .a .given .0 .0) (c .before .a .given .1)
 
 enum-told : tie.Need-enum-told Inv-loop μ-loop
 enum-told c = search needs
 
 add-i : tie.Need-add-i Inv-loop μ-loop
-add-i c = omega (arith, c .before .before .before .before .before .before .before .loop .inv .low, element-room (c .before .before .before .before .before .before .before .loop .inv .walking) (c .before .before .before .before .before .before .loop-test .taken) .1)
+add-i c =
+    let inv = c .before .before .before .before .before .before .before .loop .inv in
+    omega (
+      arith,
+      inv .low,
+      element-room (inv .walking) (c .before .before .before .before .before .before .loop-test .taken) .1,
+    )
 
 after-at-requires-2 : tie.Need-after-at-requires-2 Inv-loop μ-loop
-after-at-requires-2 c κs = rule-room (c .before .before .before .before .before .before .before .before .loop .inv) (c .before .before .before .before .before .before .before .loop-test .taken) (c .before .before .before .before .before .judge .ensures)
+after-at-requires-2 c κs =
+    let at-judge = c .before .before .before .before .before in
+    rule-room (at-judge .before .before .before .loop .inv) (at-judge .before .before .loop-test .taken)
+    (at-judge .judge .ensures)
 
 loop-less : tie.Need-loop-less Inv-loop μ-loop
-loop-less c = let f = falls (c .before .before .before .before .before .before .before .before .before .loop .inv .walking) (c .before .before .before .before .before .before .before .before .loop-test .taken) _ (rule-after (c .before .before .before .before .before .before .before .before .before .loop .inv) (c .before .before .before .before .before .before .before .before .loop-test .taken) (c .before .before .before .before .before .before .judge .ensures) (c .after-at2 .ensures)) in omega (arith, f .0, f .1)
+loop-less c =
+    let at-judge = c .before .before .before .before .before .before in
+    let inv = at-judge .before .before .before .loop .inv in
+    let f = falls (inv .walking) (at-judge .before .before .loop-test .taken) _
+    (rule-after inv (at-judge .before .before .loop-test .taken) (at-judge .judge .ensures)
+    (c .after-at2 .ensures)) in
+    omega (arith, f .0, f .1)
 
 loop-again : tie.Need-loop-again Inv-loop μ-loop
-loop-again c = rule-behind (c .before .before .before .before .before .before .before .before .before .loop .inv) (c .before .before .before .before .before .before .before .before .loop-test .taken) (c .before .before .before .before .before .before .judge .ensures) (c .before .before .enum-told .given .1) (c .after-at2 .ensures)
+loop-again c =
+    let at-judge = c .before .before .before .before .before .before in
+    rule-behind (at-judge .before .before .before .loop .inv) (at-judge .before .before .loop-test .taken)
+    (at-judge .judge .ensures) (c .before .before .enum-told .given .1) (c .after-at2 .ensures)
 
 same-length-2 : tie.Need-same-length-2 Inv-loop μ-loop
 same-length-2 c = search needs

@@ -14,13 +14,18 @@ enum-known-found : tie.Need-enum-known-found
 enum-known-found c = search needs
 
 start-at-requires : tie.Need-start-at-requires
-start-at-requires c κs = there-room aText (c .before .before .before .before .pre .given) (c .before .before .before .before .args .work .now) (c .before .found .given .0 .0) (c .before .found .given .1) (c .before .before .before .before .pre .known)
+start-at-requires c κs =
+    let at-start = c .before .before .before .before in
+    there-room aText (at-start .pre .given) (at-start .args .work .now) (c .before .found .given .0 .0)
+    (c .before .found .given .1) (at-start .pre .known)
 
 returns : tie.Need-returns
 returns c = no-text (c .before .before .before .args .work .now) (c .enum-told .given .1)
 
 returns-2 : tie.Need-returns-2
-returns-2 c = its-text (c .before .before .before .before .before .args .work .now) (c .before .before .found .given .0 .0) (c .before .before .found .given .1) (c .start-at .ensures)
+returns-2 c =
+    its-text (c .before .before .before .before .before .args .work .now)
+    (c .before .before .found .given .0 .0) (c .before .before .found .given .1) (c .start-at .ensures)
 
 pub text-of-spec : {M : Type 1} → statement M
 text-of-spec = tie.close (tie.spec enum-told enum-known-found start-at-requires returns returns-2)

@@ -14,13 +14,20 @@ enum-known-found : tie.Need-enum-known-found
 enum-known-found c = search needs
 
 is-effect-requires : tie.Need-is-effect-requires
-is-effect-requires c κs = found-node (c .before .found .given .0 .0) (c .before .found .given .1) (c .before .before .before .before .before .pre)
+is-effect-requires c κs =
+    found-node (c .before .found .given .0 .0) (c .before .found .given .1)
+    (c .before .before .before .before .before .pre)
 
 returns : tie.Need-returns
-returns c = allows-nothing (c .before .before .before .before .args .s .now) (c .before .before .before .before .args .work .now) (λ v. isOk (anEffect v)) _ (c .enum-told .given .1)
+returns c =
+    let a = c .before .before .before .before .args in
+    allows-nothing (a .s .now) (a .work .now) (λ v. isOk (anEffect v)) _ (c .enum-told .given .1)
 
 returns-2 : tie.Need-returns-2
-returns-2 c = allows-found (c .before .before .before .before .before .before .args .s .now) (c .before .before .before .before .before .before .args .work .now) (λ v. isOk (anEffect v)) _ (c .before .before .found .given .0 .0) _ (c .before .before .found .given .1) (c .is-effect .ensures)
+returns-2 c =
+    let a = c .before .before .before .before .before .before .args in
+    allows-found (a .s .now) (a .work .now) (λ v. isOk (anEffect v)) _ (c .before .before .found .given .0 .0)
+    _ (c .before .before .found .given .1) (c .is-effect .ensures)
 
 pub allows-effect-spec : {M : Type 1} → statement M
 allows-effect-spec =

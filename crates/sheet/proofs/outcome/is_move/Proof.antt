@@ -20,13 +20,18 @@ after-at-requires : tie.Need-after-at-requires
 after-at-requires c κs = room (c .before .before .before .before .pre)
 
 move-members-requires : tie.Need-move-members-requires
-move-members-requires c κs = object-members (c .before .before .before .before .before .pre) _ (c .before .before .kind-at .ensures) (c .before .if1 .left) _ (c .after-at .ensures)
+move-members-requires c κs =
+    object-members (c .before .before .before .before .before .pre) _ (c .before .before .kind-at .ensures)
+    (c .before .if1 .left) _ (c .after-at .ensures)
 
 slice-aggregate-only : tie.Need-slice-aggregate-only
 slice-aggregate-only c = search needs
 
 only-requires : tie.Need-only-requires
-only-requires c κs = object-members (c .before .before .before .before .before .before .before .pre) _ (c .before .before .before .before .kind-at .ensures) (c .before .before .before .if1 .left) _ (c .before .before .after-at .ensures)
+only-requires c κs =
+    let at-if1 = c .before .before .before in
+    object-members (at-if1 .before .before .before .before .pre) _ (at-if1 .before .kind-at .ensures)
+    (at-if1 .if1 .left) _ (c .before .before .after-at .ensures)
 
 needs-requires : tie.Need-needs-requires
 needs-requires c κs = search needs
@@ -36,7 +41,12 @@ needs-requires-2 c κs = search needs
 
 returns-2 : tie.Need-returns-2
 unfolding wordsFrom
-returns-2 c = is-move (c .before .before .before .before .before .before .before .before .before .before .pre) _ (c .before .before .before .before .before .before .before .kind-at .ensures) (c .before .before .before .before .before .before .if1 .left) _ (c .before .before .before .before .before .after-at .ensures) _ (c .before .before .before .before .move-members .ensures) _ _ _ (c .before .before .only .ensures) (c .before .needs .ensures) (c .needs2 .ensures)
+returns-2 c =
+    let at-if1 = c .before .before .before .before .before .before in
+    is-move (at-if1 .before .before .before .before .pre) _ (at-if1 .before .kind-at .ensures)
+    (at-if1 .if1 .left) _ (c .before .before .before .before .before .after-at .ensures) _
+    (c .before .before .before .before .move-members .ensures) _ _ _ (c .before .before .only .ensures)
+    (c .before .needs .ensures) (c .needs2 .ensures)
 
 pub is-move-spec : {M : Type 1} → statement M
 is-move-spec =

@@ -20,13 +20,18 @@ after-at-requires : tie.Need-after-at-requires
 after-at-requires c κs = room (c .before .before .before .before .pre)
 
 members-requires : tie.Need-members-requires
-members-requires c κs = object-members (c .before .before .before .before .before .pre) _ (c .before .before .kind-at .ensures) (c .before .if1 .left) _ (c .after-at .ensures)
+members-requires c κs =
+    object-members (c .before .before .before .before .before .pre) _ (c .before .before .kind-at .ensures)
+    (c .before .if1 .left) _ (c .after-at .ensures)
 
 slice-aggregate-only : tie.Need-slice-aggregate-only
 slice-aggregate-only c = search needs
 
 only-requires : tie.Need-only-requires
-only-requires c κs = object-members (c .before .before .before .before .before .before .before .pre) _ (c .before .before .before .before .kind-at .ensures) (c .before .before .before .if1 .left) _ (c .before .before .after-at .ensures)
+only-requires c κs =
+    let at-if1 = c .before .before .before in
+    object-members (at-if1 .before .before .before .before .pre) _ (at-if1 .before .kind-at .ensures)
+    (at-if1 .if1 .left) _ (c .before .before .after-at .ensures)
 
 needs-requires : tie.Need-needs-requires
 needs-requires c κs = search needs
@@ -45,7 +50,14 @@ allows-effect-requires c κs = search needs
 
 returns-2 : tie.Need-returns-2
 unfolding wordsFrom
-returns-2 c = is-outcome (c .before .before .before .before .before .before .before .before .before .before .before .before .before .pre) _ (c .before .before .before .before .before .before .before .before .before .before .kind-at .ensures) (c .before .before .before .before .before .before .before .before .before .if1 .left) _ (c .before .before .before .before .before .before .before .before .after-at .ensures) _ (c .before .before .before .before .before .before .before .members .ensures) _ _ _ _ _ _ (c .before .before .before .before .before .only .ensures) (c .before .before .before .before .needs .ensures) (c .before .before .before .allows .ensures) (c .before .before .allows2 .ensures) (c .before .allows3 .ensures) (c .allows-effect .ensures)
+returns-2 c =
+    let at-needs = c .before .before .before .before in
+    let at-members = at-needs .before .before .before in
+    let at-if1 = at-members .before .before in
+    is-outcome (at-if1 .before .before .before .before .pre) _ (at-if1 .before .kind-at .ensures)
+    (at-if1 .if1 .left) _ (at-members .before .after-at .ensures) _ (at-members .members .ensures) _ _ _ _ _ _
+    (at-needs .before .only .ensures) (at-needs .needs .ensures) (c .before .before .before .allows .ensures)
+    (c .before .before .allows2 .ensures) (c .before .allows3 .ensures) (c .allows-effect .ensures)
 
 pub is-outcome-spec : {M : Type 1} → statement M
 is-outcome-spec =

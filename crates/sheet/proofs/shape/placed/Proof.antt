@@ -36,7 +36,14 @@ node-of-requires-10 : tie.Need-node-of-requires-10
 node-of-requires-10 c κs = search needs
 
 returns : tie.Need-returns
-returns c = same-members (c .before .before .before .before .before .before .before .before .before .before .args .m) _ _ _ _ _ _ _ _ _ _ (c .before .before .before .before .before .before .before .before .before .node-of .ensures) (c .before .before .before .before .before .before .before .before .node-of2 .ensures) (c .before .before .before .before .before .before .before .node-of3 .ensures) (c .before .before .before .before .before .before .node-of4 .ensures) (c .before .before .before .before .before .node-of5 .ensures) (c .before .before .before .before .node-of6 .ensures) (c .before .before .before .node-of7 .ensures) (c .before .before .node-of8 .ensures) (c .before .node-of9 .ensures) (c .node-of10 .ensures)
+returns c =
+    let at-node-of4 = c .before .before .before .before .before .before in
+    same-members (at-node-of4 .before .before .before .before .args .m) _ _ _ _ _ _ _ _ _ _
+    (at-node-of4 .before .before .before .node-of .ensures) (at-node-of4 .before .before .node-of2 .ensures)
+    (at-node-of4 .before .node-of3 .ensures) (at-node-of4 .node-of4 .ensures)
+    (c .before .before .before .before .before .node-of5 .ensures)
+    (c .before .before .before .before .node-of6 .ensures) (c .before .before .before .node-of7 .ensures)
+    (c .before .before .node-of8 .ensures) (c .before .node-of9 .ensures) (c .node-of10 .ensures)
 
 pub placed-spec : {M : Type 1} → statement M
 placed-spec =

@@ -21,38 +21,68 @@ needs-requires-3 : tie.Need-needs-requires-3
 needs-requires-3 c κs = c .before .before .before .before .before .before .before .before .pre .1 .args .bounds
 
 needs-requires-4 : tie.Need-needs-requires-4
-needs-requires-4 c κs = c .before .before .before .before .before .before .before .before .before .pre .1 .fields .bounds
+needs-requires-4 c κs =
+    c .before .before .before .before .before .before .before .before .before .pre .1 .fields .bounds
 
 needs-requires-5 : tie.Need-needs-requires-5
-needs-requires-5 c κs = c .before .before .before .before .before .before .before .before .before .before .pre .1 .oldFields .bounds
+needs-requires-5 c κs =
+    c .before .before .before .before .before .before .before .before .before .before .pre .1 .oldFields
+    .bounds
 
 allows-requires-2 : tie.Need-allows-requires-2
-allows-requires-2 c κs = c .before .before .before .before .before .before .before .before .before .before .before .pre .1 .fromState .bounds
+allows-requires-2 c κs =
+    c .before .before .before .before .before .before .before .before .before .before .before .pre .1
+    .fromState .bounds
 
 needs-requires-6 : tie.Need-needs-requires-6
-needs-requires-6 c κs = c .before .before .before .before .before .before .before .before .before .before .before .before .pre .1 .toState .bounds
+needs-requires-6 c κs =
+    c .before .before .before .before .before .before .before .before .before .before .before .before .pre .1
+    .toState .bounds
 
 allows-requires-3 : tie.Need-allows-requires-3
-allows-requires-3 c κs = c .before .before .before .before .before .before .before .before .before .before .before .before .before .pre .1 .state .bounds
+allows-requires-3 c κs =
+    c .before .before .before .before .before .before .before .before .before .before .before .before .before
+    .pre .1 .state .bounds
 
 needs-requires-7 : tie.Need-needs-requires-7
-needs-requires-7 c κs = c .before .before .before .before .before .before .before .before .before .before .before .before .before .before .pre .1 .states .bounds
+needs-requires-7 c κs =
+    c .before .before .before .before .before .before .before .before .before .before .before .before .before
+    .before .pre .1 .states .bounds
 
 allows-requires-4 : tie.Need-allows-requires-4
-allows-requires-4 c κs = c .before .before .before .before .before .before .before .before .before .before .before .before .before .before .before .pre .1 .condition .bounds
+allows-requires-4 c κs =
+    c .before .before .before .before .before .before .before .before .before .before .before .before .before
+    .before .before .pre .1 .condition .bounds
 
 needs-array-requires : tie.Need-needs-array-requires
-needs-array-requires c κs = c .before .before .before .before .before .before .before .before .before .before .before .before .before .before .before .before .pre .1 .preconditions .bounds
+needs-array-requires c κs =
+    c .before .before .before .before .before .before .before .before .before .before .before .before .before
+    .before .before .before .pre .1 .preconditions .bounds
 
 needs-array-requires-2 : tie.Need-needs-array-requires-2
-needs-array-requires-2 c κs = c .before .before .before .before .before .before .before .before .before .before .before .before .before .before .before .before .before .pre .1 .invariants .bounds
+needs-array-requires-2 c κs =
+    c .before .before .before .before .before .before .before .before .before .before .before .before .before
+    .before .before .before .before .pre .1 .invariants .bounds
 
 needs-array-requires-3 : tie.Need-needs-array-requires-3
-needs-array-requires-3 c κs = c .before .before .before .before .before .before .before .before .before .before .before .before .before .before .before .before .before .before .pre .1 .outcomes .bounds
+needs-array-requires-3 c κs =
+    c .before .before .before .before .before .before .before .before .before .before .before .before .before
+    .before .before .before .before .before .pre .1 .outcomes .bounds
 
 returns : tie.Need-returns
 unfolding wordsFrom
-returns c = is-sheet _ _ (c .before .before .before .before .before .before .before .before .before .before .before .before .before .before .before .before .before .before .before .pre .1) _ _ _ _ _ _ _ _ _ _ _ _ _ _ _ (c .before .before .before .before .before .before .before .before .before .before .before .before .before .before .only .ensures) (c .before .before .before .before .before .before .before .before .before .before .before .before .before .allows .ensures) (c .before .before .before .before .before .before .before .before .before .before .before .before .needs .ensures) (c .before .before .before .before .before .before .before .before .before .before .before .needs2 .ensures) (c .before .before .before .before .before .before .before .before .before .before .needs3 .ensures) (c .before .before .before .before .before .before .before .before .before .needs4 .ensures) (c .before .before .before .before .before .before .before .before .needs5 .ensures) (c .before .before .before .before .before .before .before .allows2 .ensures) (c .before .before .before .before .before .before .needs6 .ensures) (c .before .before .before .before .before .allows3 .ensures) (c .before .before .before .before .needs7 .ensures) (c .before .before .before .allows4 .ensures) (c .before .before .needs-array .ensures) (c .before .needs-array2 .ensures) (c .needs-array3 .ensures)
+returns c =
+    let at-needs7 = c .before .before .before .before in
+    let at-needs5 = at-needs7 .before .before .before .before in
+    let at-needs = at-needs5 .before .before .before .before in
+    is-sheet _ _ (at-needs .before .before .before .before .before .before .before .pre .1) _ _ _ _ _ _ _ _ _
+    _ _ _ _ _ _ (at-needs .before .before .only .ensures) (at-needs .before .allows .ensures)
+    (at-needs .needs .ensures) (at-needs5 .before .before .before .needs2 .ensures)
+    (at-needs5 .before .before .needs3 .ensures) (at-needs5 .before .needs4 .ensures)
+    (at-needs5 .needs5 .ensures) (at-needs7 .before .before .before .allows2 .ensures)
+    (at-needs7 .before .before .needs6 .ensures) (at-needs7 .before .allows3 .ensures)
+    (at-needs7 .needs7 .ensures) (c .before .before .before .allows4 .ensures)
+    (c .before .before .needs-array .ensures) (c .before .needs-array2 .ensures) (c .needs-array3 .ensures)
 
 pub are-sheet-spec : {M : Type 1} → statement M
 are-sheet-spec =

@@ -38,58 +38,98 @@ slice-aggregate-named-6 : tie.Need-slice-aggregate-named-6
 slice-aggregate-named-6 c = search needs
 
 named-requires-6 : tie.Need-named-requires-6
-named-requires-6 c κs = c .before .before .before .before .before .before .before .before .before .before .before .before .before .pre
+named-requires-6 c κs =
+    c .before .before .before .before .before .before .before .before .before .before .before .before .before
+    .pre
 
 slice-aggregate-named-7 : tie.Need-slice-aggregate-named-7
 slice-aggregate-named-7 c = search needs
 
 named-requires-7 : tie.Need-named-requires-7
-named-requires-7 c κs = c .before .before .before .before .before .before .before .before .before .before .before .before .before .before .before .pre
+named-requires-7 c κs =
+    c .before .before .before .before .before .before .before .before .before .before .before .before .before
+    .before .before .pre
 
 slice-aggregate-named-8 : tie.Need-slice-aggregate-named-8
 slice-aggregate-named-8 c = search needs
 
 named-requires-8 : tie.Need-named-requires-8
-named-requires-8 c κs = c .before .before .before .before .before .before .before .before .before .before .before .before .before .before .before .before .before .pre
+named-requires-8 c κs =
+    c .before .before .before .before .before .before .before .before .before .before .before .before .before
+    .before .before .before .before .pre
 
 slice-aggregate-named-9 : tie.Need-slice-aggregate-named-9
 slice-aggregate-named-9 c = search needs
 
 named-requires-9 : tie.Need-named-requires-9
-named-requires-9 c κs = c .before .before .before .before .before .before .before .before .before .before .before .before .before .before .before .before .before .before .before .pre
+named-requires-9 c κs =
+    c .before .before .before .before .before .before .before .before .before .before .before .before .before
+    .before .before .before .before .before .before .pre
 
 slice-aggregate-named-10 : tie.Need-slice-aggregate-named-10
 slice-aggregate-named-10 c = search needs
 
 named-requires-10 : tie.Need-named-requires-10
-named-requires-10 c κs = c .before .before .before .before .before .before .before .before .before .before .before .before .before .before .before .before .before .before .before .before .before .pre
+named-requires-10 c κs =
+    c .before .before .before .before .before .before .before .before .before .before .before .before .before
+    .before .before .before .before .before .before .before .before .pre
 
 slice-aggregate-named-11 : tie.Need-slice-aggregate-named-11
 slice-aggregate-named-11 c = search needs
 
 named-requires-11 : tie.Need-named-requires-11
-named-requires-11 c κs = c .before .before .before .before .before .before .before .before .before .before .before .before .before .before .before .before .before .before .before .before .before .before .before .pre
+named-requires-11 c κs =
+    c .before .before .before .before .before .before .before .before .before .before .before .before .before
+    .before .before .before .before .before .before .before .before .before .before .pre
 
 slice-aggregate-named-12 : tie.Need-slice-aggregate-named-12
 slice-aggregate-named-12 c = search needs
 
 named-requires-12 : tie.Need-named-requires-12
-named-requires-12 c κs = c .before .before .before .before .before .before .before .before .before .before .before .before .before .before .before .before .before .before .before .before .before .before .before .before .before .pre
+named-requires-12 c κs =
+    c .before .before .before .before .before .before .before .before .before .before .before .before .before
+    .before .before .before .before .before .before .before .before .before .before .before .before .pre
 
 slice-aggregate-named-13 : tie.Need-slice-aggregate-named-13
 slice-aggregate-named-13 c = search needs
 
 named-requires-13 : tie.Need-named-requires-13
-named-requires-13 c κs = c .before .before .before .before .before .before .before .before .before .before .before .before .before .before .before .before .before .before .before .before .before .before .before .before .before .before .before .pre
+named-requires-13 c κs =
+    c .before .before .before .before .before .before .before .before .before .before .before .before .before
+    .before .before .before .before .before .before .before .before .before .before .before .before .before
+    .before .pre
 
 slice-aggregate-named-14 : tie.Need-slice-aggregate-named-14
 slice-aggregate-named-14 c = search needs
 
 named-requires-14 : tie.Need-named-requires-14
-named-requires-14 c κs = c .before .before .before .before .before .before .before .before .before .before .before .before .before .before .before .before .before .before .before .before .before .before .before .before .before .before .before .before .before .pre
+named-requires-14 c κs =
+    c .before .before .before .before .before .before .before .before .before .before .before .before .before
+    .before .before .before .before .before .before .before .before .before .before .before .before .before
+    .before .before .before .pre
 
 returns : tie.Need-returns
-returns c = record { id = c .before .before .before .before .before .before .before .before .before .before .before .before .before .before .before .before .before .before .before .before .before .before .before .before .before .before .named .ensures .told; entity = c .before .before .before .before .before .before .before .before .before .before .before .before .before .before .before .before .before .before .before .before .before .before .before .before .named2 .ensures .told; version = c .before .before .before .before .before .before .before .before .before .before .before .before .before .before .before .before .before .before .before .before .before .before .named3 .ensures .told; args = c .before .before .before .before .before .before .before .before .before .before .before .before .before .before .before .before .before .before .before .before .named4 .ensures .told; fields = c .before .before .before .before .before .before .before .before .before .before .before .before .before .before .before .before .before .before .named5 .ensures .told; oldFields = c .before .before .before .before .before .before .before .before .before .before .before .before .before .before .before .before .named6 .ensures .told; fromState = c .before .before .before .before .before .before .before .before .before .before .before .before .before .before .named7 .ensures .told; toState = c .before .before .before .before .before .before .before .before .before .before .before .before .named8 .ensures .told; state = c .before .before .before .before .before .before .before .before .before .before .named9 .ensures .told; states = c .before .before .before .before .before .before .before .before .named10 .ensures .told; condition = c .before .before .before .before .before .before .named11 .ensures .told; preconditions = c .before .before .before .before .named12 .ensures .told; invariants = c .before .before .named13 .ensures .told; outcomes = c .named14 .ensures .told }
+returns c =
+    let at-named12 = c .before .before .before .before in
+    let at-named10 = at-named12 .before .before .before .before in
+    let at-named7 = at-named10 .before .before .before .before .before .before in
+    let at-named4 = at-named7 .before .before .before .before .before .before in
+    record {
+      id = at-named4 .before .before .before .before .before .before .named .ensures .told;
+      entity = at-named4 .before .before .before .before .named2 .ensures .told;
+      version = at-named4 .before .before .named3 .ensures .told;
+      args = at-named4 .named4 .ensures .told;
+      fields = at-named7 .before .before .before .before .named5 .ensures .told;
+      oldFields = at-named7 .before .before .named6 .ensures .told;
+      fromState = at-named7 .named7 .ensures .told;
+      toState = at-named10 .before .before .before .before .named8 .ensures .told;
+      state = at-named10 .before .before .named9 .ensures .told;
+      states = at-named10 .named10 .ensures .told;
+      condition = at-named12 .before .before .named11 .ensures .told;
+      preconditions = at-named12 .named12 .ensures .told;
+      invariants = c .before .before .named13 .ensures .told;
+      outcomes = c .named14 .ensures .told;
+    }
 
 pub members-spec : {M : Type 1} → statement M
 members-spec =

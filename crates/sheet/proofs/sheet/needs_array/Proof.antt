@@ -16,25 +16,60 @@ enum-known-found : tie.Need-enum-known-found
 enum-known-found c = search needs
 
 kind-at-requires : tie.Need-kind-at-requires
-kind-at-requires c κs = room (found-node (c .before .found .given .0 .0) (c .before .found .given .1) (c .before .before .before .before .before .pre))
+kind-at-requires c κs =
+    room
+    (found-node (c .before .found .given .0 .0) (c .before .found .given .1)
+    (c .before .before .before .before .before .pre))
 
 returns : tie.Need-returns
-returns c = needs-found (c .before .before .before .before .before .before .before .args .s .now) (c .before .before .before .before .before .before .before .args .work .now) (arrayOk (c .before .before .before .before .before .before .before .args .element)) _ (c .before .before .before .found .given .0 .0) _ (c .before .before .before .found .given .1) (not-array (found-node (c .before .before .before .found .given .0 .0) (c .before .before .before .found .given .1) (c .before .before .before .before .before .before .before .pre)) _ (c .before .kind-at .ensures) (c .before .before .before .before .before .before .before .args .element) (c .if1 .taken))
+returns c =
+    let found = c .before .before .before .found in
+    let at-start = c .before .before .before .before .before .before .before in
+    let a = at-start .args in
+    needs-found (a .s .now) (a .work .now) (arrayOk (a .element)) _ (found .given .0 .0) _ (found .given .1)
+    (not-array (found-node (found .given .0 .0) (found .given .1) (at-start .pre)) _
+    (c .before .kind-at .ensures) (a .element) (c .if1 .taken))
 
 add-are-elements : tie.Need-add-are-elements
-add-are-elements c = omega (arith, room (found-node (c .before .before .before .found .given .0 .0) (c .before .before .before .found .given .1) (c .before .before .before .before .before .before .before .pre)) .1)
+add-are-elements c =
+    omega (
+      arith,
+      room
+          (found-node (c .before .before .before .found .given .0 .0)
+          (c .before .before .before .found .given .1)
+          (c .before .before .before .before .before .before .before .pre)) .1,
+    )
 
 after-at-requires : tie.Need-after-at-requires
-after-at-requires c κs = room (found-node (c .before .before .before .found .given .0 .0) (c .before .before .before .found .given .1) (c .before .before .before .before .before .before .before .pre))
+after-at-requires c κs =
+    room
+    (found-node (c .before .before .before .found .given .0 .0) (c .before .before .before .found .given .1)
+    (c .before .before .before .before .before .before .before .pre))
 
 are-elements-requires : tie.Need-are-elements-requires
-are-elements-requires c κs = array-nodes (found-node (c .before .before .before .before .found .given .0 .0) (c .before .before .before .before .found .given .1) (c .before .before .before .before .before .before .before .before .pre)) _ (c .before .before .kind-at .ensures) (c .before .if1 .left) _ (c .after-at .ensures)
+are-elements-requires c κs =
+    let at-found = c .before .before .before .before in
+    array-nodes
+    (found-node (at-found .found .given .0 .0) (at-found .found .given .1)
+    (at-found .before .before .before .before .pre)) _ (c .before .before .kind-at .ensures)
+    (c .before .if1 .left) _ (c .after-at .ensures)
 
 returns-2 : tie.Need-returns-2
-returns-2 c = needs-nothing (c .before .before .before .before .args .s .now) (c .before .before .before .before .args .work .now) (arrayOk (c .before .before .before .before .args .element)) _ (c .enum-told .given .1)
+returns-2 c =
+    let a = c .before .before .before .before .args in
+    needs-nothing (a .s .now) (a .work .now) (arrayOk (a .element)) _ (c .enum-told .given .1)
 
 returns-3 : tie.Need-returns-3
-returns-3 c = needs-found (c .before .before .before .before .before .before .before .before .before .args .s .now) (c .before .before .before .before .before .before .before .before .before .args .work .now) (arrayOk (c .before .before .before .before .before .before .before .before .before .args .element)) _ (c .before .before .before .before .before .found .given .0 .0) _ (c .before .before .before .before .before .found .given .1) (is-array (found-node (c .before .before .before .before .before .found .given .0 .0) (c .before .before .before .before .before .found .given .1) (c .before .before .before .before .before .before .before .before .before .pre)) _ (c .before .before .before .kind-at .ensures) (c .before .before .before .before .before .before .before .before .before .args .element) (c .before .before .if1 .left) _ (c .before .after-at .ensures) _ (c .are-elements .ensures))
+returns-3 c =
+    let at-found = c .before .before .before .before .before in
+    let a = at-found .before .before .before .before .args in
+    needs-found (a .s .now) (a .work .now) (arrayOk (a .element)) _ (at-found .found .given .0 .0) _
+    (at-found .found .given .1)
+    (is-array
+    (found-node (at-found .found .given .0 .0) (at-found .found .given .1)
+    (at-found .before .before .before .before .pre)) _ (c .before .before .before .kind-at .ensures)
+    (a .element) (c .before .before .if1 .left) _ (c .before .after-at .ensures) _
+    (c .are-elements .ensures))
 
 pub needs-array-spec : {M : Type 1} → statement M
 needs-array-spec =

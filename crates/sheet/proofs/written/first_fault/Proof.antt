@@ -28,37 +28,65 @@ add-held : tie.Need-add-held Inv-loop μ-loop
 add-held c = omega (arith, value-room (c .before .before .loop .inv) (c .before .loop-test .taken) .1)
 
 held-requires : tie.Need-held-requires Inv-loop μ-loop
-held-requires c κs = (on-name (c .before .before .loop .inv) (c .before .loop-test .taken) _ (c .start-at .ensures), value-node (c .before .before .loop .inv) (c .before .loop-test .taken))
+held-requires c κs =
+    let inv = c .before .before .loop .inv in (
+      on-name inv (c .before .loop-test .taken) _ (c .start-at .ensures),
+      value-node inv (c .before .loop-test .taken),
+    )
 
 enum-told : tie.Need-enum-told Inv-loop μ-loop
 enum-told c = search needs
 
 add-after-at : tie.Need-add-after-at Inv-loop μ-loop
-add-after-at c = omega (arith, value-room (c .before .before .before .before .before .loop .inv) (c .before .before .before .before .loop-test .taken) .1)
+add-after-at c =
+    omega (
+      arith,
+      value-room (c .before .before .before .before .before .loop .inv)
+          (c .before .before .before .before .loop-test .taken) .1,
+    )
 
 after-at-requires : tie.Need-after-at-requires Inv-loop μ-loop
-after-at-requires c κs = value-room (c .before .before .before .before .before .loop .inv) (c .before .before .before .before .loop-test .taken)
+after-at-requires c κs =
+    value-room (c .before .before .before .before .before .loop .inv)
+    (c .before .before .before .before .loop-test .taken)
 
 loop-less : tie.Need-loop-less Inv-loop μ-loop
-loop-less c = omega (arith, falls (c .before .before .before .before .before .before .loop .inv) (c .before .before .before .before .before .loop-test .taken) _ (c .after-at .ensures) .0, falls (c .before .before .before .before .before .before .loop .inv) (c .before .before .before .before .before .loop-test .taken) _ (c .after-at .ensures) .1)
+loop-less c =
+    let at-loop-test = c .before .before .before .before .before in
+    let inv = at-loop-test .before .loop .inv in
+    omega (
+      arith,
+      falls inv (at-loop-test .loop-test .taken) _ (c .after-at .ensures) .0,
+      falls inv (at-loop-test .loop-test .taken) _ (c .after-at .ensures) .1,
+    )
 
 loop-again : tie.Need-loop-again Inv-loop μ-loop
 unfolding faultIs
-loop-again c = held-on (c .before .before .before .before .before .before .loop .inv) (c .before .before .before .before .before .loop-test .taken) _ (c .before .before .before .before .start-at .ensures) (c .before .before .before .held .ensures) (ap faultIs (c .before .enum-told .given .1)) _ (c .after-at .ensures)
+loop-again c =
+    let at-held = c .before .before .before in
+    held-on (at-held .before .before .before .loop .inv) (at-held .before .before .loop-test .taken) _
+    (at-held .before .start-at .ensures) (at-held .held .ensures)
+    (ap faultIs (c .before .enum-told .given .1)) _ (c .after-at .ensures)
 
 enum-told-2 : tie.Need-enum-told-2 Inv-loop μ-loop
 enum-told-2 c = search needs
 
 returns : tie.Need-returns Inv-loop μ-loop
 unfolding faultIs
-returns c = held-fault (c .before .before .before .before .before .loop .inv) (c .before .before .before .before .loop-test .taken) _ (c .before .before .before .start-at .ensures) (c .before .before .held .ensures) wrongShape (ap faultIs (c .enum-told2 .given .1))
+returns c =
+    held-fault (c .before .before .before .before .before .loop .inv)
+    (c .before .before .before .before .loop-test .taken) _ (c .before .before .before .start-at .ensures)
+    (c .before .before .held .ensures) wrongShape (ap faultIs (c .enum-told2 .given .1))
 
 enum-told-3 : tie.Need-enum-told-3 Inv-loop μ-loop
 enum-told-3 c = search needs
 
 returns-2 : tie.Need-returns-2 Inv-loop μ-loop
 unfolding faultIs
-returns-2 c = held-fault (c .before .before .before .before .before .loop .inv) (c .before .before .before .before .loop-test .taken) _ (c .before .before .before .start-at .ensures) (c .before .before .held .ensures) notCarried (ap faultIs (c .enum-told3 .given .1))
+returns-2 c =
+    held-fault (c .before .before .before .before .before .loop .inv)
+    (c .before .before .before .before .loop-test .taken) _ (c .before .before .before .start-at .ensures)
+    (c .before .before .held .ensures) notCarried (ap faultIs (c .enum-told3 .given .1))
 
 returns-3 : tie.Need-returns-3 Inv-loop μ-loop
 unfolding faultIs

@@ -48,19 +48,31 @@ under-each-requires-3 c κs = search needs
 
 returns-2 : tie.Need-returns-2
 unfolding wordsFrom
-returns-2 c = held-itself _ _ _ (c .before .before .before .before .before .which .ensures) _ (c .before .before .before .n .given .1) (c .before .match2 .keys1) (c .condition .ensures)
+returns-2 c =
+    held-itself _ _ _ (c .before .before .before .before .before .which .ensures) _
+    (c .before .before .before .n .given .1) (c .before .match2 .keys1) (c .condition .ensures)
 
 returns-3 : tie.Need-returns-3
 unfolding wordsFrom
-returns-3 c = held-1 _ _ _ (c .before .before .before .before .before .before .which .ensures) _ (c .before .before .before .before .n .given .1) (c .before .before .match2 .keys2) (c .under-each .ensures)
+returns-3 c =
+    held-1 _ _ _ (c .before .before .before .before .before .before .which .ensures) _
+    (c .before .before .before .before .n .given .1) (c .before .before .match2 .keys2)
+    (c .under-each .ensures)
 
 returns-4 : tie.Need-returns-4
 unfolding wordsFrom
-returns-4 c = held-2 _ _ _ (c .before .before .before .before .before .before .which .ensures) _ (c .before .before .before .before .n .given .1) (c .before .before .match2 .keys3) (c .under-each2 .ensures)
+returns-4 c =
+    held-2 _ _ _ (c .before .before .before .before .before .before .which .ensures) _
+    (c .before .before .before .before .n .given .1) (c .before .before .match2 .keys3)
+    (c .under-each2 .ensures)
 
 returns-5 : tie.Need-returns-5
 unfolding wordsFrom
-returns-5 c = held-3 _ _ _ (c .before .before .before .before .before .before .which .ensures) _ (c .before .before .before .before .n .given .1) (past 2 (past 1 (past 0 (omega arith) (c .before .before .match2 .rest .0 .0 .1)) (c .before .before .match2 .rest .0 .1)) (c .before .before .match2 .rest .1)) (c .under-each3 .ensures)
+returns-5 c =
+    let rest = c .before .before .match2 .rest in
+    held-3 _ _ _ (c .before .before .before .before .before .before .which .ensures) _
+    (c .before .before .before .before .n .given .1)
+    (past 2 (past 1 (past 0 (omega arith) (rest .0 .0 .1)) (rest .0 .1)) (rest .1)) (c .under-each3 .ensures)
 
 pub held-spec : {M : Type 1} → statement M
 held-spec =

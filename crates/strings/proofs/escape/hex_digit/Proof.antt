@@ -34,13 +34,19 @@ returns-4 : tie.Need-returns-4
 returns-4 c = no-digit (c .before .args .c) (λ p q. omega arith) (λ p q. omega arith) (λ p q. omega arith)
 
 returns-5 : tie.Need-returns-5
-returns-5 c = no-digit (c .before .before .before .args .c) (λ p q. omega arith) (λ p q. omega arith) (λ p q. omega arith)
+returns-5 c =
+    no-digit (c .before .before .before .args .c) (λ p q. omega arith) (λ p q. omega arith)
+    (λ p q. omega arith)
 
 returns-6 : tie.Need-returns-6
-returns-6 c = no-digit (c .before .before .before .before .before .args .c) (λ p q. omega arith) (λ p q. omega arith) (λ p q. omega arith)
+returns-6 c =
+    no-digit (c .before .before .before .before .before .args .c) (λ p q. omega arith) (λ p q. omega arith)
+    (λ p q. omega arith)
 
 returns-7 : tie.Need-returns-7
-returns-7 c = no-digit (c .before .before .before .before .before .before .args .c) (λ p q. omega arith) (λ p q. omega arith) (λ p q. omega arith)
+returns-7 c =
+    no-digit (c .before .before .before .before .before .before .args .c) (λ p q. omega arith)
+    (λ p q. omega arith) (λ p q. omega arith)
 
 pub hex-digit-spec : {M : Type 1} → statement M
 hex-digit-spec =

@@ -31,7 +31,12 @@ returns-8 : tie.Need-returns-8
 returns-8 c = search needs
 
 returns-9 : tie.Need-returns-9
-returns-9 c = (not-simple (c .before .args .c) (c .match .rest .0 .0 .0 .0 .0 .0 .0 .1) (c .match .rest .0 .0 .0 .0 .0 .0 .1) (c .match .rest .0 .0 .0 .0 .0 .1) (c .match .rest .0 .0 .0 .0 .1) (c .match .rest .0 .0 .0 .1) (c .match .rest .0 .0 .1) (c .match .rest .0 .1) (c .match .rest .1), omega arith)
+returns-9 c =
+    let rest = c .match .rest in (
+      not-simple (c .before .args .c) (rest .0 .0 .0 .0 .0 .0 .0 .1) (rest .0 .0 .0 .0 .0 .0 .1)
+          (rest .0 .0 .0 .0 .0 .1) (rest .0 .0 .0 .0 .1) (rest .0 .0 .0 .1) (rest .0 .0 .1) (rest .0 .1) (rest .1),
+      omega arith,
+    )
 
 pub simple-spec : {M : Type 1} → statement M
 simple-spec =

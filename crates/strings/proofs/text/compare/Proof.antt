@@ -17,7 +17,9 @@ abbrev μ-loop : tie.MeasureT-loop
 μ-loop s a b n₀ n = length s - n
 
 loop-holds : tie.Need-loop-holds Inv-loop μ-loop
-loop-holds c = abreast (c .before .args .s .now) (c .before .args .a) (c .before .args .b) (c .before .pre .0) (c .before .pre .1)
+loop-holds c =
+    let a = c .before .args in
+    abreast (a .s .now) (a .a) (a .b) (c .before .pre .0) (c .before .pre .1)
 
 add-c : tie.Need-add-c Inv-loop μ-loop
 add-c c = omega (arith, abreast-inA (c .loop .inv))
@@ -38,18 +40,28 @@ add-decoded-2 : tie.Need-add-decoded-2 Inv-loop μ-loop
 add-decoded-2 c = omega (arith, abreast-inB (c .before .before .before .before .loop .inv))
 
 decoded-requires : tie.Need-decoded-requires Inv-loop μ-loop
-decoded-requires c κs = (c .before .before .before .before .loop .inv .onA, c .before .before .before .before .loop .inv .onB)
+decoded-requires c κs =
+    let inv = c .before .before .before .before .loop .inv in
+    (inv .onA, inv .onB)
 
 returns : tie.Need-returns Inv-loop μ-loop
 returns c = c .before .before .before .before .before .loop .inv .same ∙ c .decoded .ensures
 
 returns-2 : tie.Need-returns-2 Inv-loop μ-loop
 unfolding orderOf
-returns-2 c = abreast-less (c .before .before .before .before .before .before .before .before .loop .inv) (c .before .before .before .before .if2 .left) (eqb-no _ _ (c .before .before .before .if3 .left)) (eqb-no _ _ (c .before .before .if4 .left)) (eqb-no _ _ (c .before .if5 .left)) (c .if6 .taken)
+returns-2 c =
+    let at-if3 = c .before .before .before in
+    abreast-less (at-if3 .before .before .before .before .before .loop .inv) (at-if3 .before .if2 .left)
+    (eqb-no _ _ (at-if3 .if3 .left)) (eqb-no _ _ (c .before .before .if4 .left))
+    (eqb-no _ _ (c .before .if5 .left)) (c .if6 .taken)
 
 returns-3 : tie.Need-returns-3 Inv-loop μ-loop
 unfolding orderOf
-returns-3 c = abreast-more (c .before .before .before .before .before .before .before .before .loop .inv) (c .before .before .before .before .if2 .left) (eqb-no _ _ (c .before .before .before .if3 .left)) (eqb-no _ _ (c .before .before .if4 .left)) (eqb-no _ _ (c .before .if5 .left)) (omega (arith, c .before .before .before .before .before .if1 .taken, c .if6 .left))
+returns-3 c =
+    let at-if3 = c .before .before .before in
+    abreast-more (at-if3 .before .before .before .before .before .loop .inv) (at-if3 .before .if2 .left)
+    (eqb-no _ _ (at-if3 .if3 .left)) (eqb-no _ _ (c .before .before .if4 .left))
+    (eqb-no _ _ (c .before .if5 .left)) (omega (arith, at-if3 .before .before .if1 .taken, c .if6 .left))
 
 returns-4 : tie.Need-returns-4 Inv-loop μ-loop
 unfolding orderOf
@@ -62,7 +74,9 @@ add-decoded-4 : tie.Need-add-decoded-4 Inv-loop μ-loop
 add-decoded-4 c = omega (arith, abreast-inB (c .before .before .before .before .before .loop .inv))
 
 decoded-requires-2 : tie.Need-decoded-requires-2 Inv-loop μ-loop
-decoded-requires-2 c κs = (c .before .before .before .before .before .loop .inv .onA, c .before .before .before .before .before .loop .inv .onB)
+decoded-requires-2 c κs =
+    let inv = c .before .before .before .before .before .loop .inv in
+    (inv .onA, inv .onB)
 
 returns-5 : tie.Need-returns-5 Inv-loop μ-loop
 returns-5 c = c .before .before .before .before .before .before .loop .inv .same ∙ c .decoded2 .ensures
@@ -74,7 +88,9 @@ loop-less : tie.Need-loop-less Inv-loop μ-loop
 loop-less c = omega (arith, abreast-inA (c .before .before .before .before .before .loop .inv))
 
 loop-again : tie.Need-loop-again Inv-loop μ-loop
-loop-again c = abreast-on (c .before .before .before .before .before .loop .inv) (c .before .if7 .left) (c .if8 .left) (c .before .before .if1 .left)
+loop-again c =
+    abreast-on (c .before .before .before .before .before .loop .inv) (c .before .if7 .left) (c .if8 .left)
+    (c .before .before .if1 .left)
 
 pub compare-spec : {M : Type 1} → statement M
 compare-spec =

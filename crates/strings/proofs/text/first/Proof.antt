@@ -14,7 +14,14 @@ take-requires : tie.Need-take-requires
 take-requires c κs = search needs
 
 returns : tie.Need-returns
-returns c = rw (c .take .ensures) (record { bytes = encode-1 (c .before .before .args .x .unit) (c .before .if1 .taken); few = omega arith; unit = refl; at = refl })
+returns c =
+    rw (c .take .ensures)
+    (record {
+      bytes = encode-1 (c .before .before .args .x .unit) (c .before .if1 .taken);
+      few = omega arith;
+      unit = refl;
+      at = refl;
+    })
 
 add-take : tie.Need-add-take
 add-take c = search needs
@@ -26,7 +33,15 @@ take-requires-2 : tie.Need-take-requires-2
 take-requires-2 c κs = search needs
 
 returns-2 : tie.Need-returns-2
-returns-2 c = rw (c .take2 .ensures) (record { bytes = encode-2 (c .before .before .before .args .x .unit) (c .before .before .if1 .left) (c .before .if2 .taken); few = omega arith; unit = refl; at = refl })
+returns-2 c =
+    rw (c .take2 .ensures)
+    (record {
+      bytes = encode-2 (c .before .before .before .args .x .unit) (c .before .before .if1 .left)
+          (c .before .if2 .taken);
+      few = omega arith;
+      unit = refl;
+      at = refl;
+    })
 
 add-take-2 : tie.Need-add-take-2
 add-take-2 c = search needs
@@ -38,7 +53,15 @@ take-requires-3 : tie.Need-take-requires-3
 take-requires-3 c κs = search needs
 
 returns-3 : tie.Need-returns-3
-returns-3 c = rw (c .take3 .ensures) (record { bytes = encode-3 (c .before .before .before .before .args .x .unit) (c .before .before .if2 .left) (c .before .if3 .taken); few = omega arith; unit = refl; at = refl })
+returns-3 c =
+    rw (c .take3 .ensures)
+    (record {
+      bytes = encode-3 (c .before .before .before .before .args .x .unit) (c .before .before .if2 .left)
+          (c .before .if3 .taken);
+      few = omega arith;
+      unit = refl;
+      at = refl;
+    })
 
 add-take-3 : tie.Need-add-take-3
 add-take-3 c = search needs
@@ -50,7 +73,14 @@ take-requires-4 : tie.Need-take-requires-4
 take-requires-4 c κs = search needs
 
 returns-4 : tie.Need-returns-4
-returns-4 c = rw (c .take4 .ensures) (record { bytes = encode-4 (c .before .before .before .before .args .x .unit) (c .before .if3 .left); few = omega arith; unit = refl; at = refl })
+returns-4 c =
+    rw (c .take4 .ensures)
+    (record {
+      bytes = encode-4 (c .before .before .before .before .args .x .unit) (c .before .if3 .left);
+      few = omega arith;
+      unit = refl;
+      at = refl;
+    })
 
 pub first-spec : {M : Type 1} → statement M
 first-spec =

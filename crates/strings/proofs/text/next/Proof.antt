@@ -20,7 +20,11 @@ take-requires c κs = search needs
 
 returns : tie.Need-returns
 unfolding Stepped
-returns c = rw (c .take .ensures) (turn-1 (c .before .before .before .args .s .now) (c .before .before .before .args .c .at) (c .before .before .before .args .c .unit) (c .before .before .before .args .c .left) (c .before .before .before .pre) (c .before .if1 .taken))
+returns c =
+    let a = c .before .before .before .args in
+    rw (c .take .ensures)
+    (turn-1 (a .s .now) (a .c .at) (a .c .unit) (a .c .left) (c .before .before .before .pre)
+    (c .before .if1 .taken))
 
 add-take-2 : tie.Need-add-take-2
 add-take-2 c = search needs
@@ -33,7 +37,11 @@ take-requires-2 c κs = search needs
 
 returns-2 : tie.Need-returns-2
 unfolding Stepped
-returns-2 c = rw (c .take2 .ensures) (turn-2 (c .before .before .before .before .args .s .now) (c .before .before .before .before .args .c .at) (c .before .before .before .before .args .c .unit) (c .before .before .before .before .args .c .left) (c .before .before .before .before .pre) (c .before .if2 .taken))
+returns-2 c =
+    let a = c .before .before .before .before .args in
+    rw (c .take2 .ensures)
+    (turn-2 (a .s .now) (a .c .at) (a .c .unit) (a .c .left) (c .before .before .before .before .pre)
+    (c .before .if2 .taken))
 
 add-take-3 : tie.Need-add-take-3
 add-take-3 c = search needs
@@ -46,14 +54,21 @@ take-requires-3 c κs = search needs
 
 returns-3 : tie.Need-returns-3
 unfolding Stepped
-returns-3 c = rw (c .take3 .ensures) (turn-3 (c .before .before .before .before .before .args .s .now) (c .before .before .before .before .before .args .c .at) (c .before .before .before .before .before .args .c .unit) (c .before .before .before .before .before .args .c .left) (c .before .before .before .before .before .pre) (c .before .if3 .taken))
+returns-3 c =
+    let a = c .before .before .before .before .before .args in
+    rw (c .take3 .ensures)
+    (turn-3 (a .s .now) (a .c .at) (a .c .unit) (a .c .left) (c .before .before .before .before .before .pre)
+    (c .before .if3 .taken))
 
 shared-slice-read-b : tie.Need-shared-slice-read-b
 shared-slice-read-b c = search needs
 
 returns-4 : tie.Need-returns-4
 unfolding Stepped
-returns-4 c = turn-end (c .before .before .before .before .before .before .args .s .now) (c .before .before .before .before .before .before .args .c .at) (c .before .before .before .before .before .before .args .c .unit) (c .before .before .before .before .before .before .args .c .left) (c .before .before .before .before .before .before .pre) (omega arith) (c .if4 .taken)
+returns-4 c =
+    let at-start = c .before .before .before .before .before .before in
+    let a = at-start .args in
+    turn-end (a .s .now) (a .c .at) (a .c .unit) (a .c .left) (at-start .pre) (omega arith) (c .if4 .taken)
 
 add-take-4 : tie.Need-add-take-4
 add-take-4 c = search needs
@@ -63,7 +78,12 @@ take-requires-4 c κs = search needs
 
 returns-5 : tie.Need-returns-5
 unfolding Stepped
-returns-5 c = rw (c .take4 .ensures) (turn-raw (c .before .before .before .before .before .before .before .before .args .s .now) (c .before .before .before .before .before .before .before .before .args .c .at) (c .before .before .before .before .before .before .before .before .args .c .unit) (c .before .before .before .before .before .before .before .before .args .c .left) (c .before .before .before .before .before .before .before .before .pre) (omega arith) (c .before .before .if4 .left) (c .before .if5 .taken))
+returns-5 c =
+    let at-start = c .before .before .before .before .before .before .before .before in
+    let a = at-start .args in
+    rw (c .take4 .ensures)
+    (turn-raw (a .s .now) (a .c .at) (a .c .unit) (a .c .left) (at-start .pre) (omega arith)
+    (c .before .before .if4 .left) (c .before .if5 .taken))
 
 add-escape : tie.Need-add-escape
 add-escape c = search needs
@@ -78,18 +98,30 @@ enum-known-x : tie.Need-enum-known-x
 enum-known-x c = search needs
 
 first-requires : tie.Need-first-requires
-first-requires c κs = escape-was (c .before .x .given .0 .0) (c .before .before .before .escape .ensures) (c .before .x .given .1) .1
+first-requires c κs =
+    escape-was (c .before .x .given .0 .0) (c .before .before .before .escape .ensures)
+    (c .before .x .given .1) .1
 
 returns-6 : tie.Need-returns-6
 unfolding Stepped
-returns-6 c = turn-bad (c .before .before .before .before .before .before .before .before .before .before .args .s .now) (c .before .before .before .before .before .before .before .before .before .before .args .c .at) (c .before .before .before .before .before .before .before .before .before .before .args .c .unit) (c .before .before .before .before .before .before .before .before .before .before .args .c .left) (c .before .before .before .before .before .before .before .before .before .before .pre) (omega arith) notJson (c .before .before .before .if5 .left) (escape-was-bad (c .before .before .escape .ensures) (c .enum-told .given .1))
+returns-6 c =
+    let at-start = c .before .before .before .before .before .before .before .before .before .before in
+    let a = at-start .args in
+    turn-bad (a .s .now) (a .c .at) (a .c .unit) (a .c .left) (at-start .pre) (omega arith) notJson
+    (c .before .before .before .if5 .left)
+    (escape-was-bad (c .before .before .escape .ensures) (c .enum-told .given .1))
 
 returns-7 : tie.Need-returns-7
 unfolding Stepped
 returns-7 c =
-    let w = escape-was (c .before .before .x .given .0 .0) (c .before .before .before .before .escape .ensures) (c .before .before .x .given .1) in
+    let at-x = c .before .before in
     let f = c .first .ensures in
-    first-taken f (turn-escape (c .before .before .before .before .before .before .before .before .before .before .before .before .args .s .now) (c .before .before .before .before .before .before .before .before .before .before .before .before .args .c .at) (c .before .before .before .before .before .before .before .before .before .before .before .before .args .c .unit) (c .before .before .before .before .before .before .before .before .before .before .before .before .args .c .left) (c .before .before .before .before .before .before .before .before .before .before .before .before .pre) (omega arith) _ _ _ _ (c .before .before .before .before .before .if5 .left) (w .0) (w .3) (f .few) (f .bytes))
+    let at-start = at-x .before .before .before .before .before .before .before .before .before .before in
+    let a = at-start .args in
+    let w = escape-was (at-x .x .given .0 .0) (at-x .before .before .escape .ensures) (at-x .x .given .1) in
+    first-taken f
+    (turn-escape (a .s .now) (a .c .at) (a .c .unit) (a .c .left) (at-start .pre) (omega arith) _ _ _ _
+    (at-x .before .before .before .if5 .left) (w .0) (w .3) (f .few) (f .bytes))
 
 pub next-spec : {M : Type 1} → statement M
 next-spec =

@@ -24,15 +24,26 @@ enum-told-3 c = search needs
 
 returns : tie.Need-returns
 unfolding orderOf
-returns c = apart (textAt (c .before .before .before .before .args .s .now) (c .before .before .before .before .args .a)) (textAt (c .before .before .before .before .args .s .now) (c .before .before .before .before .args .b)) _ (c .before .before .compare .ensures ∙ ap orderOf (c .enum-told .given .1)) (λ q. let z : _≡_ {A = ℕ} 0 1 = cc in omega arith)
+returns c =
+    let a = c .before .before .before .before .args in
+    apart (textAt (a .s .now) (a .a)) (textAt (a .s .now) (a .b)) _
+    (c .before .before .compare .ensures ∙ ap orderOf (c .enum-told .given .1))
+    (λ q. let z : _≡_ {A = ℕ} 0 1 = cc in omega arith)
 
 returns-2 : tie.Need-returns-2
 unfolding orderOf
-returns-2 c = alike (textAt (c .before .before .before .before .args .s .now) (c .before .before .before .before .args .a)) (textAt (c .before .before .before .before .args .s .now) (c .before .before .before .before .args .b)) (c .before .before .compare .ensures ∙ ap orderOf (c .enum-told2 .given .1))
+returns-2 c =
+    let a = c .before .before .before .before .args in
+    alike (textAt (a .s .now) (a .a)) (textAt (a .s .now) (a .b))
+    (c .before .before .compare .ensures ∙ ap orderOf (c .enum-told2 .given .1))
 
 returns-3 : tie.Need-returns-3
 unfolding orderOf
-returns-3 c = apart (textAt (c .before .before .before .before .args .s .now) (c .before .before .before .before .args .a)) (textAt (c .before .before .before .before .args .s .now) (c .before .before .before .before .args .b)) _ (c .before .before .compare .ensures ∙ ap orderOf (c .enum-told3 .given .1)) (λ q. let z : _≡_ {A = ℕ} 0 1 = cc in omega arith)
+returns-3 c =
+    let a = c .before .before .before .before .args in
+    apart (textAt (a .s .now) (a .a)) (textAt (a .s .now) (a .b)) _
+    (c .before .before .compare .ensures ∙ ap orderOf (c .enum-told3 .given .1))
+    (λ q. let z : _≡_ {A = ℕ} 0 1 = cc in omega arith)
 
 pub same-spec : {M : Type 1} → statement M
 same-spec =

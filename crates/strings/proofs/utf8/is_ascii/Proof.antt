@@ -28,9 +28,10 @@ loop-less c = omega arith
 
 loop-again : tie.Need-loop-again Inv-loop μ-loop
 loop-again c =
-    let l = c .before .before .before .loop .inv in
     let h = c .before .before .loop-test .taken in
-    ⊎-elim (λ w. rw (w .1) (greatest-new l h (w .0 .taken))) (λ w. rw (w .1) (greatest-still l h (w .0 .left))) (c .if1 .came)
+    let l = c .before .before .before .loop .inv in
+    ⊎-elim (λ w. rw (w .1) (greatest-new l h (w .0 .taken)))
+    (λ w. rw (w .1) (greatest-still l h (w .0 .left))) (c .if1 .came)
 
 returns : tie.Need-returns Inv-loop μ-loop
 returns c = greatest-of-all (c .before .loop .inv) (c .loop-test .left)

@@ -10,19 +10,27 @@ lead-requires : tie.Need-lead-requires
 lead-requires c κs = search needs
 
 returns : tie.Need-returns
-returns c = follows-first (c .before .before .args .e) (c .before .before .args .c) (c .lead .result) (c .before .if1 .taken) (c .lead .ensures)
+returns c =
+    follows-first (c .before .before .args .e) (c .before .before .args .c) (c .lead .result)
+    (c .before .if1 .taken) (c .lead .ensures)
 
 tail-requires : tie.Need-tail-requires
 tail-requires c κs = search needs
 
 returns-2 : tie.Need-returns-2
-returns-2 c = follows-out (c .before .before .before .args .e) (c .before .before .before .args .c) (c .tail .result) (c .before .before .if1 .left) (λ p q. omega arith) (c .tail .ensures)
+returns-2 c =
+    let a = c .before .before .before .args in
+    follows-out (a .e) (a .c) (c .tail .result) (c .before .before .if1 .left) (λ p q. omega arith)
+    (c .tail .ensures)
 
 tail-requires-2 : tie.Need-tail-requires-2
 tail-requires-2 c κs = search needs
 
 returns-3 : tie.Need-returns-3
-returns-3 c = follows-out (c .before .before .before .before .args .e) (c .before .before .before .before .args .c) (c .tail2 .result) (c .before .before .before .if1 .left) (λ p q. omega arith) (c .tail2 .ensures)
+returns-3 c =
+    let a = c .before .before .before .before .args in
+    follows-out (a .e) (a .c) (c .tail2 .result) (c .before .before .before .if1 .left) (λ p q. omega arith)
+    (c .tail2 .ensures)
 
 sub-tail : tie.Need-sub-tail
 sub-tail c = search needs
@@ -31,7 +39,10 @@ tail-requires-3 : tie.Need-tail-requires-3
 tail-requires-3 c κs = search needs
 
 returns-4 : tie.Need-returns-4
-returns-4 c = follows-in (c .before .before .before .before .args .e) (c .before .before .before .before .args .c) (c .tail3 .result) (c .before .before .before .if1 .left) (omega arith) (omega arith) (c .tail3 .ensures)
+returns-4 c =
+    let a = c .before .before .before .before .args in
+    follows-in (a .e) (a .c) (c .tail3 .result) (c .before .before .before .if1 .left) (omega arith)
+    (omega arith) (c .tail3 .ensures)
 
 pub next-spec : {M : Type 1} → statement M
 next-spec =

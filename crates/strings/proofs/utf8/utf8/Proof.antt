@@ -19,7 +19,10 @@ is-ascii-requires : tie.Need-is-ascii-requires Inv-loop μ-loop
 is-ascii-requires c κs = search needs
 
 returns : tie.Need-returns Inv-loop μ-loop
-returns c = sym (ascii-utf8 (c .before .before .before .args .s .now) (sym (c .before .is-ascii .ensures) ∙ c .if1 .taken))
+returns c =
+    sym
+    (ascii-utf8 (c .before .before .before .args .s .now)
+    (sym (c .before .is-ascii .ensures) ∙ c .if1 .taken))
 
 tail-requires : tie.Need-tail-requires Inv-loop μ-loop
 tail-requires c κs = search needs
@@ -40,7 +43,9 @@ loop-less : tie.Need-loop-less Inv-loop μ-loop
 loop-less c = omega arith
 
 loop-again : tie.Need-loop-again Inv-loop μ-loop
-loop-again c = checked (c .before .before .before .loop .inv) (c .next .result) (c .before .before .loop-test .taken) (c .next .ensures)
+loop-again c =
+    checked (c .before .before .before .loop .inv) (c .next .result) (c .before .before .loop-test .taken)
+    (c .next .ensures)
 
 returns-2 : tie.Need-returns-2 Inv-loop μ-loop
 returns-2 c = ended (c .before .loop .inv) (c .loop-test .left)

@@ -17,16 +17,29 @@ abbrev μ-loop : tie.MeasureT-loop
 μ-loop s work from end n₀ k₀ n k = end - k
 
 loop-holds : tie.Need-loop-holds Inv-loop μ-loop
-loop-holds c = elements-counted (c .before .before .args .s .now) (c .before .before .args .work .now) (c .before .before .args .from) (c .before .before .args .end) (c .before .before .pre)
+loop-holds c =
+    let a = c .before .before .args in
+    elements-counted (a .s .now) (a .work .now) (a .from) (a .end) (c .before .before .pre)
 
 add-n : tie.Need-add-n Inv-loop μ-loop
-add-n c = omega (arith, c .before .loop .inv .few, room (element-node (c .before .loop .inv .over) (c .loop-test .taken)) .1)
+add-n c =
+    omega (
+      arith,
+      c .before .loop .inv .few,
+      room (element-node (c .before .loop .inv .over) (c .loop-test .taken)) .1,
+    )
 
 after-at-requires : tie.Need-after-at-requires Inv-loop μ-loop
 after-at-requires c κs = room (element-node (c .before .loop .inv .over) (c .loop-test .taken))
 
 loop-less : tie.Need-loop-less Inv-loop μ-loop
-loop-less c = omega (arith, element-falls (c .before .before .loop .inv .over) (c .before .loop-test .taken) _ (c .after-at .ensures) .0, element-falls (c .before .before .loop .inv .over) (c .before .loop-test .taken) _ (c .after-at .ensures) .1)
+loop-less c =
+    let over = c .before .before .loop .inv .over in
+    omega (
+      arith,
+      element-falls over (c .before .loop-test .taken) _ (c .after-at .ensures) .0,
+      element-falls over (c .before .loop-test .taken) _ (c .after-at .ensures) .1,
+    )
 
 loop-again : tie.Need-loop-again Inv-loop μ-loop
 loop-again c = element-counted (c .before .before .loop .inv) (c .before .loop-test .taken) _ (c .after-at .ensures)

@@ -17,7 +17,9 @@ abbrev μ-loop : tie.MeasureT-loop
 μ-loop s work from end n₀ k₀ n k = end - k
 
 loop-holds : tie.Need-loop-holds Inv-loop μ-loop
-loop-holds c = members-counted (c .before .before .args .s .now) (c .before .before .args .work .now) (c .before .before .args .from) (c .before .before .args .end) (c .before .before .pre)
+loop-holds c =
+    let a = c .before .before .args in
+    members-counted (a .s .now) (a .work .now) (a .from) (a .end) (c .before .before .pre)
 
 add-n : tie.Need-add-n Inv-loop μ-loop
 add-n c = omega (arith, c .before .loop .inv .few, name-room (c .before .loop .inv .over) (c .loop-test .taken) .1)
@@ -29,7 +31,13 @@ after-at-requires : tie.Need-after-at-requires Inv-loop μ-loop
 after-at-requires c κs = value-room (c .before .loop .inv .over) (c .loop-test .taken)
 
 loop-less : tie.Need-loop-less Inv-loop μ-loop
-loop-less c = omega (arith, falls (c .before .before .loop .inv .over) (c .before .loop-test .taken) _ (c .after-at .ensures) .0, falls (c .before .before .loop .inv .over) (c .before .loop-test .taken) _ (c .after-at .ensures) .1)
+loop-less c =
+    let over = c .before .before .loop .inv .over in
+    omega (
+      arith,
+      falls over (c .before .loop-test .taken) _ (c .after-at .ensures) .0,
+      falls over (c .before .loop-test .taken) _ (c .after-at .ensures) .1,
+    )
 
 loop-again : tie.Need-loop-again Inv-loop μ-loop
 loop-again c = member-counted (c .before .before .loop .inv) (c .before .loop-test .taken) _ (c .after-at .ensures)

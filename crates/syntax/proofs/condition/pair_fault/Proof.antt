@@ -22,15 +22,25 @@ add-count-elements : tie.Need-add-count-elements
 add-count-elements c = search needs
 
 count-elements-requires : tie.Need-count-elements-requires
-count-elements-requires c κs = array-nodes (c .before .before .before .before .before .pre) _ (c .before .before .kind-at .ensures) (c .before .if1 .left) _ (c .after-at .ensures)
+count-elements-requires c κs =
+    array-nodes (c .before .before .before .before .before .pre) _ (c .before .before .kind-at .ensures)
+    (c .before .if1 .left) _ (c .after-at .ensures)
 
 returns-2 : tie.Need-returns-2
 unfolding faultIs
-returns-2 c = pair-two (c .before .before .before .before .before .before .before .pre) _ (c .before .before .before .before .kind-at .ensures) (c .before .before .before .if1 .left) _ (c .before .before .after-at .ensures) _ (c .before .count-elements .ensures) (c .if2 .taken)
+returns-2 c =
+    let at-if1 = c .before .before .before in
+    pair-two (at-if1 .before .before .before .before .pre) _ (at-if1 .before .kind-at .ensures)
+    (at-if1 .if1 .left) _ (c .before .before .after-at .ensures) _ (c .before .count-elements .ensures)
+    (c .if2 .taken)
 
 returns-3 : tie.Need-returns-3
 unfolding faultIs
-returns-3 c = pair-other (c .before .before .before .before .before .before .before .pre) _ (c .before .before .before .before .kind-at .ensures) (c .before .before .before .if1 .left) _ (c .before .before .after-at .ensures) _ (c .before .count-elements .ensures) (c .if2 .left)
+returns-3 c =
+    let at-if1 = c .before .before .before in
+    pair-other (at-if1 .before .before .before .before .pre) _ (at-if1 .before .kind-at .ensures)
+    (at-if1 .if1 .left) _ (c .before .before .after-at .ensures) _ (c .before .count-elements .ensures)
+    (c .if2 .left)
 
 pub pair-fault-spec : {M : Type 1} → statement M
 pair-fault-spec =

@@ -28,10 +28,20 @@ returns-7 : tie.Need-returns-7
 returns-7 c = (nonzero-is (c .before .before .before .args .c) (omega arith) (omega arith), omega arith)
 
 returns-8 : tie.Need-returns-8
-returns-8 c = (other-is (c .before .before .args .c) (c .before .match .rest .0 .0 .0 .0 .0 .1) (λ p q. omega arith) (c .before .match .rest .0 .0 .0 .0 .1) (c .before .match .rest .0 .0 .0 .1) (c .before .match .rest .0 .0 .1) (c .before .match .rest .0 .1) (c .before .match .rest .1), omega arith)
+returns-8 c =
+    let rest = c .before .match .rest in (
+      other-is (c .before .before .args .c) (rest .0 .0 .0 .0 .0 .1) (λ p q. omega arith)
+          (rest .0 .0 .0 .0 .1) (rest .0 .0 .0 .1) (rest .0 .0 .1) (rest .0 .1) (rest .1),
+      omega arith,
+    )
 
 returns-9 : tie.Need-returns-9
-returns-9 c = (other-is (c .before .before .before .args .c) (c .before .before .match .rest .0 .0 .0 .0 .0 .1) (λ p q. omega arith) (c .before .before .match .rest .0 .0 .0 .0 .1) (c .before .before .match .rest .0 .0 .0 .1) (c .before .before .match .rest .0 .0 .1) (c .before .before .match .rest .0 .1) (c .before .before .match .rest .1), omega arith)
+returns-9 c =
+    let rest = c .before .before .match .rest in (
+      other-is (c .before .before .before .args .c) (rest .0 .0 .0 .0 .0 .1) (λ p q. omega arith)
+          (rest .0 .0 .0 .0 .1) (rest .0 .0 .0 .1) (rest .0 .0 .1) (rest .0 .1) (rest .1),
+      omega arith,
+    )
 
 pub class-spec : {M : Type 1} → statement M
 class-spec =

@@ -16,10 +16,18 @@ returns-3 : tie.Need-returns-3
 returns-3 c = (first-whole (c .before .before .before .args .c) (omega arith) (omega arith), omega arith)
 
 returns-4 : tie.Need-returns-4
-returns-4 c = (first-none (c .before .before .args .c) (c .before .match .rest .0 .1) (c .before .match .rest .1) (λ p q. omega arith), omega arith)
+returns-4 c = (
+  first-none (c .before .before .args .c) (c .before .match .rest .0 .1) (c .before .match .rest .1)
+      (λ p q. omega arith),
+  omega arith,
+)
 
 returns-5 : tie.Need-returns-5
-returns-5 c = (first-none (c .before .before .before .args .c) (c .before .before .match .rest .0 .1) (c .before .before .match .rest .1) (λ p q. omega arith), omega arith)
+returns-5 c = (
+  first-none (c .before .before .before .args .c) (c .before .before .match .rest .0 .1)
+      (c .before .before .match .rest .1) (λ p q. omega arith),
+  omega arith,
+)
 
 pub first-spec : {M : Type 1} → statement M
 first-spec = tie.close (tie.spec returns returns-2 returns-3 returns-4 returns-5)

@@ -26,7 +26,10 @@ add-here : tie.Need-add-here Inv-loop μ-loop
 add-here c = omega arith
 
 loop-holds : tie.Need-loop-holds Inv-loop μ-loop
-loop-holds c = numbering (c .before .before .before .args .s .now) (c .before .before .before .args .at) (c .first .result) (c .before .before .before .pre) (c .first .ensures .0) (c .first .ensures .1)
+loop-holds c =
+    let a = c .before .before .before .args in
+    numbering (a .s .now) (a .at) (c .first .result) (c .before .before .before .pre) (c .first .ensures .0)
+    (c .first .ensures .1)
 
 shared-slice-read-onward : tie.Need-shared-slice-read-onward Inv-loop μ-loop
 shared-slice-read-onward c = omega arith
@@ -38,11 +41,18 @@ ending-requires : tie.Need-ending-requires Inv-loop μ-loop
 ending-requires c κs = c .before .before .before .before .loop .inv .small
 
 returns : tie.Need-returns Inv-loop μ-loop
-returns c = at-stop (c .before .before .before .before .before .loop .inv) (c .before .before .before .before .loop-test .taken) (c .before .before .onward .result) (c .before .before .onward .ensures .0) (c .before .if1 .taken) ∙ c .ending .ensures
+returns c =
+    at-stop (c .before .before .before .before .before .loop .inv)
+    (c .before .before .before .before .loop-test .taken) (c .before .before .onward .result)
+    (c .before .before .onward .ensures .0) (c .before .if1 .taken) ∙ c .ending .ensures
 
 returns-2 : tie.Need-returns-2 Inv-loop μ-loop
 unfolding scanOf
-returns-2 c = too-long (c .before .before .before .before .before .loop .inv) (c .before .before .before .before .loop-test .taken) (c .before .before .onward .result) (c .before .before .onward .ensures .0) (c .before .before .onward .ensures .1) (c .before .if1 .left) (c .if2 .taken)
+returns-2 c =
+    let onward = c .before .before .onward in
+    too-long (c .before .before .before .before .before .loop .inv)
+    (c .before .before .before .before .loop-test .taken) (onward .result) (onward .ensures .0)
+    (onward .ensures .1) (c .before .if1 .left) (c .if2 .taken)
 
 sub-left : tie.Need-sub-left Inv-loop μ-loop
 sub-left c = omega arith
@@ -54,7 +64,11 @@ loop-less : tie.Need-loop-less Inv-loop μ-loop
 loop-less c = omega arith
 
 loop-again : tie.Need-loop-again Inv-loop μ-loop
-loop-again c = on (c .before .before .before .before .before .loop .inv) (c .before .before .before .before .loop-test .taken) (c .before .before .onward .result) (c .before .before .onward .ensures .0) (c .before .before .onward .ensures .1) (c .before .if1 .left) (c .if2 .left)
+loop-again c =
+    let onward = c .before .before .onward in
+    on (c .before .before .before .before .before .loop .inv)
+    (c .before .before .before .before .loop-test .taken) (onward .result) (onward .ensures .0)
+    (onward .ensures .1) (c .before .if1 .left) (c .if2 .left)
 
 ending-requires-2 : tie.Need-ending-requires-2 Inv-loop μ-loop
 ending-requires-2 c κs = c .before .loop .inv .small

@@ -18,7 +18,9 @@ returns-4 : tie.Need-returns-4
 returns-4 c = is-space (c .before .args .c) 13 (c .match .keys4) refl
 
 returns-5 : tie.Need-returns-5
-returns-5 c = no-space (c .before .args .c) (c .match .rest .0 .0 .0 .1) (c .match .rest .0 .0 .1) (c .match .rest .0 .1) (c .match .rest .1)
+returns-5 c =
+    no-space (c .before .args .c) (c .match .rest .0 .0 .0 .1) (c .match .rest .0 .0 .1)
+    (c .match .rest .0 .1) (c .match .rest .1)
 
 pub is-space-spec : {M : Type 1} → statement M
 is-space-spec = tie.close (tie.spec returns returns-2 returns-3 returns-4 returns-5)

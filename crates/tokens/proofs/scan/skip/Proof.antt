@@ -27,7 +27,12 @@ is-space-requires : tie.Need-is-space-requires Inv-loop μ-loop
 is-space-requires c κs = search needs
 
 returns : tie.Need-returns Inv-loop μ-loop
-returns c = sym (c .before .before .before .before .loop .inv .same ∙ skip-stop (c .before .before .before .before .before .before .args .s .now) (c .before .before .before .before .loop .here) (c .before .before .before .loop-test .taken) (sym (c .before .is-space .ensures) ∙ not-true _ (c .if1 .taken)))
+returns c =
+    let at-loop = c .before .before .before .before in
+    sym
+    (at-loop .loop .inv .same ∙ skip-stop (at-loop .before .before .args .s .now) (at-loop .loop .here)
+    (c .before .before .before .loop-test .taken)
+    (sym (c .before .is-space .ensures) ∙ not-true _ (c .if1 .taken)))
 
 add-here : tie.Need-add-here Inv-loop μ-loop
 add-here c = omega arith
@@ -36,10 +41,20 @@ loop-less : tie.Need-loop-less Inv-loop μ-loop
 loop-less c = omega arith
 
 loop-again : tie.Need-loop-again Inv-loop μ-loop
-loop-again c = record { upto = omega arith; same = c .before .before .before .before .loop .inv .same ∙ skip-on (c .before .before .before .before .before .before .args .s .now) (c .before .before .before .before .loop .here) (c .before .before .before .loop-test .taken) (sym (c .before .is-space .ensures) ∙ not-false _ (c .if1 .left)) }
+loop-again c =
+    let at-loop = c .before .before .before .before in
+    record {
+      upto = omega arith;
+      same = at-loop .loop .inv .same ∙ skip-on (at-loop .before .before .args .s .now) (at-loop .loop .here)
+          (c .before .before .before .loop-test .taken)
+          (sym (c .before .is-space .ensures) ∙ not-false _ (c .if1 .left));
+    }
 
 returns-2 : tie.Need-returns-2 Inv-loop μ-loop
-returns-2 c = sym (c .before .loop .inv .same ∙ skip-none (c .before .before .before .args .s .now) (c .before .loop .here) (c .loop-test .left) (c .before .loop .inv .upto))
+returns-2 c =
+    sym
+    (c .before .loop .inv .same ∙ skip-none (c .before .before .before .args .s .now) (c .before .loop .here)
+    (c .loop-test .left) (c .before .loop .inv .upto))
 
 pub skip-spec : {M : Type 1} → statement M
 skip-spec =

@@ -30,7 +30,10 @@ shared-slice-read-if2-2 c = omega arith
 
 returns-2 : tie.Need-returns-2 Inv-loop μ-loop
 unfolding scanOf
-returns-2 c = word-apart (c .before .before .before .before .before .loop .inv) (c .before .before .before .before .loop-test .taken) (c .before .before .before .if1 .left) (c .if2 .taken)
+returns-2 c =
+    let at-if1 = c .before .before .before in
+    word-apart (at-if1 .before .before .loop .inv) (at-if1 .before .loop-test .taken) (at-if1 .if1 .left)
+    (c .if2 .taken)
 
 add-here : tie.Need-add-here Inv-loop μ-loop
 add-here c = omega arith
@@ -42,7 +45,10 @@ loop-less : tie.Need-loop-less Inv-loop μ-loop
 loop-less c = omega arith
 
 loop-again : tie.Need-loop-again Inv-loop μ-loop
-loop-again c = word-on (c .before .before .before .before .before .loop .inv) (c .before .before .before .before .loop-test .taken) (c .before .before .before .if1 .left) (c .if2 .left)
+loop-again c =
+    let at-if1 = c .before .before .before in
+    word-on (at-if1 .before .before .loop .inv) (at-if1 .before .loop-test .taken) (at-if1 .if1 .left)
+    (c .if2 .left)
 
 returns-3 : tie.Need-returns-3 Inv-loop μ-loop
 unfolding scanOf

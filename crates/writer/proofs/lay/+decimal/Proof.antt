@@ -62,7 +62,11 @@ decimal-returns : (t : ℕ) → decimal-lts.Need-returns (
   decimal-below t,
   decimal.Post,
 ) (decimal-at t) decimal.Post
-decimal-returns t c = told (sym (one-digit (c .before .before .before .before .before .before .args .n) (c .before .before .before .before .if1 .taken))) (c .before .before .byte .ensures)
+decimal-returns t c =
+    told
+    (sym
+    (one-digit (c .before .before .before .before .before .before .args .n)
+    (c .before .before .before .before .if1 .taken))) (c .before .before .byte .ensures)
 
 decimal-decimal-requires : (t : ℕ) → decimal-lts.Need-decimal-requires (
   byte-reads.Asked,
@@ -110,7 +114,13 @@ decimal-returns-2 : (t : ℕ) → decimal-lts.Need-returns-2 (
   decimal-below t,
   decimal.Post,
 ) (decimal-at t) decimal.Post
-decimal-returns-2 t c = told (sym (more-digits (c .before .before .before .before .before .before .before .before .before .before .args .n) (c .before .before .before .before .before .before .before .before .if1 .left) (omega arith))) (then (c .before .before .before .before .before .before .decimal .ensures) (c .before .before .byte2 .ensures))
+decimal-returns-2 t c =
+    let at-decimal = c .before .before .before .before .before .before in
+    told
+    (sym
+    (more-digits (at-decimal .before .before .before .before .args .n)
+    (at-decimal .before .before .if1 .left) (omega arith)))
+    (then (at-decimal .decimal .ensures) (c .before .before .byte2 .ensures))
 
 pub +decimal-spec : {M : Type 1} → statement M
 +decimal-spec = close μ-decimal λ t. decimal-lts.spec (

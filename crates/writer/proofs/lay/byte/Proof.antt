@@ -22,10 +22,22 @@ add-result-2 : tie.Need-add-result-2
 add-result-2 c = search needs
 
 returns-2 : tie.Need-returns-2
-returns-2 c = record { bytes = sym (set-out (c .before .before .args .out .now) (c .before .before .args .at) _ (c .before .if1 .left)); place = search needs; room = search needs }
+returns-2 c =
+    record {
+      bytes = sym
+          (set-out (c .before .before .args .out .now) (c .before .before .args .at) _ (c .before .if1 .left));
+      place = search needs;
+      room = search needs;
+    }
 
 returns-3 : tie.Need-returns-3
-returns-3 c = record { bytes = sym (set-out (c .before .before .args .out .now) (c .before .before .args .at) _ (c .before .if1 .left)); place = search needs; room = search needs }
+returns-3 c =
+    record {
+      bytes = sym
+          (set-out (c .before .before .args .out .now) (c .before .before .args .at) _ (c .before .if1 .left));
+      place = search needs;
+      room = search needs;
+    }
 
 pub byte-spec : {M : Type 1} → statement M
 byte-spec =

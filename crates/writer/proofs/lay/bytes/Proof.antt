@@ -30,9 +30,13 @@ loop-less c = omega arith
 
 loop-again : tie.Need-loop-again Inv-loop μ-loop
 loop-again c =
-    let l = c .before .before .before .before .before .before .loop in
-    let bs = c .before .before .before .before .before .before .before .before .before .args .bs .now in
-    (omega arith, goes (drop (l .i + 1) bs) (rw (next-byte bs (l .i) (omega arith)) at (l .inv .1)) (c .before .before .byte .ensures))
+    let at-loop = c .before .before .before .before .before .before in
+    let l = at-loop .loop in
+    let bs = at-loop .before .before .before .args .bs .now in (
+      omega arith,
+      goes (drop (l .i + 1) bs) (rw (next-byte bs (l .i) (omega arith)) at (l .inv .1))
+          (c .before .before .byte .ensures),
+    )
 
 same-length : tie.Need-same-length Inv-loop μ-loop
 same-length c = c .before .loop .inv .1 .size
@@ -40,7 +44,9 @@ same-length c = c .before .loop .inv .1 .size
 returns : tie.Need-returns Inv-loop μ-loop
 returns c =
     let l = c .before .loop in
-    ends (rw (drop-of-length-le (c .before .before .before .before .args .bs .now) {i = l .i} (omega arith)) at (l .inv .1))
+    ends
+    (rw (drop-of-length-le (c .before .before .before .before .args .bs .now) {i = l .i} (omega arith)) at
+    (l .inv .1))
 
 pub bytes-spec : {M : Type 1} → statement M
 bytes-spec =

@@ -18,7 +18,10 @@ same-length : tie.Need-same-length
 same-length c = search needs
 
 returns : tie.Need-returns
-returns c = told (sym (quote-escaped (c .before .before .before .before .before .before .before .args .b) (c .before .before .before .before .before .if1 .taken))) (c .before .before .bytes .ensures)
+returns c =
+    let at-if1 = c .before .before .before .before .before in
+    told (sym (quote-escaped (at-if1 .before .before .args .b) (at-if1 .if1 .taken)))
+    (c .before .before .bytes .ensures)
 
 slice-aggregate-bytes-2 : tie.Need-slice-aggregate-bytes-2
 slice-aggregate-bytes-2 c = search needs
@@ -30,7 +33,12 @@ same-length-2 : tie.Need-same-length-2
 same-length-2 c = search needs
 
 returns-2 : tie.Need-returns-2
-returns-2 c = told (sym (backslash-escaped (c .before .before .before .before .before .before .before .before .args .b) (c .before .before .before .before .before .before .if1 .left) (c .before .before .before .before .before .if2 .taken))) (c .before .before .bytes2 .ensures)
+returns-2 c =
+    let at-if2 = c .before .before .before .before .before in
+    told
+    (sym
+    (backslash-escaped (at-if2 .before .before .before .args .b) (at-if2 .before .if1 .left)
+    (at-if2 .if2 .taken))) (c .before .before .bytes2 .ensures)
 
 slice-aggregate-bytes-3 : tie.Need-slice-aggregate-bytes-3
 slice-aggregate-bytes-3 c = search needs
@@ -55,9 +63,15 @@ same-length-3 c = search needs
 
 returns-3 : tie.Need-returns-3
 returns-3 c =
+    let at-byte = c .before .before .before .before .before .before .before in
+    let at-bytes3 = at-byte .before .before .before .before .before in
+    let at-if2 = at-bytes3 .before .before .before .before in
     told
-    (sym (control-escaped (c .before .before .before .before .before .before .before .before .before .before .before .before .before .before .before .before .before .before .before .args .b) (c .before .before .before .before .before .before .before .before .before .before .before .before .before .before .before .before .before .if1 .left) (c .before .before .before .before .before .before .before .before .before .before .before .before .before .before .before .before .if2 .left) (omega arith) ∙ rw (← c .before .before .before .before .before .before .before .before .hex .ensures, ← c .before .before .before .hex2 .ensures)))
-    (then (then (c .before .before .before .before .before .before .before .before .before .before .before .before .bytes3 .ensures) (c .before .before .before .before .before .before .before .byte .ensures)) (c .before .before .byte2 .ensures))
+    (sym
+    (control-escaped (at-if2 .before .before .before .args .b) (at-if2 .before .if1 .left)
+    (at-if2 .if2 .left) (omega arith) ∙ rw
+    (← at-byte .before .hex .ensures, ← c .before .before .before .hex2 .ensures)))
+    (then (then (at-bytes3 .bytes3 .ensures) (at-byte .byte .ensures)) (c .before .before .byte2 .ensures))
 
 byte-requires-3 : tie.Need-byte-requires-3
 byte-requires-3 c κs = search needs
@@ -66,7 +80,12 @@ same-length-4 : tie.Need-same-length-4
 same-length-4 c = search needs
 
 returns-4 : tie.Need-returns-4
-returns-4 c = told (sym (byte-itself (c .before .before .before .before .before .before .before .before .args .b) (c .before .before .before .before .before .before .if1 .left) (c .before .before .before .before .before .if2 .left) (omega arith))) (c .before .before .byte3 .ensures)
+returns-4 c =
+    let at-if2 = c .before .before .before .before .before in
+    told
+    (sym
+    (byte-itself (at-if2 .before .before .before .args .b) (at-if2 .before .if1 .left) (at-if2 .if2 .left)
+    (omega arith))) (c .before .before .byte3 .ensures)
 
 pub quoted-byte-spec : {M : Type 1} → statement M
 quoted-byte-spec =

@@ -16,7 +16,9 @@ abbrev μ-loop : tie.MeasureT-loop
 μ-loop out₀ limit at s work nodes here₀ last₀ i₀ out here last i = length nodes - i
 
 loop-holds : tie.Need-loop-holds Inv-loop μ-loop
-loop-holds c = laying (c .before .before .before .before .args .s .now) (c .before .before .before .before .args .work .now) (c .before .before .before .before .args .nodes .now) (c .before .before .before .before .pre .0)
+loop-holds c =
+    let a = c .before .before .before .before .args in
+    laying (a .s .now) (a .work .now) (a .nodes .now) (c .before .before .before .before .pre .0)
 
 mul-start-at : tie.Need-mul-start-at Inv-loop μ-loop
 mul-start-at c = search needs
@@ -25,13 +27,32 @@ shared-slice-read-start-at : tie.Need-shared-slice-read-start-at Inv-loop μ-loo
 shared-slice-read-start-at c = search needs
 
 cast-start-at : tie.Need-cast-start-at Inv-loop μ-loop
-cast-start-at c = let n = text-getD (c .before .before .before .before .before .before .before .args .s .now) (c .before .before .before .before .before .before .before .args .work .now) (c .before .before .before .before .before .before .before .args .nodes .now) (c .before .before .loop .i) (c .before .before .before .before .before .before .before .pre .2) (c .before .loop-test .taken) in record { fits = omega (arith, n .small) }
+cast-start-at c =
+    let at-start = c .before .before .before .before .before .before .before in
+    let a = at-start .args in
+    let n = text-getD (a .s .now) (a .work .now) (a .nodes .now) (c .before .before .loop .i)
+    (at-start .pre .2) (c .before .loop-test .taken) in
+    record { fits = omega (arith, n .small) }
 
 start-at-requires : tie.Need-start-at-requires Inv-loop μ-loop
-start-at-requires c κs = let n = text-getD (c .before .before .before .before .before .before .before .args .s .now) (c .before .before .before .before .before .before .before .args .work .now) (c .before .before .before .before .before .before .before .args .nodes .now) (c .before .before .loop .i) (c .before .before .before .before .before .before .before .pre .2) (c .before .loop-test .taken) in (omega (arith, n .small, c .before .before .before .before .before .before .before .pre .1), n .small)
+start-at-requires c κs =
+    let at-start = c .before .before .before .before .before .before .before in
+    let a = at-start .args in
+    let n = text-getD (a .s .now) (a .work .now) (a .nodes .now) (c .before .before .loop .i)
+    (at-start .pre .2) (c .before .loop-test .taken) in
+    (omega (arith, n .small, at-start .pre .1), n .small)
 
 element-once-requires : tie.Need-element-once-requires Inv-loop μ-loop
-element-once-requires c κs = (c .before .before .before .before .loop .inv .going .room, c .before .before .before .before .loop .inv .isText, on-text (text-getD (c .before .before .before .before .before .before .before .before .before .args .s .now) (c .before .before .before .before .before .before .before .before .before .args .work .now) (c .before .before .before .before .before .before .before .before .before .args .nodes .now) (c .before .before .before .before .loop .i) (c .before .before .before .before .before .before .before .before .before .pre .2) (c .before .before .before .loop-test .taken)) (c .before .start-at .ensures))
+element-once-requires c κs =
+    let at-loop = c .before .before .before .before in
+    let at-start = at-loop .before .before .before .before .before in
+    let a = at-start .args in (
+      at-loop .loop .inv .going .room,
+      at-loop .loop .inv .isText,
+      on-text
+          (text-getD (a .s .now) (a .work .now) (a .nodes .now) (at-loop .loop .i) (at-start .pre .2)
+          (c .before .before .before .loop-test .taken)) (c .before .start-at .ensures),
+    )
 
 add-i : tie.Need-add-i Inv-loop μ-loop
 add-i c = search needs
@@ -40,7 +61,16 @@ loop-less : tie.Need-loop-less Inv-loop μ-loop
 loop-less c = omega (arith, c .before .before .before .before .before .before .loop-test .taken)
 
 loop-again : tie.Need-loop-again Inv-loop μ-loop
-loop-again c = lay-on (c .before .before .before .before .before .before .before .loop .inv) (c .before .before .before .before .before .before .loop-test .taken) (c .before .before .before .before .start-at .ensures) (on-text (text-getD (c .before .before .before .before .before .before .before .before .before .before .before .before .args .s .now) (c .before .before .before .before .before .before .before .before .before .before .before .before .args .work .now) (c .before .before .before .before .before .before .before .before .before .before .before .before .args .nodes .now) (c .before .before .before .before .before .before .before .loop .i) (c .before .before .before .before .before .before .before .before .before .before .before .before .pre .2) (c .before .before .before .before .before .before .loop-test .taken)) (c .before .before .before .before .start-at .ensures)) (c .before .before .element-once .ensures)
+loop-again c =
+    let at-loop-test = c .before .before .before .before .before .before in
+    let at-start = at-loop-test .before .before .before .before .before .before in
+    let a = at-start .args in
+    lay-on (at-loop-test .before .loop .inv) (at-loop-test .loop-test .taken)
+    (c .before .before .before .before .start-at .ensures)
+    (on-text
+    (text-getD (a .s .now) (a .work .now) (a .nodes .now) (at-loop-test .before .loop .i)
+    (at-start .pre .2) (at-loop-test .loop-test .taken))
+    (c .before .before .before .before .start-at .ensures)) (c .before .before .element-once .ensures)
 
 same-length : tie.Need-same-length Inv-loop μ-loop
 same-length c = c .before .loop .inv .going .size

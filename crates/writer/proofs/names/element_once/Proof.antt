@@ -10,7 +10,9 @@ is-again-requires : tie.Need-is-again-requires
 is-again-requires c κs = search needs
 
 returns : tie.Need-returns
-returns c = rw (sym (c .before .is-again .ensures) ∙ c .if1 .taken) (nothing (c .before .before .before .before .pre .0))
+returns c =
+    rw (sym (c .before .is-again .ensures) ∙ c .if1 .taken)
+    (nothing (c .before .before .before .before .pre .0))
 
 element-requires : tie.Need-element-requires
 element-requires c κs = search needs
@@ -19,7 +21,10 @@ same-length : tie.Need-same-length
 same-length c = search needs
 
 returns-2 : tie.Need-returns-2
-returns-2 c = rw (sym (c .before .before .before .before .before .is-again .ensures) ∙ c .before .before .before .before .if1 .left) (c .before .before .element .ensures)
+returns-2 c =
+    rw
+    (sym (c .before .before .before .before .before .is-again .ensures) ∙
+    c .before .before .before .before .if1 .left) (c .before .before .element .ensures)
 
 pub element-once-spec : {M : Type 1} → statement M
 element-once-spec =

@@ -13,7 +13,12 @@ enum-known-last : tie.Need-enum-known-last
 enum-known-last c = search needs
 
 same-requires : tie.Need-same-requires
-same-requires c κs = (is-text (c .before .before .before .before .args .s .now) (c .before .last .given .0 .0) (c .before .before .before .before .pre .0) (c .before .last .given .1), c .before .before .before .before .pre .1)
+same-requires c κs =
+    let at-start = c .before .before .before .before in (
+      is-text (at-start .args .s .now) (c .before .last .given .0 .0) (at-start .pre .0)
+          (c .before .last .given .1),
+      at-start .pre .1,
+    )
 
 returns : tie.Need-returns
 unfolding isAgain
@@ -21,7 +26,10 @@ returns c = rw (is-none (c .before .before .before .args .s .now) (c .enum-told 
 
 returns-2 : tie.Need-returns-2
 unfolding isAgain
-returns-2 c = rw (is-some (c .before .before .before .before .before .args .s .now) (c .before .before .last .given .0 .0) (c .before .before .last .given .1)) (c .same .ensures)
+returns-2 c =
+    rw
+    (is-some (c .before .before .before .before .before .args .s .now) (c .before .before .last .given .0 .0)
+    (c .before .before .last .given .1)) (c .same .ensures)
 
 pub is-again-spec : {M : Type 1} → statement M
 is-again-spec = tie.close (tie.spec enum-told enum-known-last same-requires returns returns-2)

@@ -29,13 +29,21 @@ cast-nodes : tie.Need-cast-nodes Inv-loop μ-loop
 cast-nodes c = record { fits = omega (arith, c .before .before .loop-test .taken) }
 
 mul-nodes : tie.Need-mul-nodes Inv-loop μ-loop
-mul-nodes c = record { fits = omega (arith, c .before .before .loop-test .taken, c .before .before .before .loop .inv .few) }
+mul-nodes c =
+    record {
+      fits = omega (arith, c .before .before .loop-test .taken, c .before .before .before .loop .inv .few);
+    }
 
 slice-write-nodes : tie.Need-slice-write-nodes Inv-loop μ-loop
-slice-write-nodes c = omega (arith, c .before .before .loop-test .taken, c .before .before .before .loop .inv .few, c .before .before .before .loop .inv .room)
+slice-write-nodes c =
+    let inv = c .before .before .before .loop .inv in
+    omega (arith, c .before .before .loop-test .taken, inv .few, inv .room)
 
 add-count : tie.Need-add-count Inv-loop μ-loop
-add-count c = record { fits = omega (arith, c .before .before .loop-test .taken, c .before .before .before .loop .inv .few) }
+add-count c =
+    record {
+      fits = omega (arith, c .before .before .loop-test .taken, c .before .before .before .loop .inv .few);
+    }
 
 add-k : tie.Need-add-k Inv-loop μ-loop
 add-k c = record { fits = omega (arith, c .before .before .loop-test .taken) }
@@ -45,9 +53,10 @@ loop-less c = omega (arith, c .before .before .loop-test .taken)
 
 loop-again : tie.Need-loop-again Inv-loop μ-loop
 loop-again c =
-    let g = c .before .before .before .loop .inv in
     let h = c .before .before .loop-test .taken in
-    ⊎-elim (λ a. rw (a .1, a .2) (note g h (a .0 .taken))) (λ b. rw (b .1, b .2) (pass g h (b .0 .left))) (c .if1 .came)
+    let g = c .before .before .before .loop .inv in
+    ⊎-elim (λ a. rw (a .1, a .2) (note g h (a .0 .taken))) (λ b. rw (b .1, b .2) (pass g h (b .0 .left)))
+    (c .if1 .came)
 
 same-length : tie.Need-same-length Inv-loop μ-loop
 same-length c = c .before .loop .inv .long

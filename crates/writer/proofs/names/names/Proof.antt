@@ -29,7 +29,13 @@ slice-aggregate-sort-2 : tie.Need-slice-aggregate-sort-2
 slice-aggregate-sort-2 c = search needs
 
 sort-requires : tie.Need-sort-requires
-sort-requires c κs = (omega (arith, c .before .before .before .before .before .before .before .before .pre .1 .size), front-texts (c .before .before .before .marked-nodes .ensures) (c .before .before .before .before .before .before .before .before .pre .1), omega (arith, c .before .before .before .marked-nodes .ensures .few, front-long (c .before .before .before .marked-nodes .ensures)))
+sort-requires c κs =
+    let marked-nodes = c .before .before .before .marked-nodes in
+    let pre = c .before .before .before .before .before .before .before .before .pre in (
+      omega (arith, pre .1 .size),
+      front-texts (marked-nodes .ensures) (pre .1),
+      omega (arith, marked-nodes .ensures .few, front-long (marked-nodes .ensures)),
+    )
 
 slice-aggregate-bytes : tie.Need-slice-aggregate-bytes
 slice-aggregate-bytes c = search needs
@@ -38,13 +44,28 @@ bytes-requires : tie.Need-bytes-requires
 bytes-requires c κs = search needs
 
 array-share-prefix-nodes : tie.Need-array-share-prefix-nodes
-array-share-prefix-nodes c = sorted-fits (c .before .before .before .before .before .before .before .before .before .before .before .before .marked-nodes .ensures) (c .before .before .before .before .before .before .before .before .before .before .before .before .before .before .before .before .before .pre .1) (c .before .before .before .before .before .before .before .before .sort .ensures) (c .before .before .before .before .before .before .before .before .sort .kept .1 .1 .0) _
+array-share-prefix-nodes c =
+    let at-sort = c .before .before .before .before .before .before .before .before in
+    sorted-fits (at-sort .before .before .before .before .marked-nodes .ensures)
+    (at-sort .before .before .before .before .before .before .before .before .before .pre .1)
+    (at-sort .sort .ensures) (at-sort .sort .kept .1 .1 .0) _
 
 slice-aggregate-each-once : tie.Need-slice-aggregate-each-once
-slice-aggregate-each-once c = sorted-long (c .before .before .before .before .before .before .before .before .before .before .before .before .before .marked-nodes .ensures) (c .before .before .before .before .before .before .before .before .before .before .before .before .before .before .before .before .before .before .pre .1) (c .before .before .before .before .before .before .before .before .before .sort .ensures) (c .before .before .before .before .before .before .before .before .before .sort .kept .1 .1 .0) _
+slice-aggregate-each-once c =
+    let at-sort = c .before .before .before .before .before .before .before .before .before in
+    sorted-long (at-sort .before .before .before .before .marked-nodes .ensures)
+    (at-sort .before .before .before .before .before .before .before .before .before .pre .1)
+    (at-sort .sort .ensures) (at-sort .sort .kept .1 .1 .0) _
 
 each-once-requires : tie.Need-each-once-requires
-each-once-requires c κs = (c .before .before .before .before .bytes .ensures .room, omega (arith, c .before .before .before .before .before .before .before .before .before .before .before .before .before .before .before .before .before .before .pre .1 .size), sorted-texts (c .before .before .before .before .before .before .before .before .before .before .before .before .before .marked-nodes .ensures) (c .before .before .before .before .before .before .before .before .before .before .before .before .before .before .before .before .before .before .pre .1) (c .before .before .before .before .before .before .before .before .before .sort .ensures) (c .before .before .before .before .before .before .before .before .before .sort .kept .1 .1 .0) _)
+each-once-requires c κs =
+    let at-sort = c .before .before .before .before .before .before .before .before .before in
+    let pre = at-sort .before .before .before .before .before .before .before .before .before .pre in (
+      c .before .before .before .before .bytes .ensures .room,
+      omega (arith, pre .1 .size),
+      sorted-texts (at-sort .before .before .before .before .marked-nodes .ensures) (pre .1)
+          (at-sort .sort .ensures) (at-sort .sort .kept .1 .1 .0) _,
+    )
 
 byte-requires : tie.Need-byte-requires
 byte-requires c κs = search needs
@@ -54,14 +75,20 @@ same-length c = search needs
 
 returns : tie.Need-returns
 returns c =
-    let s = c .before .before .before .before .before .before .before .before .before .before .before .before .before .before .before .before .before .before .before .before .before .before .before .before .before .args .s .now in
-    let w = c .before .before .before .before .before .before .before .before .before .before .before .before .before .before .before .before .before .before .before .before .before .before .before .before .before .args .work .now in
-    told
-    (listed-is (ascii "names") (ascending (marked s w)))
+    let at-bytes =
+    c .before .before .before .before .before .before .before .before .before .before .before in
+    let at-sort = at-bytes .before .before .before .before .before in
+    let at-start = at-sort .before .before .before .before .before .before .before .before .before in
+    let s = at-start .args .s .now in
+    let w = at-start .args .work .now in
+    told (listed-is (ascii "names") (ascending (marked s w)))
+    (then (at-bytes .bytes .ensures)
     (then
-    (c .before .before .before .before .before .before .before .before .before .before .before .bytes .ensures)
-    (then
-    (told (ap elements (sorted-once (c .before .before .before .before .before .before .before .before .before .before .before .before .before .before .before .before .before .before .before .before .marked-nodes .ensures) (c .before .before .before .before .before .before .before .before .before .before .before .before .before .before .before .before .before .before .before .before .before .before .before .before .before .pre .1) (c .before .before .before .before .before .before .before .before .before .before .before .before .before .before .before .before .sort .ensures) (c .before .before .before .before .before .before .before .before .before .before .before .before .before .before .before .before .sort .kept .1 .1 .0) _)) (c .before .before .before .before .before .before .each-once .ensures))
+    (told
+    (ap elements
+    (sorted-once (at-sort .before .before .before .before .marked-nodes .ensures) (at-start .pre .1)
+    (at-sort .sort .ensures) (at-sort .sort .kept .1 .1 .0) _))
+    (c .before .before .before .before .before .before .each-once .ensures))
     (c .before .before .byte .ensures)))
 
 pub names-spec : {M : Type 1} → statement M

@@ -23,7 +23,9 @@ begin-requires c κs = search needs
 loop-holds : tie.Need-loop-holds Inv-loop μ-loop
 loop-holds c =
     let start = c .before .before .before .before .before .before .before in
-    rw (c .begin .ensures) (quoting (start .args .s .now) (start .args .text) (c .before .before .before .byte .ensures .room) (start .pre .1))
+    rw (c .begin .ensures)
+    (quoting (start .args .s .now) (start .args .text) (c .before .before .before .byte .ensures .room)
+    (start .pre .1))
 
 next-requires : tie.Need-next-requires Inv-loop μ-loop
 next-requires c κs = c .loop .inv .onText
@@ -38,7 +40,11 @@ same-length : tie.Need-same-length Inv-loop μ-loop
 same-length c = search needs
 
 returns : tie.Need-returns Inv-loop μ-loop
-returns c = then (c .before .before .before .before .before .before .before .before .before .before .before .byte .ensures) (closed (c .before .before .before .before .before .before .before .loop .inv) (c .before .before .before .before .before .before .next .ensures) (c .before .before .before .before .enum-told .given .1) (c .before .before .byte2 .ensures))
+returns c =
+    let at-next = c .before .before .before .before .before .before in
+    then (at-next .before .before .before .before .before .byte .ensures)
+    (closed (at-next .before .loop .inv) (at-next .next .ensures)
+    (c .before .before .before .before .enum-told .given .1) (c .before .before .byte2 .ensures))
 
 enum-known-t : tie.Need-enum-known-t Inv-loop μ-loop
 enum-known-t c = search needs
@@ -47,10 +53,15 @@ quoted-byte-requires : tie.Need-quoted-byte-requires Inv-loop μ-loop
 quoted-byte-requires c κs = c .before .before .before .before .before .loop .inv .going .room
 
 loop-less : tie.Need-loop-less Inv-loop μ-loop
-loop-less c = was-byte (c .before .before .before .before .before .before .t .given .0 .0) (c .before .before .before .before .before .before .before .before .next .ensures) (c .before .before .before .before .before .before .t .given .1) .falls
+loop-less c =
+    let at-t = c .before .before .before .before .before .before in
+    was-byte (at-t .t .given .0 .0) (at-t .before .before .next .ensures) (at-t .t .given .1) .falls
 
 loop-again : tie.Need-loop-again Inv-loop μ-loop
-loop-again c = on (c .before .before .before .before .before .before .before .before .before .loop .inv) (c .before .before .before .before .before .before .t .given .0 .0) (c .before .before .before .before .before .before .before .before .next .ensures) (c .before .before .before .before .before .before .t .given .1) (c .before .before .before .quoted-byte .ensures)
+loop-again c =
+    let at-t = c .before .before .before .before .before .before in
+    on (at-t .before .before .before .loop .inv) (at-t .t .given .0 .0) (at-t .before .before .next .ensures)
+    (at-t .t .given .1) (c .before .before .before .quoted-byte .ensures)
 
 pub quoted-spec : {M : Type 1} → statement M
 quoted-spec =

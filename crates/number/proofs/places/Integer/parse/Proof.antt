@@ -17,13 +17,17 @@ abbrev μ-loop : tie.MeasureT-loop
 μ-loop s at more negative digits₀ count₀ carry₀ i₀ digits count carry i = i
 
 abbrev Inv-loop2 : tie.InvT-loop2
-Inv-loop2 s at more negative digits₀ count₀ carry₀ i digits count carry = Carrying (natural 0 (drop at s) + more) digits count carry
+Inv-loop2 s at more negative digits₀ count₀ carry₀ i digits count carry =
+    Carrying (natural 0 (drop at s) + more) digits count carry
 
 abbrev μ-loop2 : tie.MeasureT-loop2
 μ-loop2 s at more negative digits₀ count₀ carry₀ i digits count carry = carry
 
 loop-holds : tie.Need-loop-holds Inv-loop μ-loop Inv-loop2 μ-loop2
-loop-holds c = reading (c .before .args .s .now) (c .before .args .at) (c .before .args .more) (c .before .pre .1) (c .before .pre .0) (c .before .pre .2) _ none-written
+loop-holds c =
+    let a = c .before .args in
+    reading (a .s .now) (a .at) (a .more) (c .before .pre .1) (c .before .pre .0) (c .before .pre .2) _
+    none-written
 
 sub-i : tie.Need-sub-i Inv-loop μ-loop Inv-loop2 μ-loop2
 sub-i c = omega arith
@@ -35,25 +39,52 @@ digit-requires : tie.Need-digit-requires Inv-loop μ-loop Inv-loop2 μ-loop2
 digit-requires c κs = search needs
 
 add-t : tie.Need-add-t Inv-loop μ-loop Inv-loop2 μ-loop2
-add-t c = omega (arith, c .digit .ensures, c .before .before .before .loop .inv .small, c .before .shared-slice-known2 .given (c .before .before .before .loop .i - 1))
+add-t c =
+    omega (
+      arith,
+      c .digit .ensures,
+      c .before .before .before .loop .inv .small,
+      c .before .shared-slice-known2 .given (c .before .before .before .loop .i - 1),
+    )
 
 cast-digits : tie.Need-cast-digits Inv-loop μ-loop Inv-loop2 μ-loop2
 cast-digits c = omega arith
 
 array-write-digits : tie.Need-array-write-digits Inv-loop μ-loop Inv-loop2 μ-loop2
-array-write-digits c = omega (arith, c .before .before .before .loop .inv .upto, c .before .before .before .before .before .pre .1)
+array-write-digits c =
+    omega (
+      arith,
+      c .before .before .before .loop .inv .upto,
+      c .before .before .before .before .before .pre .1,
+    )
 
 add-count : tie.Need-add-count Inv-loop μ-loop Inv-loop2 μ-loop2
-add-count c = omega (arith, c .before .before .before .loop .inv .upto, c .before .before .before .before .before .pre .1)
+add-count c =
+    omega (
+      arith,
+      c .before .before .before .loop .inv .upto,
+      c .before .before .before .before .before .pre .1,
+    )
 
 loop-less : tie.Need-loop-less Inv-loop μ-loop Inv-loop2 μ-loop2
 loop-less c = omega arith
 
 loop-again : tie.Need-loop-again Inv-loop μ-loop Inv-loop2 μ-loop2
-loop-again c = read-on (c .before .before .before .before .before .args .s .now) (c .before .before .before .before .before .args .at) (c .before .before .before .before .before .args .more) (c .before .before .before .before .before .pre .1) (c .before .before .before .loop .digits) (c .before .before .before .loop .count) (c .before .before .before .loop .carry) (c .before .before .before .loop .i) _ (c .before .before .before .loop .inv) (c .before .before .loop-test .taken) (ap (λ (z : ℕ). z + c .before .before .before .loop .carry) (c .digit .ensures)) (omega (arith, c .before .shared-slice-known2 .given (c .before .before .before .loop .i - 1)))
+loop-again c =
+    let at-loop = c .before .before .before in
+    let loop = at-loop .loop in
+    let a = at-loop .before .before .args in
+    read-on (a .s .now) (a .at) (a .more) (at-loop .before .before .pre .1) (loop .digits) (loop .count)
+    (loop .carry) (loop .i) _ (loop .inv) (c .before .before .loop-test .taken)
+    (ap (λ (z : ℕ). z + loop .carry) (c .digit .ensures))
+    (omega (arith, c .before .shared-slice-known2 .given (loop .i - 1)))
 
 loop2-holds : tie.Need-loop2-holds Inv-loop μ-loop Inv-loop2 μ-loop2
-loop2-holds c = all-read (c .before .before .before .args .s .now) (c .before .before .before .args .at) (c .before .before .before .args .more) (c .before .before .before .pre .1) (c .before .loop .digits) (c .before .loop .count) (c .before .loop .carry) (c .before .loop .i) (c .before .loop .inv) (c .loop-test .left)
+loop2-holds c =
+    let loop = c .before .loop in
+    let a = c .before .before .before .args in
+    all-read (a .s .now) (a .at) (a .more) (c .before .before .before .pre .1) (loop .digits) (loop .count)
+    (loop .carry) (loop .i) (loop .inv) (c .loop-test .left)
 
 cast-digits-2 : tie.Need-cast-digits-2 Inv-loop μ-loop Inv-loop2 μ-loop2
 cast-digits-2 c = omega arith

@@ -19,9 +19,10 @@ larger-requires c κs = search needs
 
 order-requires : tie.Need-order-requires
 order-requires c κs =
-    let l = c .before .before .before .before .larger .ensures in
-    let x = c .before .before .before .before .before .before .places .ensures .0 in
-    let y = c .before .before .before .before .before .places2 .ensures .0 in
+    let at-larger = c .before .before .before .before in
+    let l = at-larger .larger .ensures in
+    let y = at-larger .before .places2 .ensures .0 in
+    let x = at-larger .before .before .places .ensures .0 in
     let k = l .1 260 (x .digits .few) (y .digits .few) in
     ((wider _ _ _ (l .0 .0) k (x .digits), wider _ _ _ (l .0 .1) k (y .digits)), (x .sign, y .sign))
 
@@ -39,18 +40,33 @@ enum-told-3 c = search needs
 
 returns : tie.Need-returns
 returns c =
-    let a = c .before .before .before .before .before .before .before .before .before .before .before .before .args in
-    sym (places-less (a .left .now) (a .right .now) _ _ (c .before .before .before .before .before .before .before .before .before .places .ensures .1) (c .before .before .before .before .before .before .before .before .places2 .ensures .1) (sym (c .before .before .order .ensures) ∙ ap orderOf (c .enum-told .given .1)))
+    let at-places2 = c .before .before .before .before .before .before .before .before in
+    let a = at-places2 .before .before .before .before .args in
+    sym
+    (places-less (a .left .now) (a .right .now) _ _ (at-places2 .before .places .ensures .1)
+    (at-places2 .places2 .ensures .1)
+    (sym (c .before .before .order .ensures) ∙ ap orderOf (c .enum-told .given .1)))
 
 returns-2 : tie.Need-returns-2
 returns-2 c =
-    let a = c .before .before .before .before .before .before .before .before .before .before .before .before .before .before .before .args in
-    c .digits .ensures ∙ sym (places-same (a .left .now) (a .right .now) _ _ (c .before .before .before .before .before .before .before .before .before .before .before .before .places .ensures .1) (c .before .before .before .before .before .before .before .before .before .before .before .places2 .ensures .1) (a .self) (a .other) (c .before .before .before .before .before .before .before .before .before .before .before .before .before .before .before .pre .0 .0) (c .before .before .before .before .before .before .before .before .before .before .before .before .before .before .before .pre .1 .0) (sym (c .before .before .before .before .before .order .ensures) ∙ ap orderOf (c .before .before .before .enum-told2 .given .1)))
+    let at-places2 =
+    c .before .before .before .before .before .before .before .before .before .before .before in
+    let at-start = at-places2 .before .before .before .before in
+    let a = at-start .args in
+    c .digits .ensures ∙ sym
+    (places-same (a .left .now) (a .right .now) _ _ (at-places2 .before .places .ensures .1)
+    (at-places2 .places2 .ensures .1) (a .self) (a .other) (at-start .pre .0 .0) (at-start .pre .1 .0)
+    (sym (c .before .before .before .before .before .order .ensures) ∙ ap orderOf
+    (c .before .before .before .enum-told2 .given .1)))
 
 returns-3 : tie.Need-returns-3
 returns-3 c =
-    let a = c .before .before .before .before .before .before .before .before .before .before .before .before .args in
-    sym (places-more (a .left .now) (a .right .now) _ _ (c .before .before .before .before .before .before .before .before .before .places .ensures .1) (c .before .before .before .before .before .before .before .before .places2 .ensures .1) (sym (c .before .before .order .ensures) ∙ ap orderOf (c .enum-told3 .given .1)))
+    let at-places2 = c .before .before .before .before .before .before .before .before in
+    let a = at-places2 .before .before .before .before .args in
+    sym
+    (places-more (a .left .now) (a .right .now) _ _ (at-places2 .before .places .ensures .1)
+    (at-places2 .places2 .ensures .1)
+    (sym (c .before .before .order .ensures) ∙ ap orderOf (c .enum-told3 .given .1)))
 
 pub magnitude-spec : {M : Type 1} → statement M
 magnitude-spec =

@@ -21,7 +21,12 @@ add-zeros : tie.Need-add-zeros
 add-zeros c = search needs
 
 zeros-requires-2 : tie.Need-zeros-requires-2
-zeros-requires-2 c κs = omega (arith, point-within (c .before .before .before .before .before .args .s .now) (c .before .before .zeros .result) (sym (c .before .point-at .ensures) ∙ c .if1 .taken))
+zeros-requires-2 c κs =
+    omega (
+      arith,
+      point-within (c .before .before .before .before .before .args .s .now)
+          (c .before .before .zeros .result) (sym (c .before .point-at .ensures) ∙ c .if1 .taken),
+    )
 
 part-requires : tie.Need-part-requires
 part-requires c κs = search needs
@@ -39,7 +44,15 @@ behind-requires : tie.Need-behind-requires
 behind-requires c κs = search needs
 
 returns : tie.Need-returns
-returns c = parsed-fraction (c .before .before .before .before .before .before .before .before .args .s .now) (c .before .before .before .before .before .before .sign .result .next) (c .before .before .before .before .before .zeros .result) (c .before .before .before .before .before .before .sign .ensures .rest) (c .before .before .before .before .before .zeros .ensures) (c .before .before .zeros2 .result) (sym (c .before .before .before .before .point-at .ensures) ∙ c .before .before .before .if1 .taken) (c .before .before .zeros2 .ensures) (c .before .part .result) (c .before .part .ensures) (c .behind .result) (c .behind .ensures) (c .before .before .before .before .before .before .sign .result .negative) (c .before .before .before .before .before .before .sign .ensures .negative)
+returns c =
+    let at-if1 = c .before .before .before in
+    let at-zeros = at-if1 .before .before in
+    let sign = at-zeros .before .sign in
+    parsed-fraction (at-zeros .before .before .before .args .s .now) (sign .result .next)
+    (at-zeros .zeros .result) (sign .ensures .rest) (at-zeros .zeros .ensures)
+    (c .before .before .zeros2 .result) (sym (at-if1 .before .point-at .ensures) ∙ at-if1 .if1 .taken)
+    (c .before .before .zeros2 .ensures) (c .before .part .result) (c .before .part .ensures)
+    (c .behind .result) (c .behind .ensures) (sign .result .negative) (sign .ensures .negative)
 
 part-requires-2 : tie.Need-part-requires-2
 part-requires-2 c κs = search needs
@@ -54,10 +67,22 @@ sub-t20 : tie.Need-sub-t20
 sub-t20 c = search needs
 
 behind-requires-2 : tie.Need-behind-requires-2
-behind-requires-2 c κs = fraction-upto (c .before .before .before .before .before .before .before .before .args .s .now) (c .before .before .part2 .result) (c .before .fraction .result) (c .before .fraction .ensures) (c .before .before .part2 .ensures .upto)
+behind-requires-2 c κs =
+    fraction-upto (c .before .before .before .before .before .before .before .before .args .s .now)
+    (c .before .before .part2 .result) (c .before .fraction .result) (c .before .fraction .ensures)
+    (c .before .before .part2 .ensures .upto)
 
 returns-2 : tie.Need-returns-2
-returns-2 c = parsed-whole (c .before .before .before .before .before .before .before .before .before .args .s .now) (c .before .before .before .before .before .before .before .sign .result .next) (c .before .before .before .before .before .before .zeros .result) (c .before .before .before .before .before .before .before .sign .ensures .rest) (c .before .before .before .before .before .before .zeros .ensures) (sym (c .before .before .before .before .before .point-at .ensures) ∙ c .before .before .before .before .if1 .left) (c .before .before .before .part2 .result) (c .before .before .fraction .result) (c .before .before .before .part2 .ensures) (c .behind2 .result) (c .behind2 .ensures) (c .before .before .before .before .before .before .before .sign .result .negative) (c .before .before .before .before .before .before .before .sign .ensures .negative) (c .before .before .fraction .ensures)
+returns-2 c =
+    let at-part2 = c .before .before .before in
+    let at-zeros = at-part2 .before .before .before in
+    let sign = at-zeros .before .sign in
+    parsed-whole (at-zeros .before .before .before .args .s .now) (sign .result .next)
+    (at-zeros .zeros .result) (sign .ensures .rest) (at-zeros .zeros .ensures)
+    (sym (at-part2 .before .before .point-at .ensures) ∙ at-part2 .before .if1 .left)
+    (at-part2 .part2 .result) (c .before .before .fraction .result) (at-part2 .part2 .ensures)
+    (c .behind2 .result) (c .behind2 .ensures) (sign .result .negative) (sign .ensures .negative)
+    (c .before .before .fraction .ensures)
 
 pub parse-spec : {M : Type 1} → statement M
 parse-spec =

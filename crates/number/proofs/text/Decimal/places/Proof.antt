@@ -14,22 +14,36 @@ sub-sum : tie.Need-sub-sum
 sub-sum c = search needs
 
 sum-requires : tie.Need-sum-requires
-sum-requires c κs = let p = c .before .before .before .pre in ((c .before .sign .ensures .upto, p .1, omega (arith, p .0 .leadsUpto, p .1)), λ e. omega (arith, c .if1 .taken))
+sum-requires c κs =
+    let p = c .before .before .before .pre in (
+      (c .before .sign .ensures .upto, p .1, omega (arith, p .0 .leadsUpto, p .1)),
+      λ e. omega (arith, c .if1 .taken),
+    )
 
 returns : tie.Need-returns
 returns c =
-    let a = c .before .before .before .before .args in
-    let g = c .before .before .sign .ensures in
-    (c .sum .ensures .0, place-below (a .s .now) (a .self) (c .before .before .before .before .pre .0) (c .before .before .sign .result .next) (c .before .before .sign .result .negative) (g .negative) (g .rest) _ (c .before .if1 .taken) (c .sum .ensures .1))
+    let sign = c .before .before .sign in
+    let g = sign .ensures in
+    let a = c .before .before .before .before .args in (
+      c .sum .ensures .0,
+      place-below (a .s .now) (a .self) (c .before .before .before .before .pre .0) (sign .result .next)
+          (sign .result .negative) (g .negative) (g .rest) _ (c .before .if1 .taken) (c .sum .ensures .1),
+    )
 
 sum-requires-2 : tie.Need-sum-requires-2
-sum-requires-2 c κs = let p = c .before .before .before .pre in ((c .before .sign .ensures .upto, p .1, omega (arith, p .0 .wholeUpto, p .1)), λ e. absurd (false≢true e))
+sum-requires-2 c κs =
+    let p = c .before .before .before .pre in
+    ((c .before .sign .ensures .upto, p .1, omega (arith, p .0 .wholeUpto, p .1)), λ e. absurd (false≢true e))
 
 returns-2 : tie.Need-returns-2
 returns-2 c =
-    let a = c .before .before .before .before .args in
-    let g = c .before .before .sign .ensures in
-    (c .sum2 .ensures .0, place-above (a .s .now) (a .self) (c .before .before .before .before .pre .0) (c .before .before .sign .result .next) (c .before .before .sign .result .negative) (g .negative) (g .rest) _ (c .before .if1 .left) (c .sum2 .ensures .1))
+    let sign = c .before .before .sign in
+    let g = sign .ensures in
+    let a = c .before .before .before .before .args in (
+      c .sum2 .ensures .0,
+      place-above (a .s .now) (a .self) (c .before .before .before .before .pre .0) (sign .result .next)
+          (sign .result .negative) (g .negative) (g .rest) _ (c .before .if1 .left) (c .sum2 .ensures .1),
+    )
 
 pub places-spec : {M : Type 1} → statement M
 places-spec =
