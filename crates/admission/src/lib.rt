@@ -1,4 +1,4 @@
-// admission: split from rules.
+// Outcomes by place: which are eligible, where they start from, and whether the state admits one.
 pub mod admit;
 pub mod eligible;
 pub mod outcomes;

@@ -1,3 +1,3 @@
-// Rules, outcomes and admission on an accepted sheet. The definitions stand in specs/, the laws in proofs/.
+// The calls on an accepted sheet: the first eligible outcome, and what each call answers.
 pub mod call;
 pub mod select;

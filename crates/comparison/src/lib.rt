@@ -1,2 +1,2 @@
-// comparison: split from evaluation.
+// `exists` and the pair forms of two resolved operands.
 pub mod comparison;

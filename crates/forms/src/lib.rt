@@ -1,2 +1,2 @@
-// forms: split from line.
+// The bracketed form of each answer and refusal.
 pub mod form;

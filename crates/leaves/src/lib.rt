@@ -1,4 +1,4 @@
-// leaves: split from reader.
+// Values without parts, brackets, and the names of members: each gets its row; a repeated name is refused.
 pub mod bracket;
 pub mod leaf;
 pub mod names;

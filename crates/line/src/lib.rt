@@ -1,2 +1,2 @@
-// The line of an answer or a refusal. The definitions stand in specs/, the laws in proofs/.
+// The line of an answer or a refusal: measured, and then written where it fits.
 pub mod emit;

@@ -1,4 +1,4 @@
-// paths: split from operands.
+// Binders in force, the roots of expressions, and the steps of a path over the node table.
 pub mod children;
 pub mod frames;
 pub mod member;

@@ -1,4 +1,4 @@
-// resolving: split from operands.
+// Operands resolved without copies: expressions looked up, written arrays and objects part by part.
 pub mod layer;
 pub mod reach;
 pub mod resolve;

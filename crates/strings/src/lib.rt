@@ -1,4 +1,4 @@
-// strings: split from reader.
+// UTF-8, escapes, and texts of the sheet decoded as they are read; the rows of the node table.
 pub mod answer;
 pub mod escape;
 pub mod rows;

@@ -1,2 +1,2 @@
-// syntax: split from sheet.
+// The shape of conditions: the refusals 10 and 11.
 pub mod condition;

@@ -1,4 +1,4 @@
-// writer: split from line.
+// Bytes, digits, quoted texts and lists laid into an output, or only counted where there is no room.
 pub mod answer;
 pub mod lay;
 pub mod names;
