@@ -7,7 +7,7 @@ mod operand;
 pub mod random;
 mod sheet;
 mod small;
-mod world;
+pub mod world;
 
 use json::{Json, Style, Writer};
 use random::Random;
@@ -53,6 +53,11 @@ pub fn sheet(random: &mut Random, shape: &str) -> String {
             return text;
         }
     }
+}
+
+/// A drawn sheet to decide by, likely clean, and most likely within the limits.
+pub fn decision(random: &mut Random) -> Json {
+    sheet::decision(random)
 }
 
 /// Two number texts, often of one value.

@@ -133,6 +133,26 @@ pub fn mixed(random: &mut Random) -> Json {
     framed(&world, rest)
 }
 
+/// Rules and outcomes whose expressions are known ones; those of a binder that is never met are not.
+pub fn decision(random: &mut Random) -> Json {
+    let mut world = world(random);
+    world.unknown = 0;
+    world.unaddressed = if world.id.is_some() { world.unaddressed } else { 0 };
+    let mut rest = vec![
+        ("states", states(random)),
+        ("preconditions", rules(random, &world, 3)),
+        ("invariants", rules(random, &world, 1)),
+        ("outcomes", outcomes(random, &world, 5)),
+    ];
+    if random.chance(97) {
+        rest.push(("state", text(random.pick(STATES))));
+    }
+    if random.chance(20) {
+        rest.push(("condition", condition(random, &world, Aim::Any, 1)));
+    }
+    framed(&world, rest)
+}
+
 /// A condition and nothing else to decide.
 pub fn condition_alone(random: &mut Random) -> Json {
     let world = world(random);
