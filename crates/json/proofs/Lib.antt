@@ -17,6 +17,7 @@ pub mod Walk
 pub mod Prefix
 pub mod Texts
 pub mod Cursor
+pub mod Encoded
 pub mod Sorted
 pub mod KeyOrder
 pub mod Samples

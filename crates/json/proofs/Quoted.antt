@@ -27,7 +27,7 @@ abbrev lowest : ℕ → ℕ → ℕ
 lowest zero u = u
 lowest (suc n) u = lowest n (u * 16 + 0)
 
-abbrev highest : ℕ → ℕ → ℕ
+abbrev pub highest : ℕ → ℕ → ℕ
 highest zero u = u
 highest (suc n) u = highest n (u * 16 + 15)
 
@@ -35,7 +35,7 @@ lowest-mono : (n a b : ℕ) → a ≤ b → lowest n a ≤ lowest n b
 lowest-mono zero a b h = h
 lowest-mono (suc n) a b h = lowest-mono n (a * 16 + 0) (b * 16 + 0) (omega arith)
 
-highest-mono : (n a b : ℕ) → a ≤ b → highest n a ≤ highest n b
+pub highest-mono : (n a b : ℕ) → a ≤ b → highest n a ≤ highest n b
 highest-mono zero a b h = h
 highest-mono (suc n) a b h = highest-mono n (a * 16 + 15) (b * 16 + 15) (omega arith)
 
@@ -45,7 +45,7 @@ some-same e = cc
 none-some : {d : ℕ} {X : Type 0} → none ≡ some d → X
 none-some e = let z : _≡_ {A = Bool} true false = cc in absurd (true≢false z)
 
-hexDigit-small : (c d : ℕ) → hexDigit c ≡ some d → d ≤ 15
+pub hexDigit-small : (c d : ℕ) → hexDigit c ≡ some d → d ≤ 15
 hexDigit-small c d e = go (between 48 57 c) (between 65 70 c) (between 97 102 c) refl refl refl
   where
     go : (a b h : Bool) → between 48 57 c ≡ a → between 65 70 c ≡ b → between 97 102 c ≡ h → d ≤ 15
