@@ -1,6 +1,7 @@
 pub mod Laws
 pub mod Sound
 pub mod Complete
+pub mod Counting
 pub mod Ascii
 pub mod Outcome
 pub mod Tokens

@@ -10,6 +10,7 @@ pub mod Strings
 pub mod Numerals
 pub mod Reader
 pub mod Grammar
+pub mod Tally
 pub mod Fault
 pub mod Spans
 pub mod Placing
