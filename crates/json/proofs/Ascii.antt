@@ -18,6 +18,7 @@ use Rattle.json.specs.Reader.{start, startNothing}
 use Rattle.json.specs.Refusal.{Refusal}
 use Rattle.json.specs.Scan.{isSpace}
 use Rattle.json.specs.Strings.{hexDigit, simpleEscape}
+use Rattle.json.specs.Tally.{Tally}
 use Rattle.json.specs.Utf8.{Expect, after, lead, never, scalar, tail, utf8}
 
 abbrev pub isAscii : ℕ → Bool
@@ -96,11 +97,11 @@ start-ascii c n = ascii-unless c λ h. n (rw (apart c 34 h refl, apart c 45 h re
 pub unescaped-high : (c : ℕ) → isAscii c ≡ false → isUnescaped c ≡ true
 unescaped-high c h = rw (leb-true 32 c (omega (arith, high c h)), apart c 34 h refl, apart c 92 h refl) refl
 
-pub stands-ascii : {q : Refusal} {c : ℕ} → StandsAt q c → isAscii c ≡ true
-stands-ascii (StandsAt.bracket (inl e)) = rw e refl
-stands-ascii (StandsAt.bracket (inr e)) = rw e refl
-stands-ascii {c} (StandsAt.numeral h) = digit-ascii c h
-stands-ascii {c} (StandsAt.begins h) = start-ascii c h
+pub stands-ascii : {t : Tally} {c : ℕ} {q : Refusal} → StandsAt t c q → isAscii c ≡ true
+stands-ascii (StandsAt.bracket (inl e) x y) = rw e refl
+stands-ascii (StandsAt.bracket (inr e) x y) = rw e refl
+stands-ascii {c = c} (StandsAt.numeral h x y) = digit-ascii c h
+stands-ascii {c = c} (StandsAt.begins h x y) = start-ascii c h
 stands-ascii (StandsAt.quote e) = rw e refl
 
 -- what UTF-8 waits for, behind a byte that is ASCII or not

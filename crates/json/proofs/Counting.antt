@@ -116,7 +116,7 @@ chars-counted n d (Grammar.unescaped {c} {s = s} p t) = ap (λ z. tallied z s) (
     not-at b f = eqb-false c b λ i. true≢false (sym (subst (λ (y : ℕ). isUnescaped y ≡ true) i p) ∙ f)
 chars-counted n d (Chars.escape {c} {s = s} p e t q) = ap (λ (b : ℕ). tallied (further (tally n d Tally.quoted) b) s) p ∙ escape-counted n d e ∙ chars-counted n d t
 
-string-counted : {x s r : Bytes} (n d : ℕ) → Grammar.String x s r → tallied (clear n d) s ≡ tallied (clear (n + 1) d) r
+pub string-counted : {x s r : Bytes} (n d : ℕ) → Grammar.String x s r → tallied (clear n d) s ≡ tallied (clear (n + 1) d) r
 string-counted n d (Grammar.string {c} {s = s} p t) = ap (λ (b : ℕ). tallied (further (clear n d) b) s) p ∙ chars-counted (n + 1) d t
 
 -- ---- numbers
@@ -127,7 +127,7 @@ record Numbered (n d k : ℕ) (s r : Bytes) : Type 0 where
 pub number-byte : (n d k c : ℕ) → Tally.inNumber c ≡ true → further (tally n d (Tally.numeral k)) c ≡ tally n d (Tally.numeral (k + 1))
 number-byte n d k c h = ap (λ (b : Bool). choose ((b, tally n d (Tally.numeral (k + 1))) ∷ []) (Tally.begin n d (Tally.mark c))) h
 
-digit-byte : (c : ℕ) → between 48 57 c ≡ true → Tally.inNumber c ≡ true
+pub digit-byte : (c : ℕ) → between 48 57 c ≡ true → Tally.inNumber c ≡ true
 digit-byte c h = rw h refl
 
 pub digit-mark : (c : ℕ) → between 48 57 c ≡ true → Tally.mark c ≡ Tally.figure
@@ -135,7 +135,7 @@ digit-mark c h =
     let b = between-in 48 57 c h in
     rw (eqb-false c 91 (λ e. omega arith), eqb-false c 123 (λ e. omega arith), eqb-false c 93 (λ e. omega arith), eqb-false c 125 (λ e. omega arith), eqb-false c 34 (λ e. omega arith), eqb-false c 45 (λ e. omega arith), h, choose) refl
 
-nonzero-digit : (c : ℕ) → between 49 57 c ≡ true → between 48 57 c ≡ true
+pub nonzero-digit : (c : ℕ) → between 49 57 c ≡ true → between 48 57 c ≡ true
 nonzero-digit c h = let b = between-in 49 57 c h in between-of 48 57 c (omega arith) (omega arith)
 
 module _ (n d : ℕ) where
@@ -197,13 +197,13 @@ pub number-counted : {s r : Bytes} (n d : ℕ) → Number s r → Counted n d (n
 number-counted n d t = signed-counted n d (t .hasMinus) (t .hasInt) (t .hasFrac) (t .hasExp)
 
 -- ---- values
-counted-at : {n d m k : ℕ} {e : Tally.Ending} {s r : Bytes} → m ≡ k → Counted n d m e s r → Counted n d k e s r
+pub counted-at : {n d m k : ℕ} {e : Tally.Ending} {s r : Bytes} → m ≡ k → Counted n d m e s r → Counted n d k e s r
 counted-at {n} {d} {e = e} {s} {r} i h = subst (λ (x : ℕ). Counted n d x e s r) i h
 
-behind-of : {n d k m : ℕ} {e f : Tally.Ending} {s t r : Bytes} → tallied (tally n d e) s ≡ tallied (tally k d f) t → Counted k d m f t r → Counted n d m e s r
+pub behind-of : {n d k m : ℕ} {e f : Tally.Ending} {s t r : Bytes} → tallied (tally n d e) s ≡ tallied (tally k d f) t → Counted k d m f t r → Counted n d m e s r
 behind-of i h = record { ending = h .ending; settled = h .settled; same = i ∙ h .same }
 
-both : {n d k m : ℕ} {e : Tally.Ending} {s t r : Bytes} → Counted n d k e s t → ((f : Tally.Ending) → Settled f → Counted k d m f t r) → Counted n d m e s r
+pub both : {n d k m : ℕ} {e : Tally.Ending} {s t r : Bytes} → Counted n d k e s t → ((f : Tally.Ending) → Settled f → Counted k d m f t r) → Counted n d m e s r
 both h g = let k = g (h .ending) (h .settled) in record { ending = k .ending; settled = k .settled; same = h .same ∙ k .same }
 
 -- what stands in brackets
