@@ -102,7 +102,7 @@ stands-ascii (StandsAt.bracket (inl e) x y) = rw e refl
 stands-ascii (StandsAt.bracket (inr e) x y) = rw e refl
 stands-ascii {c = c} (StandsAt.numeral h x y) = digit-ascii c h
 stands-ascii {c = c} (StandsAt.begins h x y) = start-ascii c h
-stands-ascii (StandsAt.quote e) = rw e refl
+stands-ascii (StandsAt.quote e x) = rw e refl
 
 -- what UTF-8 waits for, behind a byte that is ASCII or not
 abbrev pub Fits : Expect → Bool → Type 0

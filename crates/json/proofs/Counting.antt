@@ -1,7 +1,7 @@
 -- What is counted over a JSON text are the nodes of its tree, and every bracket is closed again.
 -- Assumes nothing.
 use mathlib.Core.Bool.{Bool, false, false≢true, true, true≢false, _||_}
-use mathlib.Core.List.{append-nil, [], _++_, _∷_}
+use mathlib.Core.List.{append-assoc, [], _++_, _∷_}
 use mathlib.Core.Logic.{inl, inr, _⊎_}
 use mathlib.Core.Option.{Option, none, some}
 use mathlib.Core.Path.{ap, refl, subst, sym, _∙_, _≡_}
@@ -96,25 +96,56 @@ quoted-byte n d c p q = rw (p, q, choose) refl
 none-some : {d : ℕ} → none ≡ some d → ⊥
 none-some e = let z : _≡_ {A = Bool} true false = cc in true≢false z
 
-hex-counted : {k u v : ℕ} {s r : Bytes} (n d : ℕ) → Hex k u v s r → tallied (tally n d Tally.quoted) s ≡ tallied (tally n d Tally.quoted) r
-hex-counted n d noHex = refl
-hex-counted n d (oneHex {d = x} {c} {s} e k) = ap (λ t. tallied t s) (quoted-byte n d c (not-at 34 λ i. none-some i) (not-at 92 λ i. none-some i)) ∙ hex-counted n d k
+-- what stands in front of a rest, and what has been counted behind it
+pub record Over (t : Tally.Tally) (s r : Bytes) (t′ : Tally.Tally) : Type 0 where
+  pub part : Bytes
+  pub parts : s ≡ part ++ r
+  pub counted : tallied t part ≡ t′
+
+pub tallied-append : (t : Tally.Tally) (s r : Bytes) → tallied t (s ++ r) ≡ tallied (tallied t s) r
+tallied-append t [] r = refl
+tallied-append t (c ∷ s) r = tallied-append (further t c) s r
+
+pub over-same : {t t′ : Tally.Tally} {s r : Bytes} → Over t s r t′ → tallied t s ≡ tallied t′ r
+over-same {t} {r = r} o = ap (tallied t) (o .parts) ∙ tallied-append t (o .part) r ∙ ap (λ x. tallied x r) (o .counted)
+
+over-none : {t : Tally.Tally} {s : Bytes} → Over t s s t
+over-none = record { part = []; parts = refl; counted = refl }
+
+over-byte : {t t′ t″ : Tally.Tally} {c : ℕ} {s r : Bytes} → further t c ≡ t′ → Over t′ s r t″ → Over t (c ∷ s) r t″
+over-byte {c = c} e o = record { part = c ∷ o .part; parts = ap (λ (x : Bytes). c ∷ x) (o .parts); counted = ap (λ x. tallied x (o .part)) e ∙ o .counted }
+
+over-then : {t t′ t″ : Tally.Tally} {s u r : Bytes} → Over t s u t′ → Over t′ u r t″ → Over t s r t″
+over-then {t} {r = r} o p =
+    record {
+      part = o .part ++ p .part;
+      parts = o .parts ∙ ap (λ (x : Bytes). o .part ++ x) (p .parts) ∙ sym (append-assoc (o .part) (p .part) r);
+      counted = tallied-append t (o .part) (p .part) ∙ ap (λ x. tallied x (p .part)) (o .counted) ∙ p .counted;
+    }
+
+hex-over : {k u v : ℕ} {s r : Bytes} (n d : ℕ) → Hex k u v s r → Over (tally n d Tally.quoted) s r (tally n d Tally.quoted)
+hex-over n d noHex = over-none
+hex-over n d (oneHex {d = x} {c} e k) = over-byte (quoted-byte n d c (not-at 34 λ i. none-some i) (not-at 92 λ i. none-some i)) (hex-over n d k)
   where
     not-at : (b : ℕ) → (hexDigit b ≡ some x → ⊥) → eqb c b ≡ false
     not-at b f = eqb-false c b λ i. f (subst (λ (y : ℕ). hexDigit y ≡ some x) i e)
 
-escape-counted : {y s t : Bytes} (n d : ℕ) → Escape y s t → tallied (tally n d Tally.escaped) s ≡ tallied (tally n d Tally.quoted) t
-escape-counted n d (simple e) = refl
-escape-counted n d (unit e k p q) = hex-counted n d k
-escape-counted n d (pair e k p q l m i) = hex-counted n d k ∙ ap (tallied (tally n d Tally.quoted)) q ∙ hex-counted n d l
+escape-over : {y s t : Bytes} (n d : ℕ) → Escape y s t → Over (tally n d Tally.escaped) s t (tally n d Tally.quoted)
+escape-over n d (simple e) = over-byte refl over-none
+escape-over n d (unit e k p q) = over-byte refl (hex-over n d k)
+escape-over n d (pair {t = t} {r = r} e k p q l m i) = over-byte refl (over-then (hex-over n d k) (subst (λ (x : Bytes). Over (tally n d Tally.quoted) x r (tally n d Tally.quoted)) (sym q) (over-byte refl (over-byte refl (hex-over n d l)))))
 
-pub chars-counted : {x s r : Bytes} (n d : ℕ) → Chars x s r → tallied (tally n d Tally.quoted) s ≡ tallied (clear n d) r
-chars-counted n d (Grammar.close {c} {r} p) = ap (λ (b : ℕ). tallied (further (tally n d Tally.quoted) b) r) p
-chars-counted n d (Grammar.unescaped {c} {s = s} p t) = ap (λ z. tallied z s) (quoted-byte n d c (not-at 34 refl) (not-at 92 refl)) ∙ chars-counted n d t
+-- a string's characters up to the closing quote
+pub chars-over : {x s r : Bytes} (n d : ℕ) → Chars x s r → Over (tally n d Tally.quoted) s (34 ∷ r) (tally n d Tally.quoted)
+chars-over n d (Grammar.close {r = r} p) = record { part = []; parts = ap (λ (c : ℕ). c ∷ r) p; counted = refl }
+chars-over n d (Grammar.unescaped {c} p t) = over-byte (quoted-byte n d c (not-at 34 refl) (not-at 92 refl)) (chars-over n d t)
   where
     not-at : (b : ℕ) → isUnescaped b ≡ false → eqb c b ≡ false
     not-at b f = eqb-false c b λ i. true≢false (sym (subst (λ (y : ℕ). isUnescaped y ≡ true) i p) ∙ f)
-chars-counted n d (Chars.escape {c} {s = s} p e t q) = ap (λ (b : ℕ). tallied (further (tally n d Tally.quoted) b) s) p ∙ escape-counted n d e ∙ chars-counted n d t
+chars-over n d (Chars.escape p e t q) = over-byte (ap (further (tally n d Tally.quoted)) p) (over-then (escape-over n d e) (chars-over n d t))
+
+pub chars-counted : {x s r : Bytes} (n d : ℕ) → Chars x s r → tallied (tally n d Tally.quoted) s ≡ tallied (clear n d) r
+chars-counted n d t = over-same (chars-over n d t)
 
 pub string-counted : {x s r : Bytes} (n d : ℕ) → Grammar.String x s r → tallied (clear n d) s ≡ tallied (clear (n + 1) d) r
 string-counted n d (Grammar.string {c} {s = s} p t) = ap (λ (b : ℕ). tallied (further (clear n d) b) s) p ∙ chars-counted (n + 1) d t

@@ -38,7 +38,7 @@ stands-limit : {t : Tally} {c : ℕ} {q : Refusal} → StandsAt t c q → Limit 
 stands-limit (Fault.bracket h x y) = five
 stands-limit (Fault.numeral h x y) = six
 stands-limit (Fault.begins h x y) = seven
-stands-limit (Fault.quote h) = eight
+stands-limit (Fault.quote h x) = eight
 
 passes-limit : {q : Refusal} {v : Value} → Passes q v → Limit q
 passes-limit (Fault.passesDepth h) = five
@@ -91,7 +91,7 @@ spares-nodes : {t : Tally} {c : ℕ} {q : Refusal} (m : StandsAt t c q) → q �
 spares-nodes (Fault.bracket h x y) e = let z : _≡_ {A = Bool} true false = cc in absurd (true≢false z)
 spares-nodes (Fault.numeral h x y) e = refl
 spares-nodes (Fault.begins h x y) e = refl
-spares-nodes (Fault.quote h) e = let z : _≡_ {A = Bool} true false = cc in absurd (true≢false z)
+spares-nodes (Fault.quote h x) e = let z : _≡_ {A = Bool} true false = cc in absurd (true≢false z)
 
 -- 4
 none-of-five-to-eight : (s : Bytes) → parse s ≡ refused notJson → (p t : Bytes) (q : Refusal) → s ≡ p ++ t → Limit q → parse p ≢ refused q

@@ -8,10 +8,9 @@ use Prim.Native.Nat.{suc, zero, ℕ, _+_, _-_, _≤_}
 use native.Mathlib.Omega.{arith}
 use lib.Dec.{eqb, ltb}
 use lib.ListN.{length, length-append}
-use Rattle.json.proofs.Agree.{Tail, escape-tail, later, whole}
 use Rattle.json.proofs.Ascii.{start-ascii}
 use Rattle.json.proofs.Complete.{chars-complete, spells-length, string-length, structural-length, ws-length}
-use Rattle.json.proofs.Counting.{behind-of, both, chars-counted, clear, counted-at, digit-mark, spells-counted, string-counted, structural-counted, ws-clear, ws-counted}
+use Rattle.json.proofs.Counting.{Over, behind-of, both, chars-counted, chars-over, clear, counted-at, digit-mark, spells-counted, string-counted, structural-counted, ws-clear, ws-counted}
 use Rattle.json.proofs.Laws.{bind-ok, bind-refused, eqb-true, ok-injective, ok-not-refused}
 use Rattle.json.proofs.Outcome.{Outcome, Quiet, all-read, bind, cut, dead, done, early, ext, fault, moved, quiet-at, past, quiet-refused, resume, shown-map, step, stopped, took, weaken}
 use Rattle.json.proofs.Quoted.{CharsLocal, LongChars, chars-local, chars-opens, charsOf}
@@ -31,7 +30,7 @@ use Rattle.json.specs.Reader.{Parsed, Parser, more, next}
 use Rattle.json.specs.Refusal.{Refusal, Result, notJson, ok, refused, repeatedName, tooManyNodes, _>>=_}
 use Rattle.json.specs.Scan.{Read, expect, skip, word}
 use Rattle.json.specs.Tally
-use Rattle.json.specs.Tally.{Tally, further, nodesBegun, nothing, tallied, tally}
+use Rattle.json.specs.Tally.{endsIn, further, nodesBegun, nothing, tallied, tally}
 
 -- a value and, completed sparingly, so many brackets in it and no repeated name
 abbrev pub Valued : ℕ → Bool → Value → Bytes → Bytes → Type 0
@@ -98,18 +97,6 @@ node-local {mk = mk} {P} {G} {T} c n d s Q few h quiet begins g w o = go (ltb n 
         stopped tooManyNodes c s (λ x. h x ∙ rw (e, Reader.oneNode) refl) quiet g (past (Fault.begins begins full (start-begins c n d begins ∙ ap (λ (x : ℕ). x + 1) full)) w)
 
 -- a name: where it repeats another, it is refused at its closing quote
-tail-parts : {s r : Bytes} → Tail s r → (pre : Bytes) × (s ≡ pre ++ r)
-tail-parts whole = ([], refl)
-tail-parts (later {c} t) = let k = tail-parts t in (c ∷ k .0, ap {B = Bytes} (λ x. c ∷ x) (k .1))
-
-chars-last : {x s r : Bytes} → Chars x s r → (body : Bytes) × (s ≡ body ++ (34 ∷ r))
-chars-last (Grammar.close {r = r} e) = ([], ap (λ (c : ℕ). c ∷ r) e)
-chars-last (Grammar.unescaped {c} e k) = let b = chars-last k in (c ∷ b .0, ap {B = Bytes} (λ x. c ∷ x) (b .1))
-chars-last (Chars.escape {c} {t = t} {r = r} e y k q) =
-    let p = tail-parts (escape-tail y) in
-    let b = chars-last k in
-    (c ∷ (p .0 ++ b .0), ap {B = Bytes} (λ x. c ∷ x) (p .1 ∙ ap (λ (x : Bytes). p .0 ++ x) (b .1) ∙ sym (append-assoc (p .0) (b .0) (34 ∷ r))))
-
 chars-unclosed : (k body : Bytes) → Chars k (body ++ (34 ∷ [])) [] → (charsOf body ≡ refused notJson) × LongChars body
 chars-unclosed k body h = go (chars-local nothing body)
   where
@@ -140,33 +127,33 @@ unfolding Reader.newName
 new-name names rest k x true e = rw (e, Reader.newName) refl
 new-name names rest k x false e = rw (e, Reader.newName) refl
 
-module _ {st : Tally} {A B : Type 0} {mk : B → Bytes → A} {G : Bool → Bytes → Type 0} {T : B → Bytes → Type 0} (names : List Bytes) (rest : Bytes → Bytes → Result A) (s : Bytes) where
-  repeated : (k used r : Bytes) → s ≡ used ++ r → Takes Chars k used → isOneOf k names ≡ true → G false used → ((g : Bytes) → LongChars g → G true g) → Outcome st mk (nameThen names rest) G T s
-  repeated k used r e t q g opens = fault repeatedName (body .0) 34 r (e ∙ ap (λ (x : Bytes). x ++ r) closed ∙ append-assoc (body .0) (34 ∷ []) r) refuses (quiet-at (bind-refused _ (unclosed .0)) early) (opens (body .0) (unclosed .1)) (past (Fault.quote refl) (subst (λ x. G false x) closed g)) (λ i. absurd (true≢false i))
+module _ (m d : ℕ) {A B : Type 0} {mk : B → Bytes → A} {G : Bool → Bytes → Type 0} {T : B → Bytes → Type 0} (names : List Bytes) (rest : Bytes → Bytes → Result A) (s : Bytes) where
+  repeated : (k used r : Bytes) → s ≡ used ++ r → Takes Chars k used → isOneOf k names ≡ true → G false used → ((g : Bytes) → LongChars g → G true g) → Outcome (tally m d Tally.quoted) mk (nameThen names rest) G T s
+  repeated k used r e t q g opens = fault repeatedName (body .part) 34 r (e ∙ ap (λ (x : Bytes). x ++ r) closed ∙ append-assoc (body .part) (34 ∷ []) r) refuses (quiet-at (bind-refused _ (unclosed .0)) early) (opens (body .part) (unclosed .1)) (past (Fault.quote refl (ap endsIn (body .counted))) (subst (λ x. G false x) closed g)) (λ i. absurd (true≢false i))
     where
-      body : (x : Bytes) × (used ++ [] ≡ x ++ (34 ∷ []))
-      body = chars-last (t [])
+      body : Over (tally m d Tally.quoted) (used ++ []) (34 ∷ []) (tally m d Tally.quoted)
+      body = chars-over m d (t [])
 
-      closed : used ≡ body .0 ++ (34 ∷ [])
-      closed = sym (append-nil used) ∙ body .1
+      closed : used ≡ body .part ++ (34 ∷ [])
+      closed = sym (append-nil used) ∙ body .parts
 
-      unclosed : (charsOf (body .0) ≡ refused notJson) × LongChars (body .0)
-      unclosed = chars-unclosed k (body .0) (subst (λ (x : Bytes). Chars k x []) (append-nil used ∙ closed) (t []))
+      unclosed : (charsOf (body .part) ≡ refused notJson) × LongChars (body .part)
+      unclosed = chars-unclosed k (body .part) (subst (λ (x : Bytes). Chars k x []) (append-nil used ∙ closed) (t []))
 
-      refuses : (x : Bytes) → nameThen names rest (body .0 ++ (34 ∷ x)) ≡ refused repeatedName
-      refuses x = ap (nameThen names rest) (sym (ap (λ (y : Bytes). y ++ x) closed ∙ append-assoc (body .0) (34 ∷ []) x)) ∙ bind-ok _ (chars-complete (length (used ++ x)) (omega arith) (t x)) ∙ new-name names rest k x true q
+      refuses : (x : Bytes) → nameThen names rest (body .part ++ (34 ∷ x)) ≡ refused repeatedName
+      refuses x = ap (nameThen names rest) (sym (ap (λ (y : Bytes). y ++ x) closed ∙ append-assoc (body .part) (34 ∷ []) x)) ∙ bind-ok _ (chars-complete (length (used ++ x)) (omega arith) (t x)) ∙ new-name names rest k x true q
 
-  name-local : ((i : Bool) (g : Bytes) → LongChars g → G i g) → ((k used : Bytes) → Takes Chars k used → G false used) → ((k used r : Bytes) → isOneOf k names ≡ false → Takes Chars k used → Outcome (tallied st used) mk (rest k) (λ i g. G i (used ++ g)) (λ b u. T b (used ++ u)) r) → Outcome st mk (nameThen names rest) G T s
-  name-local opens named follow = go (chars-local st s)
+  name-local : ((i : Bool) (g : Bytes) → LongChars g → G i g) → ((k used : Bytes) → Takes Chars k used → G false used) → ((k used r : Bytes) → isOneOf k names ≡ false → Takes Chars k used → Outcome (tallied (tally m d Tally.quoted) used) mk (rest k) (λ i g. G i (used ++ g)) (λ b u. T b (used ++ u)) r) → Outcome (tally m d Tally.quoted) mk (nameThen names rest) G T s
+  name-local opens named follow = go (chars-local (tally m d Tally.quoted) s)
     where
-      go : CharsLocal st s → Outcome st mk (nameThen names rest) G T s
+      go : CharsLocal (tally m d Tally.quoted) s → Outcome (tally m d Tally.quoted) mk (nameThen names rest) G T s
       go (cut e g) = cut (bind-refused _ e) (opens true s g)
-      go (fault q good c t e again quiet g u m) = fault q good c t e (λ x. bind-refused _ (again x)) (quiet-at (bind-refused _ (chars-quiet good (c ∷ t) q (again t) quiet)) early) (opens true good g) (shown-map (λ i. opens i (good ++ (c ∷ []))) u) m
-      go (took k used r e again t m) = by (isOneOf k names) refl
+      go (fault q good c t e again quiet g u l) = fault q good c t e (λ x. bind-refused _ (again x)) (quiet-at (bind-refused _ (chars-quiet good (c ∷ t) q (again t) quiet)) early) (opens true good g) (shown-map (λ i. opens i (good ++ (c ∷ []))) u) l
+      go (took k used r e again t l) = by (isOneOf k names) refl
         where
-          by : (b : Bool) → isOneOf k names ≡ b → Outcome st mk (nameThen names rest) G T s
+          by : (b : Bool) → isOneOf k names ≡ b → Outcome (tally m d Tally.quoted) mk (nameThen names rest) G T s
           by true q = repeated k used r e t q (named k used t) (opens true)
-          by false q = resume _ s readOf charsOf k used r e again m (ext (λ x h. new-name names rest k x false q) (follow k used r q t))
+          by false q = resume _ s readOf charsOf k used r e again l (ext (λ x h. new-name names rest k x false q) (follow k used r q t))
 
 expect-word : (c : ℕ) (s : Bytes) → expect c s ≡ word (c ∷ []) s
 unfolding expect word
@@ -261,7 +248,7 @@ module _ (left : ℕ) (val : Parser Value) (vlocal : ValueLocal left val) (vsoun
 
   rest-local : (names : List Bytes) (m d : ℕ) (s : Bytes) → m ≤ Limits.maxNodes → d + left ≡ Limits.maxDepth → Outcome (tally m d Tally.quoted) parsedOf (nameThen names (colonThen m)) (λ i. Completes (MemberRest left names i)) (Takes (EntryThen (MemberRest left names true))) s
   rest-local names m d s few deep =
-      name-local names (colonThen m) s (name-opens names) (λ k used t. record { end = 58 ∷ 48 ∷ []; what = (k, number (48 ∷ [])); spelled = λ r. zero-member names false k (used ++ (58 ∷ 48 ∷ r)) r (t (58 ∷ 48 ∷ r)) (λ e. absurd (false≢true e)); plain = refl }) λ k used r new t.
+      name-local m d names (colonThen m) s (name-opens names) (λ k used t. record { end = 58 ∷ 48 ∷ []; what = (k, number (48 ∷ [])); spelled = λ r. zero-member names false k (used ++ (58 ∷ 48 ∷ r)) r (t (58 ∷ 48 ∷ r)) (λ e. absurd (false≢true e)); plain = refl }) λ k used r new t.
       moved (ap (tallied (tally m d Tally.quoted)) (sym (append-nil used)) ∙ chars-counted m d (t [])) (weaken
       (λ i g. behind used (λ e. e) λ e z y h. (z, h .0, subst (λ (x : Bytes). Chars x (used ++ z) z) (sym (h .3)) (t z), h .1, h .2, λ q. subst (λ (x : Bytes). isOneOf x names ≡ false) (sym (h .3)) new))
       (λ b u h y. regroup (λ (z : Bytes). EntryThen (MemberRest left names true) b z y) used u y (let j = h y in (j .0, (u ++ y, j .1 .0, subst (λ (x : Bytes). Chars x (used ++ (u ++ y)) (u ++ y)) (sym (j .1 .3)) (t (u ++ y)), j .1 .1, j .1 .2, λ q. subst (λ (x : Bytes). isOneOf x names ≡ false) (sym (j .1 .3)) new), j .2)))

@@ -6,6 +6,7 @@ use mathlib.Core.Logic.{_≢_}
 use mathlib.Core.Path.{ap, refl, subst, sym, _∙_, _≡_}
 use Prim.Native.Nat.{ℕ}
 use Rattle.json.proofs.Ascii.{isAscii, last-append, lastAscii}
+use Rattle.json.proofs.Counting.{tallied-append}
 use Rattle.json.proofs.Laws.{bind-ok, bind-refused}
 use Rattle.json.specs.Bytes.{Bytes}
 use Rattle.json.specs.Fault.{StandsAt}
@@ -42,7 +43,7 @@ abbrev pub spares : {st : Tally} {c : ℕ} {q : Refusal} → StandsAt st c q →
 spares (StandsAt.bracket h x y) = false
 spares (StandsAt.numeral h x y) = true
 spares (StandsAt.begins h x y) = true
-spares (StandsAt.quote h) = false
+spares (StandsAt.quote h x) = false
 
 -- how a byte shows its refusal, behind what was counted: at 4 nothing can follow it; at 5 to 8 A says that something can
 pub data Shown (st : Tally) (c : ℕ) (A : Bool → Type 0) : Refusal → Type 0 where
@@ -112,11 +113,6 @@ quiet-refused early = refl
 quietly : {A B A′ B′ : Type 0} {mk : B → Bytes → A} {mk′ : B′ → Bytes → A′} (f : A → Result A′) {x : Result A} → Quiet mk x → ((b : B) → Quiet mk′ (f (mk b []))) → Quiet mk′ (x >>= f)
 quietly f (all-read b) over = over b
 quietly f early over = early
-
--- what is counted over two parts, one behind the other
-pub tallied-append : (st : Tally) (s t : Bytes) → tallied st (s ++ t) ≡ tallied (tallied st s) t
-tallied-append st [] t = refl
-tallied-append st (c ∷ s) t = tallied-append (further st c) s t
 
 -- the same count
 pub moved : {st st′ : Tally} {A B : Type 0} {mk : B → Bytes → A} {P : Bytes → Result A} {G : Bool → Bytes → Type 0} {T : B → Bytes → Type 0} {s : Bytes} → st ≡ st′ → Outcome st′ mk P G T s → Outcome st mk P G T s

@@ -13,7 +13,7 @@ use Rattle.json.specs.Limits.{depth, maxBytes, maxDepth, maxNodes, maxNu
 use Rattle.json.specs.Numerals.{digit, isOther}
 use Rattle.json.specs.Reader.{parse, start, startNothing}
 use Rattle.json.specs.Refusal.{Refusal, Result, notJson, notUtf8, numberTooLong, ok, refused, repeatedName, tooDeep, tooLong, tooManyNodes}
-use Rattle.json.specs.Tally.{Tally, bracketsOpen, bytesOfNumber, further, nodesBegun, nothing, tallied}
+use Rattle.json.specs.Tally.{Tally, bracketsOpen, bytesOfNumber, endsIn, further, nodesBegun, nothing, quoted, tallied}
 use Rattle.json.specs.Utf8.{scalar, utf8}
 
 -- a JSON text begins with these bytes
@@ -34,7 +34,7 @@ pub data StandsAt (before : Tally) (c : ℕ) : Refusal → Type 0 where
   bracket : (c ≡ 91) ⊎ (c ≡ 123) → bracketsOpen before ≡ maxDepth → bracketsOpen (further before c) ≡ maxDepth + 1 → StandsAt before c tooDeep
   numeral : digit c ≢ isOther → bytesOfNumber before ≡ maxNumber → bytesOfNumber (further before c) ≡ maxNumber + 1 → StandsAt before c numberTooLong
   begins : start c ≢ startNothing → nodesBegun before ≡ maxNodes → nodesBegun (further before c) ≡ maxNodes + 1 → StandsAt before c tooManyNodes
-  quote : c ≡ 34 → StandsAt before c repeatedName
+  quote : c ≡ 34 → endsIn before ≡ quoted → StandsAt before c repeatedName
 
 -- a value of a tree: the tree itself, or one that stands in it
 mutual

@@ -64,16 +64,22 @@ tallied t (c ∷ s) = tallied (further t c) s
 abbrev pub nothing : Tally
 nothing = tally 0 0 outside
 
--- the three counts
+-- its parts
+abbrev pub endsIn : Tally → Ending
+endsIn (tally nodes depth e) = e
+
 abbrev pub nodesBegun : Tally → ℕ
 nodesBegun (tally nodes depth e) = nodes
 
 abbrev pub bracketsOpen : Tally → ℕ
 bracketsOpen (tally nodes depth e) = depth
 
+abbrev pub numberBytes : Ending → ℕ
+numberBytes outside = 0
+numberBytes quoted = 0
+numberBytes escaped = 0
+numberBytes word = 0
+numberBytes (numeral bytes) = bytes
+
 abbrev pub bytesOfNumber : Tally → ℕ
-bytesOfNumber (tally nodes depth outside) = 0
-bytesOfNumber (tally nodes depth quoted) = 0
-bytesOfNumber (tally nodes depth escaped) = 0
-bytesOfNumber (tally nodes depth word) = 0
-bytesOfNumber (tally nodes depth (numeral bytes)) = bytes
+bytesOfNumber (tally nodes depth e) = numberBytes e
