@@ -13,6 +13,7 @@ pub mod Local
 pub mod FirstFault
 pub mod Places
 pub mod Agree
+pub mod Ascending
 pub mod Decoded
 pub mod Walk
 pub mod Prefix

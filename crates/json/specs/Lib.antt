@@ -20,6 +20,7 @@ pub mod Marks
 pub mod Links
 pub mod Escapes
 pub mod Fits
+pub mod Ascent
 pub mod Cursor
 pub mod Held
 pub mod Naming
