@@ -1,6 +1,7 @@
 pub mod Conditions
 pub mod Digits
 pub mod Elements
+pub mod First
 pub mod Examples
 pub mod Names
 pub mod Nine
