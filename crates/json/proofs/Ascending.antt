@@ -2,7 +2,7 @@
 -- Assumes nothing.
 use mathlib.Core.Bool.{Bool, false, true}
 use mathlib.Core.List.{List, [], _∷_}
-use mathlib.Core.Path.{ap, refl, subst, sym, _∙_, _≡_}
+use mathlib.Core.Path.{ap, refl, subst, sym, _≡_}
 use Prim.Native.Nat.{suc, zero, ℕ, _+_, _-_, _<_, _≤_}
 use native.Mathlib.Omega.{arith}
 use lib.Dec.{eqb, leb}
@@ -19,7 +19,6 @@ use Rattle.json.specs.Placing.{Placed, Placer, Sep, arrAt, byteAt, chars
 use Rattle.json.specs.Reader.{Start, newName, oneNode, start}
 use Rattle.json.specs.Reader
 use Rattle.json.specs.Refusal.{Result, notJson, notUtf8, ok, refused, tooDeep, tooLong, _>>=_}
-use Rattle.json.specs.Scan.{skip}
 use Rattle.json.specs.Spans.{Fields, Node, Nodes, Plain, arr, field, leaf, noField, noNode, node, obj, textAt}
 use Rattle.json.specs.Strings.{chars}
 use Rattle.json.specs.Utf8.{scalar, utf8}
@@ -84,6 +83,57 @@ module _ (s : Bytes) where
     order : Ascends at (q .place) (q .tree)
 
   module _ (val : Placer Node) (reads : (n at : ℕ) (q : Placed Node) → at ≤ length s → val n at ≡ ok q → Read at q) where
+    -- what follows an element, and a member; what follows an opening bracket
+    abbrev itemsOn : ℕ → Placed Node → Sep → Result (Placed Nodes)
+    itemsOn f v x =
+        elim
+        x [
+          | goesOn ↦
+              (itemsAt s val f (v .count) (skipAt s (skipAt s (v .place) + 1)) >>= λ vs. ok (record { tree = node (v .tree) (vs .tree); place = vs .place; count = vs .count }))
+          | ends ↦
+              ok (record { tree = node (v .tree) noNode; place = skipAt s (v .place) + 1; count = v .count })
+          | neither ↦
+              refused notJson
+        ]
+
+    abbrev fieldsOn : ℕ → List Bytes → ℕ → ℕ → Placed Node → Sep → Result (Placed Fields)
+    fieldsOn f names a x v z =
+        elim
+        z [
+          | goesOn ↦
+              (do
+                fs ← fieldsAt s val f (textAt s a ∷ names) (v .count) (skipAt s (skipAt s (v .place) + 1))
+                ok (record { tree = field a (x - 1) (v .tree) (fs .tree); place = fs .place; count = fs .count }))
+          | ends ↦
+              ok (record { tree = field a (x - 1) (v .tree) noField; place = skipAt s (v .place) + 1; count = v .count })
+          | neither ↦
+              refused notJson
+        ]
+
+    abbrev arrOn : ℕ → ℕ → Bool → Result (Placed Node)
+    arrOn at m b =
+        elim
+        b [
+          | true ↦
+              ok (record { tree = arr at (skipAt s (at + 1) + 1) noNode; place = skipAt s (at + 1) + 1; count = m })
+          | false ↦
+              (do
+                vs ← itemsAt s val (length (drop (at + 1) s)) m (skipAt s (at + 1))
+                ok (record { tree = arr at (vs .place) (vs .tree); place = vs .place; count = vs .count }))
+        ]
+
+    abbrev objOn : ℕ → ℕ → Bool → Result (Placed Node)
+    objOn at m b =
+        elim
+        b [
+          | true ↦
+              ok (record { tree = obj at (skipAt s (at + 1) + 1) noField; place = skipAt s (at + 1) + 1; count = m })
+          | false ↦
+              (do
+                fs ← fieldsAt s val (length (drop (at + 1) s)) [] m (skipAt s (at + 1))
+                ok (record { tree = obj at (fs .place) (fs .tree); place = fs .place; count = fs .count }))
+        ]
+
     record ItemsRead (at : ℕ) (q : Placed Nodes) : Type 0 where
       past : at ≤ q .place
       order : AscendIn at (q .place) (q .tree)
@@ -95,7 +145,7 @@ module _ (s : Bytes) where
         bind-with (val n at) _ e λ v f1 e1.
         by v (reads n at v l f1) (λ m k p j i. items-ascend f m k p j i) (sep 93 (getD s (skipAt s (v .place)) 0)) refl e1
       where
-        by : (v : Placed Node) → Read at v → ((m k : ℕ) (p : Placed Nodes) → k ≤ length s → itemsAt s val f m k ≡ ok p → ItemsRead k p) → (x : Sep) → sep 93 (getD s (skipAt s (v .place)) 0) ≡ x → elim x [ goesOn ↦ (itemsAt s val f (v .count) (skipAt s (skipAt s (v .place) + 1)) >>= λ vs. ok (record { tree = node (v .tree) (vs .tree); place = vs .place; count = vs .count })) | ends ↦ ok (record { tree = node (v .tree) noNode; place = skipAt s (v .place) + 1; count = v .count }) | neither ↦ refused notJson ] ≡ ok q → ItemsRead at q
+        by : (v : Placed Node) → Read at v → ((m k : ℕ) (p : Placed Nodes) → k ≤ length s → itemsAt s val f m k ≡ ok p → ItemsRead k p) → (x : Sep) → sep 93 (getD s (skipAt s (v .place)) 0) ≡ x → itemsOn f v x ≡ ok q → ItemsRead at q
         by v r below goesOn i e1 =
             let k = skipAt s (skipAt s (v .place) + 1) in
             let a = skip-from (v .place) (v .place) (omega arith) (r .upto) in
@@ -127,7 +177,7 @@ module _ (s : Bytes) where
         later : (a x u : ℕ) → byteAt 34 s at ≡ ok a → charsAt s a ≡ ok x → byteAt 58 s (skipAt s x) ≡ ok u → at ≤ skipAt s u
         later a x u f1 f3 f5 = skip-from at u (omega (arith, byte-past 58 (skipAt s x) u f5, skip-from at x (chars-past at a x f3 (omega (arith, byte-past 34 at a f1)) l) l)) l
 
-        by : (a x : ℕ) (v : Placed Node) (from : ℕ) → at ≤ from → Read from v → ((ns : List Bytes) (m k : ℕ) (p : Placed Fields) → k ≤ length s → fieldsAt s val f ns m k ≡ ok p → FieldsRead k p) → (z : Sep) → sep 125 (getD s (skipAt s (v .place)) 0) ≡ z → elim z [ goesOn ↦ (fieldsAt s val f (textAt s a ∷ names) (v .count) (skipAt s (skipAt s (v .place) + 1)) >>= λ fs. ok (record { tree = field a (x - 1) (v .tree) (fs .tree); place = fs .place; count = fs .count })) | ends ↦ ok (record { tree = field a (x - 1) (v .tree) noField; place = skipAt s (v .place) + 1; count = v .count }) | neither ↦ refused notJson ] ≡ ok q → FieldsRead at q
+        by : (a x : ℕ) (v : Placed Node) (from : ℕ) → at ≤ from → Read from v → ((ns : List Bytes) (m k : ℕ) (p : Placed Fields) → k ≤ length s → fieldsAt s val f ns m k ≡ ok p → FieldsRead k p) → (z : Sep) → sep 125 (getD s (skipAt s (v .place)) 0) ≡ z → fieldsOn f names a x v z ≡ ok q → FieldsRead at q
         by a x v from h r below goesOn i e1 =
             let k = skipAt s (skipAt s (v .place) + 1) in
             let c = skip-from (v .place) (v .place) (omega arith) (r .upto) in
@@ -149,7 +199,7 @@ module _ (s : Bytes) where
         inner : at + 1 ≤ skipAt s (at + 1)
         inner = skip-from (at + 1) (at + 1) (omega arith) (omega arith)
 
-        by : (m : ℕ) (b : Bool) → eqb (getD s (skipAt s (at + 1)) 0) 93 ≡ b → elim b [ true ↦ ok (record { tree = arr at (skipAt s (at + 1) + 1) noNode; place = skipAt s (at + 1) + 1; count = m }) | false ↦ (itemsAt s val (length (drop (at + 1) s)) m (skipAt s (at + 1)) >>= λ vs. ok (record { tree = arr at (vs .place) (vs .tree); place = vs .place; count = vs .count })) ] ≡ ok q → Ascends at (q .place) (q .tree)
+        by : (m : ℕ) (b : Bool) → eqb (getD s (skipAt s (at + 1)) 0) 93 ≡ b → arrOn at m b ≡ ok q → Ascends at (q .place) (q .tree)
         by m true i e1 = subst (λ (x : Placed Node). Ascends at (x .place) (x .tree)) (ok-injective e1) (arrAscends {from = at + 1} (omega arith) (omega arith) (omega (arith, inner)) noneAscend)
         by m false i e1 =
             bind-with (itemsAt s val (length (drop (at + 1) s)) m (skipAt s (at + 1))) _ e1 λ vs f2 e2.
@@ -165,7 +215,7 @@ module _ (s : Bytes) where
         inner : at + 1 ≤ skipAt s (at + 1)
         inner = skip-from (at + 1) (at + 1) (omega arith) (omega arith)
 
-        by : (m : ℕ) (b : Bool) → eqb (getD s (skipAt s (at + 1)) 0) 125 ≡ b → elim b [ true ↦ ok (record { tree = obj at (skipAt s (at + 1) + 1) noField; place = skipAt s (at + 1) + 1; count = m }) | false ↦ (fieldsAt s val (length (drop (at + 1) s)) [] m (skipAt s (at + 1)) >>= λ fs. ok (record { tree = obj at (fs .place) (fs .tree); place = fs .place; count = fs .count })) ] ≡ ok q → Ascends at (q .place) (q .tree)
+        by : (m : ℕ) (b : Bool) → eqb (getD s (skipAt s (at + 1)) 0) 125 ≡ b → objOn at m b ≡ ok q → Ascends at (q .place) (q .tree)
         by m true i e1 = subst (λ (x : Placed Node). Ascends at (x .place) (x .tree)) (ok-injective e1) (objAscends {from = at + 1} (omega arith) (omega arith) (omega (arith, inner)) emptyAscends)
         by m false i e1 =
             bind-with (fieldsAt s val (length (drop (at + 1) s)) [] m (skipAt s (at + 1))) _ e1 λ fs f2 e2.
@@ -192,12 +242,16 @@ module _ (s : Bytes) where
     unfolding readWith
     with-ascends n at q h l e = by (start (getD s at 0)) refl
       where
+        leaf-read : (k : Plain) (scan : Result ℕ) → leafByte k at ≡ at → (oneNode n >>= λ m. Placing.leafAt k m at scan) ≡ ok q → Ascends at (q .place) (q .tree)
+        leaf-read k scan i j = leaf-ascends k n at at q (λ m. Placing.leafAt k m at scan) i h (λ m z. leaf-is k m at scan q z) j
+
         by : (k : Start) → start (getD s at 0) ≡ k → Ascends at (q .place) (q .tree)
-        by Reader.startNull p = leaf-ascends Plain.isNull n at at q (λ m. Placing.leafAt Plain.isNull m at (wordAt (ascii "null") s at)) refl h (λ m i. leaf-is Plain.isNull m at (wordAt (ascii "null") s at) q i) (rw (p, readWith) at e)
-        by Reader.startTrue p = leaf-ascends Plain.isTrue n at at q (λ m. Placing.leafAt Plain.isTrue m at (wordAt (ascii "true") s at)) refl h (λ m i. leaf-is Plain.isTrue m at (wordAt (ascii "true") s at) q i) (rw (p, readWith) at e)
-        by Reader.startFalse p = leaf-ascends Plain.isFalse n at at q (λ m. Placing.leafAt Plain.isFalse m at (wordAt (ascii "false") s at)) refl h (λ m i. leaf-is Plain.isFalse m at (wordAt (ascii "false") s at) q i) (rw (p, readWith) at e)
-        by Reader.startText p = leaf-ascends Plain.isText n at (at + 1) q (λ m. Placing.stringAt m (at + 1) (charsAt s (at + 1))) (omega arith) h (λ m i. string-is m (at + 1) (charsAt s (at + 1)) q i) (rw (p, readWith) at e)
-        by Reader.startNumber p = leaf-ascends Plain.isNumber n at at q (λ m. Placing.leafAt Plain.isNumber m at (digitsAt s at)) refl h (λ m i. leaf-is Plain.isNumber m at (digitsAt s at) q i) (rw (p, readWith) at e)
+        by Reader.startNull p = leaf-read Plain.isNull (wordAt (ascii "null") s at) refl (rw (p, readWith) at e)
+        by Reader.startTrue p = leaf-read Plain.isTrue (wordAt (ascii "true") s at) refl (rw (p, readWith) at e)
+        by Reader.startFalse p = leaf-read Plain.isFalse (wordAt (ascii "false") s at) refl (rw (p, readWith) at e)
+        by Reader.startText p =
+            leaf-ascends Plain.isText n at (at + 1) q (λ m. Placing.stringAt m (at + 1) (charsAt s (at + 1))) (omega arith) h (λ m i. string-is m (at + 1) (charsAt s (at + 1)) q i) (rw (p, readWith) at e)
+        by Reader.startNumber p = leaf-read Plain.isNumber (digitsAt s at) refl (rw (p, readWith) at e)
         by Reader.startArray p = arrays n at q l (rw (p, readWith) at e)
         by Reader.startObject p = objects n at q l (rw (p, readWith) at e)
         by Reader.startNothing p = not-ok notJson (rw (p, readWith) at e)
@@ -205,10 +259,26 @@ module _ (s : Bytes) where
   -- places and order of a value that was read
   reads-in-order : (left n at : ℕ) (q : Placed Node) → at ≤ length s → readAt left s n at ≡ ok q → Read at q
   unfolding readAt
-  reads-in-order zero n at q l e = let r = read-facts zero s n at q l e .1 in record { past = r .past; upto = r .upto; order = with-ascends Placing.noneAt Placing.noneAt (λ m b p i j. not-ok tooDeep j) (λ m b p i j. not-ok tooDeep j) n at q (r .past) (omega (arith, r .past, r .upto)) e }
+  reads-in-order zero n at q l e =
+      let r = read-facts zero s n at q l e .1 in
+      let o = with-ascends Placing.noneAt Placing.noneAt (λ m b p i j. not-ok tooDeep j) (λ m b p i j. not-ok tooDeep j) n at q (r .past) (omega (arith, r .past, r .upto)) e in
+      record { past = r .past; upto = r .upto; order = o }
   reads-in-order (suc left) n at q l e =
       let r = read-facts (suc left) s n at q l e .1 in
-      record { past = r .past; upto = r .upto; order = with-ascends (arrAt s (readAt left s)) (objAt s (readAt left s)) (λ m b p i j. arr-ascends (readAt left s) (reads-in-order left) m b p i j) (λ m b p i j. obj-ascends (readAt left s) (reads-in-order left) m b p i j) n at q (r .past) (omega (arith, r .past, r .upto)) e }
+      let o =
+      with-ascends
+      (arrAt s (readAt left s))
+      (objAt s (readAt left s))
+      (arr-ascends (readAt left s) (reads-in-order left))
+      (obj-ascends (readAt left s) (reads-in-order left))
+      n
+      at
+      q
+      (r .past)
+      (omega (arith, r .past, r .upto))
+      e
+      in
+      record { past = r .past; upto = r .upto; order = o }
 
 -- The nodes of a sheet's tree begin in the order of the text.
 pub spans-ascend : (s : Bytes) (t : Node) → spanned s ≡ ok t → Ascends 0 (length s) t

@@ -1,22 +1,22 @@
 -- What is counted over a JSON text are the nodes of its tree, and every bracket is closed again.
 -- Assumes nothing.
-use mathlib.Core.Bool.{Bool, false, false≢true, true, true≢false, _||_}
+use mathlib.Core.Bool.{Bool, false, false≢true, true, true≢false}
 use mathlib.Core.List.{append-assoc, [], _++_, _∷_}
-use mathlib.Core.Logic.{inl, inr, _⊎_}
-use mathlib.Core.Option.{Option, none, some}
+use mathlib.Core.Logic.{inl, inr}
+use mathlib.Core.Option.{none, some}
 use mathlib.Core.Path.{ap, refl, subst, sym, _∙_, _≡_}
-use Prim.Native.Nat.{suc, zero, ℕ, _*_, _+_, _-_, _≤_}
+use Prim.Native.Nat.{ℕ, _+_, _-_, _≤_}
 use native.Mathlib.Omega.{arith}
 use lib.Dec.{eqb}
 use Rattle.json.proofs.Laws.{eqb-false, eqb-true}
-use Rattle.json.proofs.Sound.{between-in, between-of, between-out}
-use Rattle.json.specs.Bytes.{Bytes, ascii, between, choose}
+use Rattle.json.proofs.Sound.{between-in, between-of}
+use Rattle.json.specs.Bytes.{Bytes, between, choose}
 use Rattle.json.specs.Grammar
 use Rattle.json.specs.Grammar.{Chars, Digits, Elements, Escape, Exp, Frac, Hex, Int, JsonText, MembersOf, Minus, MoreElements, MoreMembers, Number, Sign, SomeDigits, Spells, Structural, Ws, isUnescaped, noHex, noSpace, oneHex, pair, simple, space, structural, unit}
 use Rattle.json.specs.Json.{Members, Value, Values}
 use Rattle.json.specs.Limits.{nodes, nodesIn, nodesOf}
 use Rattle.json.specs.Scan.{isSpace}
-use Rattle.json.specs.Strings.{hexDigit, simpleEscape}
+use Rattle.json.specs.Strings.{hexDigit}
 use Rattle.json.specs.Tally
 use Rattle.json.specs.Tally.{further, tallied, tally}
 
@@ -133,7 +133,8 @@ hex-over n d (oneHex {d = x} {c} e k) = over-byte (quoted-byte n d c (not-at 34 
 escape-over : {y s t : Bytes} (n d : ℕ) → Escape y s t → Over (tally n d Tally.escaped) s t (tally n d Tally.quoted)
 escape-over n d (simple e) = over-byte refl over-none
 escape-over n d (unit e k p q) = over-byte refl (hex-over n d k)
-escape-over n d (pair {t = t} {r = r} e k p q l m i) = over-byte refl (over-then (hex-over n d k) (subst (λ (x : Bytes). Over (tally n d Tally.quoted) x r (tally n d Tally.quoted)) (sym q) (over-byte refl (over-byte refl (hex-over n d l)))))
+escape-over n d (pair {r = r} e k p q l m i) =
+    over-byte refl (over-then (hex-over n d k) (subst (λ (x : Bytes). Over (tally n d Tally.quoted) x r (tally n d Tally.quoted)) (sym q) (over-byte refl (over-byte refl (hex-over n d l)))))
 
 -- a string's characters up to the closing quote
 pub chars-over : {x s r : Bytes} (n d : ℕ) → Chars x s r → Over (tally n d Tally.quoted) s (34 ∷ r) (tally n d Tally.quoted)
@@ -238,12 +239,22 @@ pub both : {n d k m : ℕ} {e : Tally.Ending} {s t r : Bytes} → Counted n d k 
 both h g = let k = g (h .ending) (h .settled) in record { ending = k .ending; settled = k .settled; same = h .same ∙ k .same }
 
 -- what stands in brackets
-bracketed : {s t u r : Bytes} (n d k byte end : ℕ) → Tally.begin n d (Tally.mark byte) ≡ clear (n + 1) (d + 1) → Tally.isLetter byte ≡ false → Tally.inNumber byte ≡ false → ((m : ℕ) → Tally.begin m (d + 1) (Tally.mark end) ≡ clear m (d + 1 - 1)) → Tally.isLetter end ≡ false → Tally.inNumber end ≡ false → Structural byte s t → Counted (n + 1) (d + 1) (n + 1 + k) Tally.outside t u → Structural end u r → Counted n d (n + (1 + k)) Tally.outside s r
-bracketed {r = r} n d k byte end o p q c x y a h b =
+-- a byte that stands between tokens, and ends a number and a word
+pub record Stands (c : ℕ) : Type 0 where
+  pub no-letter : Tally.isLetter c ≡ false
+  pub no-number : Tally.inNumber c ≡ false
+
+bracketed : {s t u r : Bytes} (n d k byte end : ℕ) → Tally.mark byte ≡ Tally.opens → Stands byte → Tally.mark end ≡ Tally.closes → Stands end → Structural byte s t → Counted (n + 1) (d + 1) (n + 1 + k) Tally.outside t u → Structural end u r → Counted n d (n + (1 + k)) Tally.outside s r
+bracketed {r = r} n d k byte end o p c x a h b =
     record {
       ending = Tally.outside;
       settled = tt;
-      same = structural-counted n d Tally.outside tt p q (n + 1) (d + 1) o a ∙ h .same ∙ structural-counted (n + 1 + k) (d + 1) (h .ending) (h .settled) x y (n + 1 + k) (d + 1 - 1) (c (n + 1 + k)) b ∙ ap (λ (z : ℕ). tallied (clear z (d + 1 - 1)) r) (omega arith) ∙ ap (λ (z : ℕ). tallied (clear (n + (1 + k)) z) r) (omega arith);
+      same =
+          structural-counted n d Tally.outside tt (p .no-letter) (p .no-number) (n + 1) (d + 1) (ap (Tally.begin n d) o) a ∙
+          h .same ∙
+          structural-counted (n + 1 + k) (d + 1) (h .ending) (h .settled) (x .no-letter) (x .no-number) (n + 1 + k) (d + 1 - 1) (ap (Tally.begin (n + 1 + k) (d + 1)) c) b ∙
+          ap (λ (z : ℕ). tallied (clear z (d + 1 - 1)) r) (omega arith) ∙
+          ap (λ (z : ℕ). tallied (clear (n + (1 + k)) z) r) (omega arith);
     }
 
 mutual
@@ -255,8 +266,8 @@ mutual
   spells-counted n d (Spells.isFalse e) = record { ending = Tally.word; settled = tt; same = ap (tallied (clear n d)) e }
   spells-counted n d (Spells.isNumber t e) = number-counted n d t
   spells-counted n d (Spells.isText t) = record { ending = Tally.outside; settled = tt; same = string-counted n d t }
-  spells-counted n d (Spells.isArray {vs} o t c) = bracketed n d (nodesIn vs) 91 93 refl refl refl (λ m. refl) refl refl o (elements-counted (n + 1) (d + 1) t) c
-  spells-counted n d (Spells.isObject {ms} o t c) = bracketed n d (nodesOf ms) 123 125 refl refl refl (λ m. refl) refl refl o (members-counted (n + 1) (d + 1) t) c
+  spells-counted n d (Spells.isArray {vs} o t c) = bracketed n d (nodesIn vs) 91 93 refl (record { no-letter = refl; no-number = refl }) refl (record { no-letter = refl; no-number = refl }) o (elements-counted (n + 1) (d + 1) t) c
+  spells-counted n d (Spells.isObject {ms} o t c) = bracketed n d (nodesOf ms) 123 125 refl (record { no-letter = refl; no-number = refl }) refl (record { no-letter = refl; no-number = refl }) o (members-counted (n + 1) (d + 1) t) c
 
   elements-counted : {vs : Values} {s r : Bytes} (n d : ℕ) → Elements vs s r → Counted n d (n + nodesIn vs) Tally.outside s r
   elements-counted n d Grammar.noElement = counted-at (omega arith) (record { ending = Tally.outside; settled = tt; same = refl })
@@ -264,7 +275,8 @@ mutual
 
   more-elements-counted : {vs : Values} {s r : Bytes} (n d : ℕ) (e : Tally.Ending) → Settled e → MoreElements vs s r → Counted n d (n + nodesIn vs) e s r
   more-elements-counted n d e k Grammar.lastElement = counted-at (omega arith) (record { ending = e; settled = k; same = refl })
-  more-elements-counted n d e k (Grammar.nextElement {v} {vs} c h t) = behind-of (structural-counted n d e k refl refl n d refl c) (both (spells-counted n d h) λ f l. counted-at (omega arith) (more-elements-counted (n + nodes v) d f l t))
+  more-elements-counted n d e k (Grammar.nextElement {v} {vs} c h t) =
+      behind-of (structural-counted n d e k refl refl n d refl c) (both (spells-counted n d h) λ f l. counted-at (omega arith) (more-elements-counted (n + nodes v) d f l t))
 
   members-counted : {ms : Members} {s r : Bytes} (n d : ℕ) → MembersOf ms s r → Counted n d (n + nodesOf ms) Tally.outside s r
   members-counted n d Grammar.noMember = counted-at (omega arith) (record { ending = Tally.outside; settled = tt; same = refl })
@@ -285,3 +297,47 @@ text-counted s v t =
     let b = ws-counted (0 + nodes v) 0 (a .ending) (a .settled) (t .behind) in
     let e = ws-clear 0 0 (t .before) ∙ a .same ∙ b .same in
     (ap Tally.nodesBegun e ∙ omega arith, ap Tally.bracketsOpen e)
+
+-- ---- the byte that begins a node of a given number is one
+begin-grows : (n d : ℕ) (m : Tally.Mark) → n ≤ Tally.nodesBegun (Tally.begin n d m)
+begin-grows n d Tally.opens = omega arith
+begin-grows n d Tally.closes = omega arith
+begin-grows n d Tally.quotes = omega arith
+begin-grows n d Tally.figure = omega arith
+begin-grows n d Tally.letter = omega arith
+begin-grows n d Tally.other = omega arith
+
+on-grows : (n d c : ℕ) (e : Tally.Ending) (b : Bool) → n ≤ Tally.nodesBegun (choose ((b, tally n d e) ∷ []) (Tally.begin n d (Tally.mark c)))
+on-grows n d c e true = omega arith
+on-grows n d c e false = begin-grows n d (Tally.mark c)
+
+further-grows : (t : Tally.Tally) (c : ℕ) → Tally.nodesBegun t ≤ Tally.nodesBegun (further t c)
+further-grows (tally n d Tally.outside) c = begin-grows n d (Tally.mark c)
+further-grows (tally n d Tally.quoted) c = omega arith
+further-grows (tally n d Tally.escaped) c = omega arith
+further-grows (tally n d Tally.word) c = on-grows n d c Tally.word (Tally.isLetter c)
+further-grows (tally n d (Tally.numeral k)) c = on-grows n d c (Tally.numeral (k + 1)) (Tally.inNumber c)
+
+tallied-grows : (t : Tally.Tally) (s : Bytes) → Tally.nodesBegun t ≤ Tally.nodesBegun (tallied t s)
+tallied-grows t [] = omega arith
+tallied-grows t (c ∷ s) = omega (arith, further-grows t c, tallied-grows (further t c) s)
+
+-- so many nodes have begun before the byte, and one more with it
+pub record Begins (t : Tally.Tally) (n : ℕ) (p : Bytes) (c : ℕ) : Type 0 where
+  pub before : Tally.nodesBegun (tallied t p) ≡ n
+  pub with-it : Tally.nodesBegun (further (tallied t p) c) ≡ n + 1
+
+-- In a text no other byte begins the same node.
+pub one-place : (t : Tally.Tally) (n : ℕ) (p q : Bytes) (c d : ℕ) (r u : Bytes) → p ++ (c ∷ r) ≡ q ++ (d ∷ u) → Begins t n p c → Begins t n q d → p ≡ q
+one-place t n [] [] c d r u e a b = refl
+one-place t n [] (x ∷ q) c d r u e a b =
+    let i : c ≡ x = cc in
+    absurd (omega (arith, a .with-it, b .before, tallied-grows (further t x) q, ap (λ (y : ℕ). Tally.nodesBegun (further t y)) i))
+one-place t n (x ∷ p) [] c d r u e a b =
+    let i : x ≡ d = cc in
+    absurd (omega (arith, b .with-it, a .before, tallied-grows (further t x) p, ap (λ (y : ℕ). Tally.nodesBegun (further t y)) i))
+one-place t n (x ∷ p) (y ∷ q) c d r u e a b =
+    let i : x ≡ y = cc in
+    let j : p ++ (c ∷ r) ≡ q ++ (d ∷ u) = cc in
+    let k = one-place (further t x) n p q c d r u j (record { before = a .before; with-it = a .with-it }) (subst (λ (z : ℕ). Begins (further t z) n q d) (sym i) (record { before = b .before; with-it = b .with-it })) in
+    cc

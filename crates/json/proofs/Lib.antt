@@ -20,6 +20,7 @@ pub mod Prefix
 pub mod Texts
 pub mod Cursor
 pub mod Encoded
+pub mod Utf8Texts
 pub mod Sorted
 pub mod KeyOrder
 pub mod Samples

@@ -4,7 +4,7 @@ use mathlib.Core.Bool.{Bool, false, false≢true, true, true≢false}
 use mathlib.Core.List.{List, append-assoc, append-nil, [], _++_, _∷_}
 use mathlib.Core.Logic.{inl, inr, _≢_}
 use mathlib.Core.Path.{ap, refl, subst, sym, _∙_, _≡_}
-use Prim.Native.Nat.{suc, zero, ℕ, _+_, _-_, _≤_}
+use Prim.Native.Nat.{suc, ℕ, _+_, _-_, _≤_}
 use native.Mathlib.Omega.{arith}
 use lib.Dec.{eqb, ltb}
 use lib.ListN.{length, length-append}

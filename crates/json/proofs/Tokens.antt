@@ -4,7 +4,7 @@ use mathlib.Core.Bool.{Bool, false, false≢true, true, true≢false}
 use mathlib.Core.List.{append-assoc, append-nil, [], _++_, _∷_}
 use mathlib.Core.Logic.{inl, inr, _≢_}
 use mathlib.Core.Path.{ap, refl, subst, sym, _∙_, _≡_}
-use Prim.Native.Nat.{zero, ℕ, _+_, _-_}
+use Prim.Native.Nat.{ℕ, _+_, _-_}
 use native.Mathlib.Omega.{arith}
 use lib.Dec.{eqb}
 use Rattle.json.proofs.Ascii.{all-append, allAscii, digit-ascii, isAscii, space-ascii}

@@ -1,7 +1,6 @@
 pub mod Conditions
 pub mod Digits
 pub mod Elements
-pub mod First
 pub mod Examples
 pub mod Names
 pub mod Nine
@@ -12,3 +11,4 @@ pub mod Walks
 pub mod Wanted
 pub mod Words
 pub mod Soundness
+pub mod First

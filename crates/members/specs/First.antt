@@ -5,7 +5,7 @@ use mathlib.Core.List.{List, [], _++_, _∷_}
 use mathlib.Core.Option.{Option, none, some}
 use mathlib.Core.Path.{_≡_}
 use mathlib.Core.Logic.{_≢_}
-use Prim.Native.Nat.{ℕ, _≤_}
+use Prim.Native.Nat.{_≤_}
 use Rattle.json.specs.Ascent.{firstByte}
 use Rattle.json.specs.Bytes.{Bytes, ascii, find, sameBytes}
 use Rattle.json.specs.Json.{Members, Value, array, asArray, asObject, bool, empty, member, null, number, object, text}
