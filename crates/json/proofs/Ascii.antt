@@ -18,6 +18,7 @@ use Rattle.json.specs.Reader.{start, startNothing}
 use Rattle.json.specs.Refusal.{Refusal}
 use Rattle.json.specs.Scan.{isSpace}
 use Rattle.json.specs.Strings.{hexDigit, simpleEscape}
+use Rattle.json.specs.Tally.{Tally}
 use Rattle.json.specs.Utf8.{Expect, after, lead, never, scalar, tail, utf8}
 
 abbrev pub isAscii : ℕ → Bool
@@ -96,20 +97,20 @@ start-ascii c n = ascii-unless c λ h. n (rw (apart c 34 h refl, apart c 45 h re
 pub unescaped-high : (c : ℕ) → isAscii c ≡ false → isUnescaped c ≡ true
 unescaped-high c h = rw (leb-true 32 c (omega (arith, high c h)), apart c 34 h refl, apart c 92 h refl) refl
 
-pub stands-ascii : {q : Refusal} {c : ℕ} → StandsAt q c → isAscii c ≡ true
-stands-ascii (StandsAt.bracket (inl e)) = rw e refl
-stands-ascii (StandsAt.bracket (inr e)) = rw e refl
-stands-ascii {c} (StandsAt.numeral h) = digit-ascii c h
-stands-ascii {c} (StandsAt.begins h) = start-ascii c h
-stands-ascii (StandsAt.quote e) = rw e refl
+pub stands-ascii : {t : Tally} {c : ℕ} {q : Refusal} → StandsAt t c q → isAscii c ≡ true
+stands-ascii (StandsAt.bracket (inl e) x y) = rw e refl
+stands-ascii (StandsAt.bracket (inr e) x y) = rw e refl
+stands-ascii {c = c} (StandsAt.numeral h x y) = digit-ascii c h
+stands-ascii {c = c} (StandsAt.begins h x y) = start-ascii c h
+stands-ascii (StandsAt.quote e x) = rw e refl
 
 -- what UTF-8 waits for, behind a byte that is ASCII or not
-abbrev Fits : Expect → Bool → Type 0
+abbrev pub Fits : Expect → Bool → Type 0
 Fits scalar d = Unit {0}
 Fits (tail low high n) d = (d ≡ false) × (128 ≤ low)
 Fits never d = Unit {0}
 
-lead-fits : (c : ℕ) → Fits (lead c) (isAscii c)
+pub lead-fits : (c : ℕ) → Fits (lead c) (isAscii c)
 lead-fits c = go (ltb c 128) (between 194 223 c) (eqb c 224) (eqb c 237) (between 225 239 c) (eqb c 240) (between 241 243 c) (eqb c 244) refl refl refl refl refl refl refl refl
   where
     go : (a b d e f g h i : Bool) → ltb c 128 ≡ a → between 194 223 c ≡ b → eqb c 224 ≡ d → eqb c 237 ≡ e → between 225 239 c ≡ f → eqb c 240 ≡ g → between 241 243 c ≡ h → eqb c 244 ≡ i → Fits (lead c) (isAscii c)
@@ -123,11 +124,11 @@ lead-fits c = go (ltb c 128) (between 194 223 c) (eqb c 224) (eqb c 237) (betwee
     go false false false false false false false true p1 p2 p3 p4 p5 p6 p7 p8 = rw (p1, p2, p3, p4, p5, p6, p7, p8, choose) (refl, omega arith)
     go false false false false false false false false p1 p2 p3 p4 p5 p6 p7 p8 = rw (p1, p2, p3, p4, p5, p6, p7, p8, choose) tt
 
-after-fits : (n : ℕ) (d : Bool) → d ≡ false → Fits (after n) d
+pub after-fits : (n : ℕ) (d : Bool) → d ≡ false → Fits (after n) d
 after-fits zero d e = tt
 after-fits (suc n) d e = (e, omega arith)
 
-not-ascii : (low h c : ℕ) → 128 ≤ low → between low h c ≡ true → isAscii c ≡ false
+pub not-ascii : (low h c : ℕ) → 128 ≤ low → between low h c ≡ true → isAscii c ≡ false
 not-ascii low h c l e = leb-false (suc c) 128 (omega (arith, between-in low h c e))
 
 -- a UTF-8 text cut before a byte, where one of that byte and the one before it is ASCII

@@ -24,6 +24,7 @@ use Rattle.json.specs.Json.{Value}
 use Rattle.json.specs.Limits.{maxBytes, maxDepth}
 use Rattle.json.specs.Reader.{json, parse}
 use Rattle.json.specs.Refusal.{Refusal, Result, notJson, ok, refused, tooManyNodes}
+use Rattle.json.specs.Tally.{Tally, nothing, tallied}
 use Rattle.json.specs.Utf8.{scalar, utf8}
 
 abbrev head : Bytes → ℕ
@@ -33,11 +34,11 @@ head (c ∷ s) = c
 refused-injective : {A : Type 0} {q r : Refusal} → _≡_ {A = Result A} (refused q) (refused r) → q ≡ r
 refused-injective e = cc
 
-stands-limit : {q : Refusal} {c : ℕ} → StandsAt q c → Limit q
-stands-limit (Fault.bracket h) = five
-stands-limit (Fault.numeral h) = six
-stands-limit (Fault.begins h) = seven
-stands-limit (Fault.quote h) = eight
+stands-limit : {t : Tally} {c : ℕ} {q : Refusal} → StandsAt t c q → Limit q
+stands-limit (Fault.bracket h x y) = five
+stands-limit (Fault.numeral h x y) = six
+stands-limit (Fault.begins h x y) = seven
+stands-limit (Fault.quote h x) = eight
 
 passes-limit : {q : Refusal} {v : Value} → Passes q v → Limit q
 passes-limit (Fault.passesDepth h) = five
@@ -86,11 +87,11 @@ not-continued : (good : Bytes) (c : ℕ) → ((x : Bytes) → parse (good ++ (c 
 not-continued good c again k = never-four (good ++ (c ∷ k .more)) (k .tree) (subst (λ (x : Bytes). JsonText (k .tree) x) (append-assoc good (c ∷ []) (k .more)) (k .isJson)) (again (k .more))
 
 -- what follows the byte of 7 need not pass 5
-spares-nodes : {q : Refusal} {c : ℕ} (m : StandsAt q c) → q ≡ tooManyNodes → spares m ≡ true
-spares-nodes (Fault.bracket h) e = let z : _≡_ {A = Bool} true false = cc in absurd (true≢false z)
-spares-nodes (Fault.numeral h) e = refl
-spares-nodes (Fault.begins h) e = refl
-spares-nodes (Fault.quote h) e = let z : _≡_ {A = Bool} true false = cc in absurd (true≢false z)
+spares-nodes : {t : Tally} {c : ℕ} {q : Refusal} (m : StandsAt t c q) → q ≡ tooManyNodes → spares m ≡ true
+spares-nodes (Fault.bracket h x y) e = let z : _≡_ {A = Bool} true false = cc in absurd (true≢false z)
+spares-nodes (Fault.numeral h x y) e = refl
+spares-nodes (Fault.begins h x y) e = refl
+spares-nodes (Fault.quote h x) e = let z : _≡_ {A = Bool} true false = cc in absurd (true≢false z)
 
 -- 4
 none-of-five-to-eight : (s : Bytes) → parse s ≡ refused notJson → (p t : Bytes) (q : Refusal) → s ≡ p ++ t → Limit q → parse p ≢ refused q
@@ -114,7 +115,7 @@ four s e = go (parse-local s)
         }
     go (fault r good c x i again quiet g u edge) = at (refused-injective (sym (ap parse i ∙ again x) ∙ e)) u again
       where
-        at : {q : Refusal} → q ≡ notJson → Shown c (λ i. Goes maxDepth i (good ++ (c ∷ []))) q → ((t : Bytes) → parse (good ++ (c ∷ t)) ≡ refused q) → NotJson s
+        at : {q : Refusal} → q ≡ notJson → Shown (tallied nothing good) c (λ i. Goes maxDepth i (good ++ (c ∷ []))) q → ((t : Bytes) → parse (good ++ (c ∷ t)) ≡ refused q) → NotJson s
         at h Outcome.dead stays =
             record {
               good = good;
@@ -149,7 +150,7 @@ five-to-eight s q l e = go (parse-local s)
         ascii-behind : (w : Bytes) → isAscii c ≡ true → allAscii w ≡ true → allAscii (c ∷ w) ≡ true
         ascii-behind w a b = rw (a, allAscii) b
 
-        at : {a : Refusal} → Shown c (λ i. Goes maxDepth i (good ++ (c ∷ []))) a → Limit a → ((t : Bytes) → parse (good ++ (c ∷ t)) ≡ refused a) → Past a s
+        at : {a : Refusal} → Shown (tallied nothing good) c (λ i. Goes maxDepth i (good ++ (c ∷ []))) a → Limit a → ((t : Bytes) → parse (good ++ (c ∷ t)) ≡ refused a) → Past a s
         at Outcome.dead m h = absurd (limit-not-four m refl)
         at {a} (Outcome.past n k) m h =
             record {
@@ -174,7 +175,7 @@ five-to-eight s q l e = go (parse-local s)
 four-to-eight : (s : Bytes) (q : Refusal) → parse s ≡ refused q → (q ≡ notJson) ⊎ Limit q
 four-to-eight s q e = go (parse-local s)
   where
-    by : {c : ℕ} {A : Bool → Type 0} {r : Refusal} → Shown c A r → (r ≡ notJson) ⊎ Limit r
+    by : {t : Tally} {c : ℕ} {A : Bool → Type 0} {r : Refusal} → Shown t c A r → (r ≡ notJson) ⊎ Limit r
     by Outcome.dead = inl refl
     by (Outcome.past m k) = inr (stands-limit m)
 

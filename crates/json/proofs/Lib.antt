@@ -1,6 +1,7 @@
 pub mod Laws
 pub mod Sound
 pub mod Complete
+pub mod Counting
 pub mod Ascii
 pub mod Outcome
 pub mod Tokens
@@ -12,11 +13,14 @@ pub mod Local
 pub mod FirstFault
 pub mod Places
 pub mod Agree
+pub mod Ascending
 pub mod Decoded
 pub mod Walk
 pub mod Prefix
 pub mod Texts
 pub mod Cursor
+pub mod Encoded
+pub mod Utf8Texts
 pub mod Sorted
 pub mod KeyOrder
 pub mod Samples

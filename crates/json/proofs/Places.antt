@@ -1,4 +1,4 @@
--- Refusals by computation, where the grammar alone does not say the place: 6 and 7 stand at the number's byte and at the node's first byte themselves, and a refusal that shows earlier or is lower goes first.
+-- Refusals by computation: 6 and 7 stand at the number's byte and at the node's first byte themselves, and a refusal that shows earlier or is lower goes first.
 -- Assumes nothing.
 use mathlib.Core.List.{List, [], _++_, _∷_}
 use mathlib.Core.Path.{refl, _≡_}

@@ -20,6 +20,7 @@ use Rattle.json.specs.Refusal.{Refusal, Result, notJson, ok, refused, _>
 use Rattle.json.specs.Scan.{Read}
 use Rattle.json.specs.Strings
 use Rattle.json.specs.Strings.{char, chars, escape, hex, hexDigit, highHalf, lowHalf, lowUnit, ofUnit, simpleEscape, unicode, unit16}
+use Rattle.json.specs.Tally.{Tally, further, tallied}
 use Rattle.json.specs.Utf8.{encode}
 
 -- the least and the greatest number that n more digits make of u
@@ -27,7 +28,7 @@ abbrev lowest : ℕ → ℕ → ℕ
 lowest zero u = u
 lowest (suc n) u = lowest n (u * 16 + 0)
 
-abbrev highest : ℕ → ℕ → ℕ
+abbrev pub highest : ℕ → ℕ → ℕ
 highest zero u = u
 highest (suc n) u = highest n (u * 16 + 15)
 
@@ -35,7 +36,7 @@ lowest-mono : (n a b : ℕ) → a ≤ b → lowest n a ≤ lowest n b
 lowest-mono zero a b h = h
 lowest-mono (suc n) a b h = lowest-mono n (a * 16 + 0) (b * 16 + 0) (omega arith)
 
-highest-mono : (n a b : ℕ) → a ≤ b → highest n a ≤ highest n b
+pub highest-mono : (n a b : ℕ) → a ≤ b → highest n a ≤ highest n b
 highest-mono zero a b h = h
 highest-mono (suc n) a b h = highest-mono n (a * 16 + 15) (b * 16 + 15) (omega arith)
 
@@ -45,7 +46,7 @@ some-same e = cc
 none-some : {d : ℕ} {X : Type 0} → none ≡ some d → X
 none-some e = let z : _≡_ {A = Bool} true false = cc in absurd (true≢false z)
 
-hexDigit-small : (c d : ℕ) → hexDigit c ≡ some d → d ≤ 15
+pub hexDigit-small : (c d : ℕ) → hexDigit c ≡ some d → d ≤ 15
 hexDigit-small c d e = go (between 48 57 c) (between 65 70 c) (between 97 102 c) refl refl refl
   where
     go : (a b h : Bool) → between 48 57 c ≡ a → between 65 70 c ≡ b → between 97 102 c ≡ h → d ≤ 15
@@ -72,26 +73,26 @@ module _ (f : Read ℕ → Result (Read Bytes)) (Then : ℕ → Bytes → Bytes 
   abbrev HexThen : ℕ → ℕ → Bytes → Bytes → Bytes → Type 0
   HexThen n u x s r = (v : ℕ) × (t : Bytes) × Hex n u v s t × Then v x t r
 
-  abbrev HexLocal : ℕ → ℕ → Bytes → Type 0
-  HexLocal n u s = Outcome readOf (λ x. hex n u x >>= f) (Either (Completes (HexThen n u))) (Takes (HexThen n u)) s
+  abbrev HexLocal : Tally → ℕ → ℕ → Bytes → Type 0
+  HexLocal st n u s = Outcome st readOf (λ x. hex n u x >>= f) (Either (Completes (HexThen n u))) (Takes (HexThen n u)) s
 
   -- alive says which numbers may still become one that f takes
   record Units (alive : ℕ → ℕ → Bool) : Type 0 where
     opens : (n u : ℕ) → n ≤ 4 → alive n u ≡ true → Completes (HexThen n u) []
     kills : (n u v : ℕ) (r : Bytes) → n ≤ 3 → alive n u ≡ false → lowest n u ≤ v → v ≤ highest n u → f (readOf v r) ≡ refused notJson
-    last : (v : ℕ) (s : Bytes) → alive 0 v ≡ true → Outcome readOf (λ x. f (readOf v x)) (Either (Completes (Then v))) (Takes (Then v)) s
+    last : (st : Tally) (v : ℕ) (s : Bytes) → alive 0 v ≡ true → Outcome st readOf (λ x. f (readOf v x)) (Either (Completes (Then v))) (Takes (Then v)) s
 
-  hex-local : (alive : ℕ → ℕ → Bool) → Units alive → (n u : ℕ) → n ≤ 4 → alive n u ≡ true → (s : Bytes) → HexLocal n u s
+  hex-local : (st : Tally) (alive : ℕ → ℕ → Bool) → Units alive → (n u : ℕ) → n ≤ 4 → alive n u ≡ true → (s : Bytes) → HexLocal st n u s
   unfolding hex
-  hex-local alive k zero u l a s = weaken (λ i g. behind [] (λ x. x) λ x z r h. (u, z, noHex, h)) (λ x w h r. (u, w ++ r, noHex, h r)) (k .last u s a)
-  hex-local alive k (suc n) u l a [] = cut refl (k .opens (suc n) u l a)
-  hex-local alive k (suc n) u l a (c ∷ s) = go (λ d e. hex-local alive k n (u * 16 + d) (omega arith) e s) (hexDigit c) refl
+  hex-local st alive k zero u l a s = weaken (λ i g. behind [] (λ x. x) λ x z r h. (u, z, noHex, h)) (λ x w h r. (u, w ++ r, noHex, h r)) (k .last st u s a)
+  hex-local st alive k (suc n) u l a [] = cut refl (k .opens (suc n) u l a)
+  hex-local st alive k (suc n) u l a (c ∷ s) = go (λ d e. hex-local (further st c) alive k n (u * 16 + d) (omega arith) e s) (hexDigit c) refl
     where
-      digit : (d : ℕ) → hexDigit c ≡ some d → (alive n (u * 16 + d) ≡ true → HexLocal n (u * 16 + d) s) → (b : Bool) → alive n (u * 16 + d) ≡ b → HexLocal (suc n) u (c ∷ s)
+      digit : (d : ℕ) → hexDigit c ≡ some d → (alive n (u * 16 + d) ≡ true → HexLocal (further st c) n (u * 16 + d) s) → (b : Bool) → alive n (u * 16 + d) ≡ b → HexLocal st (suc n) u (c ∷ s)
       digit d q below true e = step c s (hex-ascii c d q) (λ x. rw (q, hex) refl) (weaken (λ i g. behind (c ∷ []) (λ x. x) λ x z r h. (h .0, h .1, oneHex q (h .2), h .3)) (λ x w h r. let i = h r in (i .0, i .1, oneHex q (i .2), i .3)) (below e))
       digit d q below false e = stopped notJson c s (λ x. rw (q, hex) (hex-dead f n (u * 16 + d) (λ v r. k .kills n (u * 16 + d) v r (omega arith) e) x)) early (k .opens (suc n) u l a) dead
 
-      go : ((d : ℕ) → alive n (u * 16 + d) ≡ true → HexLocal n (u * 16 + d) s) → (o : Option ℕ) → hexDigit c ≡ o → HexLocal (suc n) u (c ∷ s)
+      go : ((d : ℕ) → alive n (u * 16 + d) ≡ true → HexLocal (further st c) n (u * 16 + d) s) → (o : Option ℕ) → hexDigit c ≡ o → HexLocal st (suc n) u (c ∷ s)
       go below none q = stopped notJson c s (λ x. rw (q, hex) refl) early (k .opens (suc n) u l a) dead
       go below (some d) q = digit d q (below d) (alive n (u * 16 + d)) refl
 
@@ -148,7 +149,7 @@ low-units high =
     record {
       opens = λ n u l a. record { end = lowEnd n; what = encode (65536 + (high - 55296) * 1024 + (lowest-low n u - 56320)); spelled = λ r. (lowest-low n u, r, lowEnd-hex n u r l, (a, refl, refl)); plain = lowEnd-ascii n };
       kills = λ n u v r l a p q. rw (low-outside n u v l a p q, lowHalf) refl;
-      last = λ v s a. ext (λ x h. rw (a, lowHalf) refl) (done (encode (65536 + (high - 55296) * 1024 + (v - 56320))) s (λ r. (a, refl, refl)));
+      last = λ st v s a. ext (λ x h. rw (a, lowHalf) refl) (done (encode (65536 + (high - 55296) * 1024 + (v - 56320))) s (λ r. (a, refl, refl)));
     }
 
 -- the first unit: no low half, and behind a high half its partner
@@ -202,14 +203,14 @@ low-unit v e = let b = between-in 56320 57343 v e in rw (between-out 55296 56319
 dc00 : (v : ℕ) (r : Bytes) → HexThen (lowHalf v) (LowThen v) 4 0 (encode (65536 + (v - 55296) * 1024 + (56320 - 56320))) (ascii "dc00" ++ r) r
 dc00 v r = (56320, r, oneHex refl (oneHex refl (oneHex refl (oneHex refl noHex))), (refl, refl, refl))
 
-high-local : (v : ℕ) → between 55296 56319 v ≡ true → (s : Bytes) → Outcome readOf (highHalf v) (Either (Completes (UnitThen v))) (Takes (UnitThen v)) s
+high-local : (st : Tally) (v : ℕ) → between 55296 56319 v ≡ true → (s : Bytes) → Outcome st readOf (highHalf v) (Either (Completes (UnitThen v))) (Takes (UnitThen v)) s
 unfolding highHalf lowest-low
-high-local v b s =
-    bind (λ t. hex 4 0 t >>= lowHalf v) s (word-local (ascii "\\u") refl s) (λ i g. finish (ascii "dc00") refl (λ x. encode (65536 + (v - 55296) * 1024 + (56320 - 56320))) λ x z r h. paired b h (dc00 v r)) (λ d. early) λ d used r e t.
+high-local st v b s =
+    bind (λ t. hex 4 0 t >>= lowHalf v) s (word-local st (ascii "\\u") refl s) (λ i g. finish (ascii "dc00") refl (λ x. encode (65536 + (v - 55296) * 1024 + (56320 - 56320))) λ x z r h. paired b h (dc00 v r)) (λ d. early) λ d used r e t w.
     weaken
     (λ i g. behind used (λ x. x) λ x z w h. paired b (t z) h)
     (λ x w h y. regroup (λ (z : Bytes). UnitThen v x z y) used w y (paired b (t (w ++ y)) (h y)))
-    (hex-local (lowHalf v) (LowThen v) isLowest (low-units v) 4 0 (omega arith) refl r)
+    (hex-local (lowHalf v) (LowThen v) (tallied st used) isLowest (low-units v) 4 0 (omega arith) refl r)
 
 unit-units : Units ofUnit UnitThen notLow
 unfolding ofUnit
@@ -217,7 +218,7 @@ unit-units =
     record {
       opens = λ n u l a. first n u (unit16-view (lowest n u)) (not-true (between 56320 57343 (lowest n u)) a);
       kills = λ n u v r l a p q. rw (low-unit v (low-inside n u v l (not-false (between 56320 57343 (lowest n u)) a) p q), ofUnit) refl;
-      last = λ v s a. second v s (unit16-view v) (not-true (between 56320 57343 v) a);
+      last = λ st v s a. second st v s (unit16-view v) (not-true (between 56320 57343 v) a);
     }
   where
     first : (n u : ℕ) {k : Strings.Unit16} → Unit16View (lowest n u) k → between 56320 57343 (lowest n u) ≡ false → Completes (HexThen ofUnit UnitThen n u) []
@@ -225,26 +226,26 @@ unit-units =
     first n u (isLow b) a = absurd (true≢false (sym b ∙ a))
     first n u (isPlain b) a = record { end = zeros n; what = encode (lowest n u); spelled = λ r. (lowest n u, r, zeros-hex n u r, alone b refl); plain = zeros-ascii n }
 
-    second : (v : ℕ) (s : Bytes) {k : Strings.Unit16} → Unit16View v k → between 56320 57343 v ≡ false → Outcome readOf (λ x. ofUnit (readOf v x)) (Either (Completes (UnitThen v))) (Takes (UnitThen v)) s
-    second v s (isHigh b) a = ext (λ x h. rw (high-unit v b, ofUnit) refl) (high-local v b s)
-    second v s (isLow b) a = absurd (true≢false (sym b ∙ a))
-    second v s (isPlain b) a = ext (λ x h. rw (plain-unit v b, ofUnit) refl) (done (encode v) s (λ r. alone b refl))
+    second : (st : Tally) (v : ℕ) (s : Bytes) {k : Strings.Unit16} → Unit16View v k → between 56320 57343 v ≡ false → Outcome st readOf (λ x. ofUnit (readOf v x)) (Either (Completes (UnitThen v))) (Takes (UnitThen v)) s
+    second st v s (isHigh b) a = ext (λ x h. rw (high-unit v b, ofUnit) refl) (high-local st v b s)
+    second st v s (isLow b) a = absurd (true≢false (sym b ∙ a))
+    second st v s (isPlain b) a = ext (λ x h. rw (plain-unit v b, ofUnit) refl) (done (encode v) s (λ r. alone b refl))
 
 -- escapes
 escape-opens : Completes Escape []
 escape-opens = record { end = ascii "n"; what = 10 ∷ []; spelled = λ r. simple refl; plain = refl }
 
-pub escape-local : (s : Bytes) → Outcome readOf escape (Either (Completes Escape)) (Takes Escape) s
+pub escape-local : (st : Tally) (s : Bytes) → Outcome st readOf escape (Either (Completes Escape)) (Takes Escape) s
 unfolding escape unicode
-escape-local [] = cut refl escape-opens
-escape-local (c ∷ s) = go (simpleEscape c) refl
+escape-local st [] = cut refl escape-opens
+escape-local st (c ∷ s) = go (simpleEscape c) refl
   where
-    isU : (b : Bool) → eqb c 117 ≡ b → simpleEscape c ≡ none → Outcome readOf escape (Either (Completes Escape)) (Takes Escape) (c ∷ s)
+    isU : (b : Bool) → eqb c 117 ≡ b → simpleEscape c ≡ none → Outcome st readOf escape (Either (Completes Escape)) (Takes Escape) (c ∷ s)
     isU true p q =
-        subst (λ (d : ℕ). Outcome readOf escape (Either (Completes Escape)) (Takes Escape) (d ∷ s)) (sym (eqb-true c 117 p)) (step 117 s refl (λ x. refl) (weaken (λ i g. behind (117 ∷ []) (λ x. x) λ x z r h. unit-escape h) (λ x w h r. unit-escape (h r)) (hex-local ofUnit UnitThen notLow unit-units 4 0 (omega arith) refl s)))
+        subst (λ (d : ℕ). Outcome st readOf escape (Either (Completes Escape)) (Takes Escape) (d ∷ s)) (sym (eqb-true c 117 p)) (step 117 s refl (λ x. refl) (weaken (λ i g. behind (117 ∷ []) (λ x. x) λ x z r h. unit-escape h) (λ x w h r. unit-escape (h r)) (hex-local ofUnit UnitThen (further st 117) notLow unit-units 4 0 (omega arith) refl s)))
     isU false p q = stopped notJson c s (λ x. rw (q, escape, p) refl) early escape-opens dead
 
-    go : (o : Option ℕ) → simpleEscape c ≡ o → Outcome readOf escape (Either (Completes Escape)) (Takes Escape) (c ∷ s)
+    go : (o : Option ℕ) → simpleEscape c ≡ o → Outcome st readOf escape (Either (Completes Escape)) (Takes Escape) (c ∷ s)
     go (some d) q = step c s (simple-ascii c d q) (λ x. rw (q, escape) refl) (done (d ∷ []) s (λ r. simple q))
     go none q = isU (eqb c 117) refl q
 
@@ -301,8 +302,8 @@ LongChars g = (n : ℕ) → Completes (λ x s r. Chars x s r × (n ≤ length x)
 pub chars-opens : LongChars []
 chars-opens n = record { end = pad n; what = letters n; spelled = λ r. (pad-spells n r, omega (arith, letters-length n)); plain = pad-ascii n }
 
-abbrev pub CharsLocal : Bytes → Type 0
-CharsLocal s = Outcome readOf charsOf (Either LongChars) (Takes Chars) s
+abbrev pub CharsLocal : Tally → Bytes → Type 0
+CharsLocal st s = Outcome st readOf charsOf (Either LongChars) (Takes Chars) s
 
 escaped-opens : (c : ℕ) → c ≡ 92 → (g : Bytes) → Completes Escape g → LongChars (c ∷ g)
 escaped-opens c p g k n = behind (c ∷ []) (λ x. x) (λ x z r h. h) (finish {R = Escape} {S = λ x z r. Chars x (c ∷ z) r × (n ≤ length x)} (pad n) (pad-ascii n) (λ x. x ++ letters n) (λ x z r h. (Chars.escape p h (pad-spells n r) refl, omega (arith, length-append x (letters n), letters-length n))) k)
@@ -315,25 +316,25 @@ refused-ascii f q d e = go (isAscii d) refl
     go true h = h
     go false h = ok-not-refused (f (readOf (d ∷ []) [])) q (sym (bind-ok (λ r. ok (f r)) (chars-complete 2 (omega arith) (unescaped (unescaped-high d h) (close refl)))) ∙ e)
 
-chars-below : (m : ℕ) (s : Bytes) → length s ≤ m → CharsLocal s
+chars-below : (m : ℕ) (st : Tally) (s : Bytes) → length s ≤ m → CharsLocal st s
 unfolding chars
-chars-below zero [] l = cut refl chars-opens
-chars-below zero (c ∷ s) l = absurd (omega arith)
-chars-below (suc m) [] l = cut refl chars-opens
-chars-below (suc m) (c ∷ s) l = go (λ t h. chars-below m t h) (char-view c) refl
+chars-below zero st [] l = cut refl chars-opens
+chars-below zero st (c ∷ s) l = absurd (omega arith)
+chars-below (suc m) st [] l = cut refl chars-opens
+chars-below (suc m) st (c ∷ s) l = go (λ x t h. chars-below m x t h) (char-view c) refl
   where
-    go : ((t : Bytes) → length t ≤ m → CharsLocal t) → {k : Strings.Char} → CharView c k → char c ≡ k → CharsLocal (c ∷ s)
+    go : ((x : Tally) (t : Bytes) → length t ≤ m → CharsLocal x t) → {k : Strings.Char} → CharView c k → char c ≡ k → CharsLocal st (c ∷ s)
     go below (isQuote p) q = step c s (rw p refl) (λ x. rw (q, chars) refl) (done [] s (λ r. close p))
     go below (isBackslash p) q =
         step c s (rw p refl) (λ x. rw (q, chars) (bind-same (escape x) _ (λ e. charsOf (e .rest) >>= λ r. ok (record { got = e .got ++ r .got; rest = r .rest })) λ e i.
         let h = escape-length (escape-sound x e i) in
-        ap (λ (y : Result (Read Bytes)). y >>= λ r. ok (record { got = e .got ++ r .got; rest = r .rest })) (chars-steps (length x) (length (e .rest)) (e .rest) (omega arith) (omega arith)))) (bind (λ e. charsOf (e .rest) >>= λ r. ok (record { got = e .got ++ r .got; rest = r .rest })) s (escape-local s) (λ i g k. escaped-opens c p g k) (λ b. early) λ b used r e t.
-        bind (λ d. ok (record { got = b ++ d .got; rest = d .rest })) r (below r (omega (arith, ap length e, length-append used r))) (λ i g k n. behind (c ∷ used) (λ x. b ++ x) (λ x z w h. (Chars.escape p (t z) (h .0) refl, omega (arith, h .1, length-append b x))) (k n)) (λ d. all-read (b ++ d)) λ d more w i h.
+        ap (λ (y : Result (Read Bytes)). y >>= λ r. ok (record { got = e .got ++ r .got; rest = r .rest })) (chars-steps (length x) (length (e .rest)) (e .rest) (omega arith) (omega arith)))) (bind (λ e. charsOf (e .rest) >>= λ r. ok (record { got = e .got ++ r .got; rest = r .rest })) s (escape-local (further st c) s) (λ i g k. escaped-opens c p g k) (λ b. early) λ b used r e t o.
+        bind (λ d. ok (record { got = b ++ d .got; rest = d .rest })) r (below (tallied (further st c) used) r (omega (arith, ap length e, length-append used r))) (λ i g k n. behind (c ∷ used) (λ x. b ++ x) (λ x z w h. (Chars.escape p (t z) (h .0) refl, omega (arith, h .1, length-append b x))) (k n)) (λ d. all-read (b ++ d)) λ d more w i h o′.
         done (b ++ d) w (rw (append-nil more) λ y. regroup (λ (z : Bytes). Chars (b ++ d) (c ∷ z) y) used more y (Chars.escape p (t (more ++ y)) (h y) refl)))
     go below isControl q = stopped notJson c s (λ x. rw (q, chars) refl) early chars-opens dead
     go below (isOther p) q =
-        step-any c s (λ x. rw (q, chars) refl) (λ b e h. ok-not-refused (readOf b []) notJson (sym h)) (λ r d e h. refused-ascii (λ y. record { got = c ∷ y .got; rest = y .rest }) r d (h (34 ∷ []))) (bind (λ r. ok (record { got = c ∷ r .got; rest = r .rest })) s (below s (omega arith)) (λ i g k n. behind (c ∷ []) (λ x. c ∷ x) (λ x z r h. (unescaped p (h .0), omega (arith, h .1))) (k n)) (λ b. all-read (c ∷ b)) λ b used r e t.
+        step-any c s (λ x. rw (q, chars) refl) (λ b e h. ok-not-refused (readOf b []) notJson (sym h)) (λ r d e h. refused-ascii (λ y. record { got = c ∷ y .got; rest = y .rest }) r d (h (34 ∷ []))) (bind (λ r. ok (record { got = c ∷ r .got; rest = r .rest })) s (below (further st c) s (omega arith)) (λ i g k n. behind (c ∷ []) (λ x. c ∷ x) (λ x z r h. (unescaped p (h .0), omega (arith, h .1))) (k n)) (λ b. all-read (c ∷ b)) λ b used r e t o.
         done (c ∷ b) r (rw (append-nil used) (λ z. unescaped p (t z))))
 
-pub chars-local : (s : Bytes) → CharsLocal s
-chars-local s = chars-below (length s) s (omega arith)
+pub chars-local : (st : Tally) (s : Bytes) → CharsLocal st s
+chars-local st s = chars-below (length s) st s (omega arith)

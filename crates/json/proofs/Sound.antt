@@ -503,7 +503,7 @@ pub record FieldsRead (left n : ℕ) (names : List Bytes) (s : Bytes) (p : Parse
   pub isTidy : tidyOf Limits.maxNumber (p .tree) ≡ true
   pub fresh : (k : Bytes) → isOneOf k names ≡ true → isOneOf k (keys (p .tree)) ≡ false
 
-abbrev ParserSound : ℕ → Reader.Parser Value → Type 0
+abbrev pub ParserSound : ℕ → Reader.Parser Value → Type 0
 ParserSound left val = (n : ℕ) (s : Bytes) (p : Parsed Value) → val n s ≡ ok p → ValueRead left n s p
 
 items-sound : (left : ℕ) (val : Reader.Parser Value) → ParserSound left val → (f n : ℕ) (s : Bytes) (p : Parsed Values) → Reader.items val f n s ≡ ok p → ItemsRead left n s p

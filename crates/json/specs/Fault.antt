@@ -4,7 +4,7 @@ use mathlib.Core.Bool.{false, true}
 use mathlib.Core.List.{[], _++_, _∷_}
 use mathlib.Core.Logic.{_⊎_, _≢_}
 use mathlib.Core.Path.{_≡_}
-use Prim.Native.Nat.{ℕ, _<_, _≤_}
+use Prim.Native.Nat.{ℕ, _+_, _<_, _≤_}
 use lib.ListN.{length}
 use Rattle.json.specs.Bytes.{Bytes, isOneOf}
 use Rattle.json.specs.Grammar.{JsonText}
@@ -13,6 +13,7 @@ use Rattle.json.specs.Limits.{depth, maxBytes, maxDepth, maxNodes, maxNu
 use Rattle.json.specs.Numerals.{digit, isOther}
 use Rattle.json.specs.Reader.{parse, start, startNothing}
 use Rattle.json.specs.Refusal.{Refusal, Result, notJson, notUtf8, numberTooLong, ok, refused, repeatedName, tooDeep, tooLong, tooManyNodes}
+use Rattle.json.specs.Tally.{Tally, bracketsOpen, bytesOfNumber, endsIn, further, nodesBegun, nothing, quoted, tallied}
 use Rattle.json.specs.Utf8.{scalar, utf8}
 
 -- a JSON text begins with these bytes
@@ -28,12 +29,12 @@ pub data Limit : Refusal → Type 0 where
   seven : Limit tooManyNodes
   eight : Limit repeatedName
 
--- the byte at which each of them stands: an opening bracket, a byte of a number, the first byte of a value or of a name, the closing quote of a name
-pub data StandsAt : Refusal → ℕ → Type 0 where
-  bracket : {c : ℕ} → (c ≡ 91) ⊎ (c ≡ 123) → StandsAt tooDeep c
-  numeral : {c : ℕ} → digit c ≢ isOther → StandsAt numberTooLong c
-  begins : {c : ℕ} → start c ≢ startNothing → StandsAt tooManyNodes c
-  quote : {c : ℕ} → c ≡ 34 → StandsAt repeatedName c
+-- The byte at which each of them stands, behind what has been counted before it: an opening bracket, the 65th that is open; a byte of a number, its 256th; the first byte of a value or a name, node 4,097; a quote, which closes a name.
+pub data StandsAt (before : Tally) (c : ℕ) : Refusal → Type 0 where
+  bracket : (c ≡ 91) ⊎ (c ≡ 123) → bracketsOpen before ≡ maxDepth → bracketsOpen (further before c) ≡ maxDepth + 1 → StandsAt before c tooDeep
+  numeral : digit c ≢ isOther → bytesOfNumber before ≡ maxNumber → bytesOfNumber (further before c) ≡ maxNumber + 1 → StandsAt before c numberTooLong
+  begins : start c ≢ startNothing → nodesBegun before ≡ maxNodes → nodesBegun (further before c) ≡ maxNodes + 1 → StandsAt before c tooManyNodes
+  quote : c ≡ 34 → endsIn before ≡ quoted → StandsAt before c repeatedName
 
 -- a value of a tree: the tree itself, or one that stands in it
 mutual
@@ -84,7 +85,7 @@ pub record Past (q : Refusal) (s : Bytes) : Type 0 where
   pub byte : ℕ
   pub rest : Bytes
   pub parts : s ≡ good ++ (byte ∷ rest)
-  pub stands : StandsAt q byte
+  pub stands : StandsAt (tallied nothing good) byte q
   pub continues : Continues (good ++ (byte ∷ []))
   pub decoded : utf8 scalar s ≡ true → utf8 scalar (good ++ (byte ∷ []) ++ continues .more) ≡ true
   pub tie : q ≡ tooManyNodes → ¬ Passes tooDeep (continues .tree)

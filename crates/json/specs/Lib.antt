@@ -10,6 +10,7 @@ pub mod Strings
 pub mod Numerals
 pub mod Reader
 pub mod Grammar
+pub mod Tally
 pub mod Fault
 pub mod Spans
 pub mod Placing
@@ -19,6 +20,7 @@ pub mod Marks
 pub mod Links
 pub mod Escapes
 pub mod Fits
+pub mod Ascent
 pub mod Cursor
 pub mod Held
 pub mod Naming

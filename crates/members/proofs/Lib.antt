@@ -11,3 +11,4 @@ pub mod Walks
 pub mod Wanted
 pub mod Words
 pub mod Soundness
+pub mod First

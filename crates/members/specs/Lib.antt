@@ -1,6 +1,7 @@
 pub mod Answers
 pub mod Condition
 pub mod Faults
+pub mod First
 pub mod Kinds
 pub mod Outcome
 pub mod Rule
