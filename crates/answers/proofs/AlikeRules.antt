@@ -20,7 +20,7 @@ use Rattle.members.specs.Condition.{Condition}
 use Rattle.members.specs.Kinds.{aText, notNull, optional, required}
 use Rattle.members.specs.Sheet.{Sheet, aSheet, checked, readSheet, sound, written}
 use Rattle.members.specs.Verdicts.{faultOf, isOk}
-use Rattle.answers.specs.AlikeRules.{AlikeMember, AlikeRules, bothMissing, bothThere}
+use Rattle.answers.specs.AlikeMembers.{AlikeMember, AlikeRules, bothMissing, bothThere}
 
 -- the parts of a sheet that is read, from its text's members
 pub record ReadFrom (ms : Members) (sheet : Sheet Condition) : Type 0 where
@@ -49,19 +49,23 @@ module _ {ms ns : Members} (t : tidyOf maxNumber ms ≡ true) (u : tidyOf maxNum
       sym (ap (mapped sorted) f) ∙
       sym (find-sorted k ns u)
 
-  required-alike : {A : Type 0} (kind : Value → Result A) (a b : A) → AlikeMember k ms ns → required kind k (sortedOf ms) ≡ ok a → required kind k (sortedOf ns) ≡ ok b → b ≡ a
+  pub required-alike : {A : Type 0} (kind : Value → Result A) (a b : A) → AlikeMember k ms ns → required kind k (sortedOf ms) ≡ ok a → required kind k (sortedOf ns) ≡ ok b → b ≡ a
   required-alike {A} kind a b h e f =
       let x : _≡_ {A = Result A} (ok b) (ok a) = sym f ∙ ap {B = Result A} (λ o. orElse o wrongSheet >>= kind) (sym (found-alike h)) ∙ e in
       let y : b ≡ a = cc in
       y
 
-  optional-alike : {A : Type 0} (kind : Value → Result A) (a b : Option A) → AlikeMember k ms ns → optional kind k (sortedOf ms) ≡ ok a → optional kind k (sortedOf ns) ≡ ok b → b ≡ a
+  pub optional-alike :
+      {A : Type 0} (kind : Value → Result A) (a b : Option A) → AlikeMember k ms ns → optional kind k (sortedOf ms) ≡ ok a →
+      optional kind k (sortedOf ns) ≡ ok b → b ≡ a
   optional-alike {A} kind a b h e f =
       let x : _≡_ {A = Result (Option A)} (ok b) (ok a) = sym f ∙ ap {B = Result (Option A)} (λ o. elim o [ none ↦ ok none | some v ↦ (kind v >>= (λ a. ok (some a))) ]) (sym (found-alike h)) ∙ e in
       let y : b ≡ a = cc in
       y
 
-pub alike-rules : (s s′ : Bytes) (ms ns : Members) (old new : Sheet Condition) → json s ≡ ok (object ms) → json s′ ≡ ok (object ns) → readSheet s ≡ ok old → readSheet s′ ≡ ok new → AlikeRules ms ns → SameRules old new
+pub alike-rules :
+    (s s′ : Bytes) (ms ns : Members) (old new : Sheet Condition) → json s ≡ ok (object ms) → json s′ ≡ ok (object ns) → readSheet s ≡ ok old →
+    readSheet s′ ≡ ok new → AlikeRules ms ns → SameRules old new
 alike-rules s s′ ms ns old new e f r q a =
     let x = read-from s ms old e r in
     let y = read-from s′ ns new f q in

@@ -1,11 +1,13 @@
-pub mod Samples
+pub mod Each
+pub mod Demand
 pub mod LaterRules
 pub mod Guards
 pub mod Repeat
+pub mod Witness
+pub mod AlikeRules
+pub mod AlikeReadings
 pub mod Selected
+pub mod Samples
 pub mod Examples
 pub mod Limits
 pub mod Sentences
-pub mod AlikeRules
-pub mod Witness
-pub mod AlikeReadings

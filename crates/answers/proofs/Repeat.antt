@@ -9,12 +9,13 @@ use Prim.Native.Nat.{ℕ, _+_, _<_, _≤_}
 use native.Mathlib.Omega.{arith}
 use lib.Dec.{leb}
 use lib.ListN.{length}
+use Rattle.answers.proofs.Demand.{same-readings}
 use Rattle.answers.proofs.Guards.{GuardRefused, GuardShape, GuardTried, GuardsLater, chosen, exhausted, guard-at, later-select, stopped}
 use Rattle.answers.proofs.LaterRules.{RuleRefused, RuleShape, RulesLater, later-check, rule-at}
 use Rattle.answers.specs.Decide.{asAdmitted, decideCall}
 use Rattle.answers.specs.Outcomes.{Placed, at, eligible, firstFrom, guard as Decide·guard, select}
 use Rattle.answers.specs.Rules.{check}
-use Rattle.answers.specs.Demand.{Demand, Kept, NamesVanished, Repeated, SameRules, Step, Unobservable, Vanished, atGuard, atRule, guard, isGuarded, isStep, rule, settled, settler, upTo, upToOutcome, upToSettler, Settler, atPlace, everything, selection}
+use Rattle.answers.specs.Demand.{AcceptedAs, Comparable, Demand, IsUnobservable, Kept, NamesVanished, RefusedAgain, Repeats, SameRules, Settler, Step, Vanished, atGuard, atOrBefore, atPlace, atRule, countsFor, everything, guard, isGuarded, isTried, refusalReply, rule, selection, settler, upToOutcome, upToSettler}
 use Rattle.answers.specs.Entry.{Reply, call, decide, enough, fitted, reply, workWords}
 use Rattle.answers.specs.Line.{refusalLine, refusalNumber, verdictLine}
 use Rattle.answers.specs.Admission.{admit, isWrong}
@@ -76,17 +77,17 @@ admit-shape states os s p = by (p .outcome .effect)
     by (moves to from) = outer from (isOneOf s from)
 
 -- which steps count, by what the decision was
-settled-refused : (s : Sheet Condition) (q : Refusal) (t : Settler) (k : Step) → decideCall s ≡ refused q → settler q ≡ t → settled s k ≡ upToSettler (select s 0 (s .outcomes)) t k
-unfolding settled
-settled-refused s q t k p e = rw (p, settled, e) refl
+counts-refused : (s : Sheet Condition) (q : Refusal) (t : Settler) (k : Step) → decideCall s ≡ refused q → settler q ≡ t → countsFor s k ≡ upToSettler (select s 0 (s .outcomes)) t k
+unfolding countsFor
+counts-refused s q t k p e = rw (p, countsFor, e) refl
 
-settled-ok : (s : Sheet Condition) (v : Verdict) (p : Placed) (k : Step) → decideCall s ≡ ok v → select s 0 (s .outcomes) ≡ ok p → settled s k ≡ upToOutcome (p .outcome .when) (p .place) k
-unfolding settled
-settled-ok s v p k e f = rw (e, settled, f) refl
+counts-ok : (s : Sheet Condition) (v : Verdict) (p : Placed) (k : Step) → decideCall s ≡ ok v → select s 0 (s .outcomes) ≡ ok p → countsFor s k ≡ upToOutcome (p .outcome .when) (p .place) k
+unfolding countsFor
+counts-ok s v p k e f = rw (e, countsFor, f) refl
 
-settled-late : (s : Sheet Condition) (q : Refusal) (p : Placed) (k : Step) → decideCall s ≡ refused q → settler q ≡ selection → select s 0 (s .outcomes) ≡ ok p → settled s k ≡ upToOutcome (p .outcome .when) (p .place) k
-unfolding settled
-settled-late s q p k e n f = rw (e, settled, n, f) refl
+counts-late : (s : Sheet Condition) (q : Refusal) (p : Placed) (k : Step) → decideCall s ≡ refused q → settler q ≡ selection → select s 0 (s .outcomes) ≡ ok p → countsFor s k ≡ upToOutcome (p .outcome .when) (p .place) k
+unfolding countsFor
+counts-late s q p k e n f = rw (e, countsFor, n, f) refl
 
 settler-noOutcome : settler noOutcome ≡ everything
 unfolding settler
@@ -110,56 +111,46 @@ module _ (s : Sheet Condition) (x : Bytes) (st : s .state ≡ some x) (pass : ch
   decide-refused : (q : Refusal) → select s 0 (s .outcomes) ≡ refused q → decideCall s ≡ refused q
   decide-refused q e = decide-select ∙ ap (λ (y : Result Placed). y >>= admitted-from (s .states) (s .outcomes) x) e
 
-  settled-chosen : (p : Placed) (k : Step) → select s 0 (s .outcomes) ≡ ok p → settled s k ≡ upToOutcome (p .outcome .when) (p .place) k
+  counts-chosen : (p : Placed) (k : Step) → select s 0 (s .outcomes) ≡ ok p → countsFor s k ≡ upToOutcome (p .outcome .when) (p .place) k
   unfolding admitted-from
-  settled-chosen p k e = by (admit-shape (s .states) (s .outcomes) x p)
+  counts-chosen p k e = by (admit-shape (s .states) (s .outcomes) x p)
     where
-      by : AdmitShape (admit (s .states) (s .outcomes) x p) → settled s k ≡ upToOutcome (p .outcome .when) (p .place) k
-      by (inl a) = settled-ok s _ p k (decide-select ∙ bind-ok _ e ∙ bind-ok _ (a .1)) e
-      by (inr a) = settled-late s (a .0) p k (decide-select ∙ bind-ok _ e ∙ ap (λ (y : Result Placed). y >>= λ q. ok (asAdmitted q)) (a .1)) (a .2) e
+      by : AdmitShape (admit (s .states) (s .outcomes) x p) → countsFor s k ≡ upToOutcome (p .outcome .when) (p .place) k
+      by (inl a) = counts-ok s _ p k (decide-select ∙ bind-ok _ e ∙ bind-ok _ (a .1)) e
+      by (inr a) = counts-late s (a .0) p k (decide-select ∙ bind-ok _ e ∙ ap (λ (y : Result Placed). y >>= λ q. ok (asAdmitted q)) (a .1)) (a .2) e
 
-  settled-exhausted : (k : Step) → select s 0 (s .outcomes) ≡ refused noOutcome → settled s k ≡ true
-  settled-exhausted k e = settled-refused s noOutcome everything k (decide-refused noOutcome e) settler-noOutcome
+  counts-exhausted : (k : Step) → select s 0 (s .outcomes) ≡ refused noOutcome → countsFor s k ≡ true
+  counts-exhausted k e = counts-refused s noOutcome everything k (decide-refused noOutcome e) settler-noOutcome
 
-  settled-stopped : (j : ℕ) (n : Bytes) (ns : Names) (k : Step) → select s 0 (s .outcomes) ≡ refused (guardUnknown j n ns) → settled s k ≡ upTo (guard j) k
-  settled-stopped j n ns k e = settled-refused s (guardUnknown j n ns) (atPlace (guard j)) k (decide-refused _ e) (settler-guard j n ns)
+  counts-stopped : (j : ℕ) (n : Bytes) (ns : Names) (k : Step) → select s 0 (s .outcomes) ≡ refused (guardUnknown j n ns) → countsFor s k ≡ atOrBefore k (guard j)
+  counts-stopped j n ns k e = counts-refused s (guardUnknown j n ns) (atPlace (guard j)) k (decide-refused _ e) (settler-guard j n ns)
 
-  rule-counts : (k : ℕ) → GuardShape 0 (select s 0 (s .outcomes)) → settled s (rule k) ≡ true
-  rule-counts k (chosen p e h) = settled-chosen p (rule k) e ∙ by (p .outcome .when)
+  rule-counts : (k : ℕ) → GuardShape 0 (select s 0 (s .outcomes)) → countsFor s (rule k) ≡ true
+  rule-counts k (chosen p e h) = counts-chosen p (rule k) e ∙ by (p .outcome .when)
     where
       by : (w : Option Condition) → upToOutcome w (p .place) (rule k) ≡ true
       by none = refl
       by (some c) = refl
-  rule-counts k (exhausted e) = settled-exhausted (rule k) e
-  rule-counts k (stopped j n ns e h) = settled-stopped j n ns (rule k) e
+  rule-counts k (exhausted e) = counts-exhausted (rule k) e
+  rule-counts k (stopped j n ns e h) = counts-stopped j n ns (rule k) e
 
-  guard-counts : (k : ℕ) → GuardTried k (select s 0 (s .outcomes)) → settled s (guard k) ≡ true
-  guard-counts k (inl (chosen p e h)) = settled-chosen p (guard k) e ∙ by (p .outcome .when)
+  guard-counts : (k : ℕ) → GuardTried k (select s 0 (s .outcomes)) → countsFor s (guard k) ≡ true
+  guard-counts k (inl (chosen p e h)) = counts-chosen p (guard k) e ∙ by (p .outcome .when)
     where
       by : (w : Option Condition) → upToOutcome w (p .place) (guard k) ≡ true
       by none = ltb-true k (p .place) (omega arith)
       by (some c) = leb-true k (p .place) (omega arith)
-  guard-counts k (inl (exhausted e)) = settled-exhausted (guard k) e
-  guard-counts k (inl (stopped j n ns e h)) = settled-stopped j n ns (guard k) e ∙ leb-true k j (omega arith)
-  guard-counts k (inr (inl e)) = settled-exhausted (guard k) e
-  guard-counts k (inr (inr (inl t))) = settled-chosen (t .0) (guard k) (t .2) ∙ ap (λ (w : Option Condition). upToOutcome w (t .0 .place) (guard k)) (t .3) ∙ leb-true k (t .0 .place) (t .4)
-  guard-counts k (inr (inr (inr t))) = settled-stopped (t .0) (t .1) (t .2) (guard k) (t .3) ∙ leb-true k (t .0) (t .4)
+  guard-counts k (inl (exhausted e)) = counts-exhausted (guard k) e
+  guard-counts k (inl (stopped j n ns e h)) = counts-stopped j n ns (guard k) e ∙ leb-true k j (omega arith)
+  guard-counts k (inr (inl e)) = counts-exhausted (guard k) e
+  guard-counts k (inr (inr (inl t))) = counts-chosen (t .0) (guard k) (t .2) ∙ ap (λ (w : Option Condition). upToOutcome w (t .0 .place) (guard k)) (t .3) ∙ leb-true k (t .0 .place) (t .4)
+  guard-counts k (inr (inr (inr t))) = counts-stopped (t .0) (t .1) (t .2) (guard k) (t .3) ∙ leb-true k (t .0) (t .4)
 
 -- two sheets with the same rules and state
 module _ (old new : Sheet Condition) (same : SameRules old new) where
   -- a lost reading's text
   Erased : Bytes → Type 0
   Erased e = (r : Reading) × (r .text ≡ e) × IsReading old r × Vanished old new r
-
-  record DecisionRefused : Type 0 where
-    refusal : Refusal
-    step : Step
-    names : Names
-    unobservable : Unobservable refusal step names
-    isNew : decideCall new ≡ refused refusal
-    isTried : isStep old step ≡ true
-    tried : settled old step ≡ true
-    named : NamesVanished old new names ⊎ ((q : Refusal) × (ms : Names) × (decideCall old ≡ refused q) × Unobservable q step ms)
 
   vanished-named : (ns : Names) → Lost Erased ns → NamesVanished old new ns
   unfolding Erased
@@ -177,12 +168,12 @@ module _ (old new : Sheet Condition) (same : SameRules old new) where
   oldParts : (st : Option Bytes) → old .state ≡ st → decideCall old ≡ decideFrom old st (old .preconditions) (old .outcomes) (old .states)
   oldParts st e = decide-parts old ∙ cc
 
-  rule-step : (j : ℕ) → (k : ℕ) × (j ≡ 0 + k) × (k < length (old .preconditions)) → isStep old (rule j) ≡ true
-  unfolding isStep
+  rule-step : (j : ℕ) → (k : ℕ) × (j ≡ 0 + k) × (k < length (old .preconditions)) → isTried old (rule j) ≡ true
+  unfolding isTried
   rule-step j f = ltb-true j (length (old .preconditions)) (omega (arith, f .1, f .2))
 
-  guard-step : (j : ℕ) → (k : ℕ) × (j ≡ 0 + k) × (isGuarded (new .state) (at 0 k (old .outcomes)) ≡ true) → isStep old (guard j) ≡ true
-  unfolding isStep
+  guard-step : (j : ℕ) → (k : ℕ) × (j ≡ 0 + k) × (isGuarded (new .state) (at 0 k (old .outcomes)) ≡ true) → isTried old (guard j) ≡ true
+  unfolding isTried
   guard-step j f =
       let p : f .0 ≡ j = omega (arith, f .1) in
       let q = same .state in
@@ -209,11 +200,11 @@ module _ (old new : Sheet Condition) (same : SameRules old new) where
 
     module _ (x : Bytes) (st : old .state ≡ some x) where
       -- the rules passed on the old sheet, so a new refusal at a rule came before what settled it
-      ruleTried : (k : ℕ) → RuleShape k (check old preconditions 0 (old .preconditions)) → settled old (rule k) ≡ true
+      ruleTried : (k : ℕ) → RuleShape k (check old preconditions 0 (old .preconditions)) → countsFor old (rule k) ≡ true
       ruleTried k (inl p) = rule-counts old x st p k (G .shape)
-      ruleTried k (inr t) = settled-refused old (t .0) (atPlace (rule (t .1))) (rule k) (oldParts (some x) st ∙ refused-rules old x _ _ _ (t .0) (t .2)) (t .3) ∙ leb-true k (t .1) (t .4)
+      ruleTried k (inr t) = counts-refused old (t .0) (atPlace (rule (t .1))) (rule k) (oldParts (some x) st ∙ refused-rules old x _ _ _ (t .0) (t .2)) (t .3) ∙ leb-true k (t .1) (t .4)
 
-      at-rule : RuleRefused Erased (check old preconditions 0 (old .preconditions)) (check new preconditions 0 (old .preconditions)) → DecisionRefused
+      at-rule : RuleRefused Erased (check old preconditions 0 (old .preconditions)) (check new preconditions 0 (old .preconditions)) → RefusedAgain old new
       at-rule r =
           record {
             refusal = _;
@@ -221,12 +212,12 @@ module _ (old new : Sheet Condition) (same : SameRules old new) where
             names = r .names;
             unobservable = atRule;
             isNew = newParts (some x) st ∙ refused-rules new x _ _ _ _ (r .isNew);
-            isTried = rule-step (r .place) (rule-at Erased old new 0 (old .preconditions) (every-left (ruleReadings (old .preconditions)) (guardReadings (old .outcomes)) facts) (r .place) (r .name) (r .message) (r .names) (r .isNew));
-            tried = ruleTried (r .place) (r .tried);
+            tried = rule-step (r .place) (rule-at Erased old new 0 (old .preconditions) (every-left (ruleReadings (old .preconditions)) (guardReadings (old .outcomes)) facts) (r .place) (r .name) (r .message) (r .names) (r .isNew));
+            counts = ruleTried (r .place) (r .tried);
             named = by (r .named);
           }
         where
-          by : Lost Erased (r .names) ⊎ ((ms : Names) × (check old preconditions 0 (old .preconditions) ≡ refused (ruleUnknown preconditions (r .place) (r .name) (r .message) ms))) → NamesVanished old new (r .names) ⊎ ((q : Refusal) × (ms : Names) × (decideCall old ≡ refused q) × Unobservable q (rule (r .place)) ms)
+          by : Lost Erased (r .names) ⊎ ((ms : Names) × (check old preconditions 0 (old .preconditions) ≡ refused (ruleUnknown preconditions (r .place) (r .name) (r .message) ms))) → NamesVanished old new (r .names) ⊎ IsUnobservable old (rule (r .place))
           by (inl l) = inl (vanished-named (r .names) l)
           by (inr l) = inr (_, l .0, oldParts (some x) st ∙ refused-rules old x _ _ _ _ (l .1), atRule)
 
@@ -237,7 +228,7 @@ module _ (old new : Sheet Condition) (same : SameRules old new) where
         oldSelect : decideCall old ≡ (select old 0 (old .outcomes) >>= admitted-from (old .states) (old .outcomes) x)
         oldSelect = oldParts (some x) st ∙ passed-rules old x _ _ _ pass
 
-        at-guard : GuardRefused Erased (select old 0 (old .outcomes)) (select new 0 (old .outcomes)) → DecisionRefused
+        at-guard : GuardRefused Erased (select old 0 (old .outcomes)) (select new 0 (old .outcomes)) → RefusedAgain old new
         at-guard r =
             record {
               refusal = _;
@@ -245,36 +236,36 @@ module _ (old new : Sheet Condition) (same : SameRules old new) where
               names = r .names;
               unobservable = atGuard;
               isNew = newSelect ∙ ap (λ (y : Result Placed). y >>= admitted-from (old .states) (old .outcomes) x) (r .isNew);
-              isTried = guard-step (r .place) (guard-at Erased old new 0 (old .outcomes) (every-right (ruleReadings (old .preconditions)) (guardReadings (old .outcomes)) facts) (r .place) (r .name) (r .names) (r .isNew));
-              tried = guard-counts old x st pass (r .place) (r .tried);
+              tried = guard-step (r .place) (guard-at Erased old new 0 (old .outcomes) (every-right (ruleReadings (old .preconditions)) (guardReadings (old .outcomes)) facts) (r .place) (r .name) (r .names) (r .isNew));
+              counts = guard-counts old x st pass (r .place) (r .tried);
               named = by (r .named);
             }
           where
-            by : Lost Erased (r .names) ⊎ ((ms : Names) × (select old 0 (old .outcomes) ≡ refused (guardUnknown (r .place) (r .name) ms))) → NamesVanished old new (r .names) ⊎ ((q : Refusal) × (ms : Names) × (decideCall old ≡ refused q) × Unobservable q (guard (r .place)) ms)
+            by : Lost Erased (r .names) ⊎ ((ms : Names) × (select old 0 (old .outcomes) ≡ refused (guardUnknown (r .place) (r .name) ms))) → NamesVanished old new (r .names) ⊎ IsUnobservable old (guard (r .place))
             by (inl l) = inl (vanished-named (r .names) l)
             by (inr l) = inr (_, l .0, oldSelect ∙ ap (λ (y : Result Placed). y >>= admitted-from (old .states) (old .outcomes) x) (l .1), atGuard)
 
-        by-guards : (select new 0 (old .outcomes) ≡ select old 0 (old .outcomes)) ⊎ GuardRefused Erased (select old 0 (old .outcomes)) (select new 0 (old .outcomes)) → (decideCall new ≡ decideCall old) ⊎ DecisionRefused
+        by-guards : (select new 0 (old .outcomes) ≡ select old 0 (old .outcomes)) ⊎ GuardRefused Erased (select old 0 (old .outcomes)) (select new 0 (old .outcomes)) → (decideCall new ≡ decideCall old) ⊎ RefusedAgain old new
         by-guards (inl e) = inl (newSelect ∙ ap (λ (y : Result Placed). y >>= admitted-from (old .states) (old .outcomes) x) e ∙ sym oldSelect)
         by-guards (inr r) = inr (at-guard r)
 
-      by-rules : RuleShape 0 (check old preconditions 0 (old .preconditions)) → (check new preconditions 0 (old .preconditions) ≡ check old preconditions 0 (old .preconditions)) ⊎ RuleRefused Erased (check old preconditions 0 (old .preconditions)) (check new preconditions 0 (old .preconditions)) → (decideCall new ≡ decideCall old) ⊎ DecisionRefused
+      by-rules : RuleShape 0 (check old preconditions 0 (old .preconditions)) → (check new preconditions 0 (old .preconditions) ≡ check old preconditions 0 (old .preconditions)) ⊎ RuleRefused Erased (check old preconditions 0 (old .preconditions)) (check new preconditions 0 (old .preconditions)) → (decideCall new ≡ decideCall old) ⊎ RefusedAgain old new
       by-rules (inl p) (inl e) = by-guards p (e ∙ p) (G .later)
       by-rules (inr t) (inl e) = inl (newParts (some x) st ∙ refused-rules new x _ _ _ (t .0) (e ∙ t .2) ∙ sym (oldParts (some x) st ∙ refused-rules old x _ _ _ (t .0) (t .2)))
       by-rules p (inr r) = inr (at-rule r)
 
-    decision-later : (decideCall new ≡ decideCall old) ⊎ DecisionRefused
+    decision-later : (decideCall new ≡ decideCall old) ⊎ RefusedAgain old new
     unfolding decideFrom
     decision-later = by (old .state) refl
       where
-        by : (st : Option Bytes) → old .state ≡ st → (decideCall new ≡ decideCall old) ⊎ DecisionRefused
+        by : (st : Option Bytes) → old .state ≡ st → (decideCall new ≡ decideCall old) ⊎ RefusedAgain old new
         by none e = inl (newParts none e ∙ sym (oldParts none e))
         by (some x) e = by-rules x e (R .shape) (R .later)
 
 -- the reply of a call whose line fits
 plain-reply : Result Verdict → Reply
 plain-reply (ok v) = record { number = 0; line = some (verdictLine v) }
-plain-reply (refused r) = record { number = refusalNumber r; line = refusalLine r }
+plain-reply (refused r) = refusalReply r
 
 fitted-plain : (output n : ℕ) (line : Option Bytes) → (fitted output n line) .number ≢ 23 → fitted output n line ≡ record { number = n; line = line }
 unfolding refusalNumber
@@ -290,41 +281,34 @@ unfolding reply plain-reply
 reply-plain output (ok v) h = fitted-plain output 0 (some (verdictLine v)) h
 reply-plain output (refused r) h = fitted-plain output (refusalNumber r) (refusalLine r) h
 
-decide-plain : (s : Bytes) (work output : ℕ) (sheet : Sheet Condition) → workWords ≤ work → readSheet s ≡ ok sheet → (decide s work output) .number ≢ 23 → decide s work output ≡ plain-reply (decideCall sheet)
+decide-plain : (s : Bytes) (work output : ℕ) {sheet : Sheet Condition} → AcceptedAs sheet s work (decide s work output) → decide s work output ≡ plain-reply (decideCall sheet)
 unfolding decide call enough
-decide-plain s work output sheet w e h = whole ∙ reply-plain output (decideCall sheet) (subst (λ (r : Reply). r .number ≢ 23) whole h)
+decide-plain s work output {sheet} a = whole ∙ reply-plain output (decideCall sheet) (subst (λ (r : Reply). r .number ≢ 23) whole (a .enoughOutput))
   where
     whole : decide s work output ≡ reply output (decideCall sheet)
-    whole = rw (leb-true workWords work w, enough) (rw e refl)
-
--- the readings of two sheets with the same rules are the same
-same-readings : (old new : Sheet Condition) → SameRules old new → sheetReadings new ≡ sheetReadings old
-same-readings old new same =
-    let a = same .rules in
-    let b = same .outcomes in
-    cc
+    whole = rw (leb-true workWords work (a .enoughWork), enough) (rw (a .reads) refl)
 
 not-null : (v : Value) → isNull v ≡ false → v ≢ null
 not-null v e p = true≢false (sym (ap isNull p) ∙ e)
 
-fact-of : (old new : Sheet Condition) (same : SameRules old new) → clean kernel old ≡ true → clean kernel new ≡ true → ((r : Reading) → IsReading old r → Kept old new r) → Every (Fact kernel (Erased old new same) old new) (sheetReadings old)
+fact-of : (old new : Sheet Condition) (c : Comparable old new) → Every (Fact kernel (Erased old new (c .sameRules)) old new) (sheetReadings old)
 unfolding Erased
-fact-of old new same cleanOld cleanNew keeps r m =
+fact-of old new c r m =
     record {
       was = was .0;
       now = now .0;
       isWas = was .1;
       isNow = now .1;
-      change = change (keeps r m);
-      exact = exact (keeps r m);
+      change = change (c .oldValueOrNothing r m);
+      exact = exact (c .oldValueOrNothing r m);
       erased = λ v p n g. (r, refl, m, record { value = v; gave = was .1 ∙ ap {B = Result (Option Value)} ok p; notNull = not-null v n; gone = now .1 ∙ ap {B = Result (Option Value)} ok g });
     }
   where
     was : (g : Option Value) × (gives kernel old [] (r .text) ≡ ok g)
-    was = known-gives kernel old (sheetReadings old) cleanOld r m
+    was = known-gives kernel old (sheetReadings old) (c .isClean) r m
 
     now : (g : Option Value) × (gives kernel new [] (r .text) ≡ ok g)
-    now = known-gives kernel new (sheetReadings new) cleanNew r (rw (same-readings old new same) m)
+    now = known-gives kernel new (sheetReadings new) (c .isCleanAgain) r (rw (same-readings old new (c .sameRules)) m)
 
     change : Kept old new r → (now .0 ≡ was .0) ⊎ (now .0 ≡ none)
     change (inl u) = inl (ok-injective (sym (now .1) ∙ u ∙ was .1))
@@ -406,32 +390,32 @@ decision-alike old new same h =
 
 pub demand : Demand
 unfolding Demand plain-reply
-demand s s′ work work′ output output′ old new w w′ e e′ n n′ same cleanOld cleanNew keeps = (by (decision-later old new same (fact-of old new same cleanOld cleanNew keeps)), λ u. same-reply (decision-alike old new same u))
+demand s s′ work work′ output output′ old new h = record { sameOrRefused = by (decision-later old new same (fact-of old new (h .comparable))); sameWhereUnchanged = λ u. same-reply (decision-alike old new same u) }
   where
+    same : SameRules old new
+    same = h .comparable .sameRules
+
     oldReply : decide s work output ≡ plain-reply (decideCall old)
-    oldReply = decide-plain s work output old w e n
+    oldReply = decide-plain s work output (h .accepted)
 
     newReply : decide s′ work′ output′ ≡ plain-reply (decideCall new)
-    newReply = decide-plain s′ work′ output′ new w′ e′ n′
+    newReply = decide-plain s′ work′ output′ (h .acceptedAgain)
 
     same-reply : decideCall new ≡ decideCall old → decide s′ work′ output′ ≡ decide s work output
     same-reply p = newReply ∙ ap plain-reply p ∙ sym oldReply
 
-    by : (decideCall new ≡ decideCall old) ⊎ DecisionRefused old new same → (decide s′ work′ output′ ≡ decide s work output) ⊎ Repeated old new (decide s′ work′ output′)
+    by : (decideCall new ≡ decideCall old) ⊎ RefusedAgain old new → (decide s′ work′ output′ ≡ decide s work output) ⊎ ((r : RefusedAgain old new) × (decide s′ work′ output′ ≡ refusalReply (r .refusal)))
     by (inl p) = inl (same-reply p)
-    by (inr d) =
-        inr
-        (record {
-          refusal = d .refusal;
-          step = d .step;
-          names = d .names;
-          unobservable = d .unobservable;
-          isNew = d .isNew;
-          isReply = newReply ∙ ap plain-reply (d .isNew);
-          isTried = d .isTried;
-          upToSettled = d .tried;
-          named = d .named;
-        })
+    by (inr r) = inr (r, newReply ∙ ap plain-reply (r .isNew))
+
+-- the same of whatever is seen of two calls, where that is their replies
+pub demand-seen : (s s′ : Bytes) (work work′ output output′ : ℕ) {was now : Reply} → was ≡ decide s work output → now ≡ decide s′ work′ output′ → Repeats s s′ work work′ was now
+unfolding Demand
+demand-seen s s′ work work′ output output′ {was} {now} p q =
+    subst
+    (λ (x : Reply). Repeats s s′ work work′ x now)
+    (sym p)
+    (subst (λ (y : Reply). Repeats s s′ work work′ (decide s work output) y) (sym q) (demand s s′ work work′ output output′))
 
 -- a decision with clean rules: an admission, 12, or a refusal that a rule, a guard, all that were tried or the outcome selected settled; so neither 13 nor 14
 pub data IsSettler : Settler → Type 0 where
@@ -452,7 +436,7 @@ clean-decided s c = by (s .state) refl
     same = record { rules = refl; outcomes = refl; state = refl; states = refl }
 
     facts : Every (Fact kernel (Erased s s same) s s) (sheetReadings s)
-    facts = fact-of s s same c c (λ r m. inl refl)
+    facts = fact-of s s (record { sameRules = same; isClean = c; isCleanAgain = c; oldValueOrNothing = λ r m. inl refl })
 
     admitting : (x : Bytes) (p : Placed) → decideCall s ≡ admitted-from (s .states) (s .outcomes) x p → AdmitShape (admit (s .states) (s .outcomes) x p) → Decided (decideCall s)
     admitting x p e (inl a) = subst Decided (sym (e ∙ bind-ok _ (a .1))) (admits _)

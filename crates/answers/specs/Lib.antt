@@ -8,5 +8,6 @@ pub mod Decide
 pub mod Selection
 pub mod Entry
 pub mod Demand
-pub mod AlikeRules
+pub mod AlikeMembers
+pub mod AlikeReadings
 pub mod Ended

@@ -1,4 +1,4 @@
 pub mod Replies
 pub mod Calls
 pub mod Called
-pub mod Again
+pub mod Seen

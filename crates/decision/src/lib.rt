@@ -1,5 +1,4 @@
-// The six calls on any bytes, and two decisions compared. The definitions stand in specs/, the laws in proofs/.
-pub mod again;
+// The six calls on any bytes. The definitions stand in specs/, the laws in proofs/, the third demand of any two calls of Decide in proofs/Twofold.antt.
 mod call;
 pub mod entry;
 pub mod reply;

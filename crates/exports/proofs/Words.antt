@@ -2,7 +2,7 @@
 -- Assumes nothing.
 use mathlib.Core.List.{List}
 use mathlib.Core.Path.{_≡_}
-use Prim.Native.Nat.{ℕ, _%_, _<_, _/_, _≤_}
+use Prim.Native.Nat.{ℕ, _<_, _≤_}
 use native.Mathlib.Omega.{arith}
 use Rattle.decision.proofs.Entries.{call-small}
 use Rattle.decision.specs.Called.{Called}
@@ -11,7 +11,7 @@ use Rattle.answers.specs.Entry.{Reply, admit, checkInvariants, checkPreconditio
 use Rattle.answers.specs.Reply.{lineSize}
 use Rattle.writer.specs.declared.answer.Sent.{Sent}
 use Rattle.json.specs.Bytes.{Bytes}
-use Rattle.exports.specs.Exported.{Exported, wordOf}
+use Rattle.exports.specs.Exported.{Exported, numberIn, sizeIn, wordOf}
 
 -- number and length fit a word
 pub fits : {answer : Reply} {w w′ : List ℕ} {o o′ : Bytes} {r : Sent} → answer .number ≤ 23 → Called answer w w′ o o′ r → (r .number ≤ 23) × (r .size < 4294967296)
@@ -45,5 +45,5 @@ pub exported : {answer : Reply} {w w′ : List ℕ} {o o′ : Bytes} {r : Sent} 
 exported c e = record { word = rw (← c .isNumber, ← c .isSize) e; short = rw (← c .isSize) (c .short); output = c .output; work = c .work }
 
 -- what a caller reads off the word
-pub word-parts : {answer : Reply} {w w′ : List ℕ} {o o′ : Bytes} {r : ℕ} → Exported answer w w′ o o′ r → (r / 4294967296 ≡ answer .number) × (r % 4294967296 ≡ lineSize answer)
+pub word-parts : {answer : Reply} {w w′ : List ℕ} {o o′ : Bytes} {r : ℕ} → Exported answer w w′ o o′ r → (numberIn r ≡ answer .number) × (sizeIn r ≡ lineSize answer)
 word-parts x = (omega arith, omega arith)

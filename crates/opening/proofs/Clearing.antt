@@ -9,7 +9,7 @@ use native.Mathlib.Numerals.{add-one}
 use native.Mathlib.Omega.{arith}
 use lib.Dec.{T, leb, leb→le}
 use lib.ListN.{drop, getD, length, length-replicate, replicate, set}
-use lib.Seq.{drop-at, getD-set-other, set-getD, sets}
+use lib.Seq.{getD-set-other, set-getD, sets}
 use borrow.Author.Tests.{leb-false, lt-leb}
 use Rattle.writer.proofs.Laying.{sets-front}
 use Rattle.json.proofs.Laws.{leb-true}
@@ -115,7 +115,3 @@ same-left w w′ e small past = go (leb workWords (length w)) refl
     go : (b : Bool) → leb workWords (length w) ≡ b → workAfter w′ ≡ workAfter w
     go true q = by-size w′ true (ap (leb workWords) e ∙ q) ∙ ap (λ (l : List ℕ). zeros 16384 ++ l) (past (leb→le workWords (length w) (subst T (sym q) tt))) ∙ sym (by-size w true q)
     go false q = ap workAfter (small (leb-false workWords (length w) q))
-
--- a second call leaves what the first has left
-pub left-again : (w w′ : List ℕ) → length w′ ≡ length w → w′ ≡ workAfter w → workAfter w′ ≡ workAfter w
-left-again w w′ e z = same-left w w′ e (λ h. z ∙ sym (small-table w h)) (λ h. ap (drop 16384) (z ∙ by-size w true (leb-true workWords (length w) h)) ∙ drop-at (zeros 16384) (drop 16384 w) 16384 (length-zeros 16384))

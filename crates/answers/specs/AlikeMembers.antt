@@ -1,4 +1,4 @@
--- The same rules as the owner has them: members in any order.
+-- Members of two sheets' texts that are alike as the owner compares values: members of objects in any order.
 -- Assumes nothing.
 use mathlib.Core.Option.{none, some}
 use mathlib.Core.Path.{_≡_}
@@ -17,3 +17,14 @@ pub record AlikeRules (ms ns : Members) : Type 0 where
   pub outcomes : AlikeMember (ascii "outcomes") ms ns
   pub state : AlikeMember (ascii "state") ms ns
   pub states : AlikeMember (ascii "states") ms ns
+
+-- the members that expressions read
+pub record AlikeSources (ms ns : Members) : Type 0 where
+  pub id : AlikeMember (ascii "id") ms ns
+  pub entity : AlikeMember (ascii "entity") ms ns
+  pub version : AlikeMember (ascii "version") ms ns
+  pub fromState : AlikeMember (ascii "from_state") ms ns
+  pub toState : AlikeMember (ascii "to_state") ms ns
+  pub args : AlikeMember (ascii "args") ms ns
+  pub fields : AlikeMember (ascii "fields") ms ns
+  pub oldFields : AlikeMember (ascii "old_fields") ms ns
