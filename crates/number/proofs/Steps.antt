@@ -9,7 +9,6 @@ use borrow.Author.Tests.{eq-eqb, le-leb, leb-false, leb-true, lt-leb}
 use lib.Dec.{eqb, leb}
 use lib.ListN.{drop, getD, length, take}
 use Rattle.number.proofs.Parts.{digits-nil, digits-on, digits-opened, digits-pointed, ended, here, unsigned-nil, unsigned-none, unsigned-sign}
-use Rattle.number.proofs.Signs.{same-order}
 use Rattle.number.specs.Compare.{Sign, isNegative, isNought, isPositive, numberOrder, scaled, scaledOrder, signOf, signedOrder, then}
 use Rattle.number.specs.Compared.{compared}
 use Rattle.number.specs.Decimal.{Integer, exponent, isSign, minus, signed, unsigned}
@@ -142,21 +141,31 @@ module _ (s : Bytes) (d : Decimal) (p : Parsed s d) (next : ℕ) (negative : Boo
   unfolding scaled
   place-above i h e = omega (arith, h, p .whole, p .leads, subst (λ (z : Integer). Same i (added z (signed false (d .whole - d .leading)))) exponent-here e)
 
--- ---- the order without signs: by the places, then by the digits
-module _ (s t : Bytes) (i j : Integer) (p : Same i (scaled s .place)) (q : Same j (scaled t .place)) where
-  by-places : {o : Ordering} → orderIntegers i j ≡ o → scaledOrder (scaled s) (scaled t) ≡ then o (orderBytes (scaled s .digits) (scaled t .digits))
-  unfolding scaledOrder
-  by-places e = ap (λ (z : Ordering). then z (orderBytes (scaled s .digits) (scaled t .digits))) (sym (same-order i j (scaled s .place) (scaled t .place) p q) ∙ e)
+-- with nothing behind the digits it is the whole's length less the leading zeros
+module _ (s : Bytes) (d : Decimal) (p : Parsed s d) (e : d .exponent ≡ length s) where
+  no-exponent : exponent s ≡ signed false 0
+  unfolding exponent minus unsigned natural
+  no-exponent = ap (λ (t : Bytes). signed (minus t) (natural 0 (unsigned t))) (sym (p .exponent) ∙ ended s (d .exponent) (omega (arith, e)))
 
-  pub places-less : orderIntegers i j ≡ Ordering·lt → scaledOrder (scaled s) (scaled t) ≡ Ordering·lt
+  pub place-plain : Same (record { up = d .whole; down = d .leading }) (scaled s .place)
+  unfolding scaled
+  place-plain = omega (arith, p .whole, p .leads, ap (λ (z : Integer). z .up) no-exponent, ap (λ (z : Integer). z .down) no-exponent)
+
+-- ---- the order without signs: by the places, then by the digits
+module _ (s t : Bytes) where
+  by-places : {o : Ordering} → o ≡ orderIntegers (scaled s .place) (scaled t .place) → then o (orderBytes (scaled s .digits) (scaled t .digits)) ≡ scaledOrder (scaled s) (scaled t)
+  unfolding scaledOrder
+  by-places e = ap (λ (z : Ordering). then z (orderBytes (scaled s .digits) (scaled t .digits))) e
+
+  pub places-less : Ordering·lt ≡ orderIntegers (scaled s .place) (scaled t .place) → Ordering·lt ≡ scaledOrder (scaled s) (scaled t)
   places-less e = by-places e
 
-  pub places-more : orderIntegers i j ≡ Ordering·gt → scaledOrder (scaled s) (scaled t) ≡ Ordering·gt
+  pub places-more : Ordering·gt ≡ orderIntegers (scaled s .place) (scaled t .place) → Ordering·gt ≡ scaledOrder (scaled s) (scaled t)
   places-more e = by-places e
 
-  pub places-same : (a b : Decimal) → Parsed s a → Parsed t b → orderIntegers i j ≡ Ordering·eq → scaledOrder (scaled s) (scaled t) ≡ orderBytes (digitsAt s (a .digits)) (digitsAt t (b .digits))
+  pub places-same : (a b : Decimal) → Parsed s a → Parsed t b → Ordering·eq ≡ orderIntegers (scaled s .place) (scaled t .place) → orderBytes (digitsAt s (a .digits)) (digitsAt t (b .digits)) ≡ scaledOrder (scaled s) (scaled t)
   unfolding scaled
-  places-same a b f g e = by-places e ∙ ap₂ orderBytes (f .digits) (g .digits)
+  places-same a b f g e = sym (ap₂ orderBytes (f .digits) (g .digits)) ∙ by-places e
 
 -- ---- the sign
 module _ (s : Bytes) (d : Decimal) (p : Parsed s d) where

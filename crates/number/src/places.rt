@@ -36,6 +36,18 @@ pub fn larger(a: usize, b: usize) -> usize
     a
 }
 
+pub fn order_lengths(a: usize, b: usize) -> Order
+    ensures { λ r. ⌜ orderOf r ≡ compare a b ⌝ }
+{
+    if a < b {
+        return Order::Less;
+    }
+    if b < a {
+        return Order::Greater;
+    }
+    Order::Equal
+}
+
 // The order of two rows of digits: the highest digit that differs decides.
 fn magnitude<'a>(a: &'a [u8; 260], b: &'a [u8; 260], count: usize) -> Order
     requires { ⌜ Digits (now a) count × Digits (now b) count ⌝ }

@@ -7,7 +7,7 @@ ghost use Prim.Native.Nat.{_≤_};
 ghost use lib.ListN.{length, drop};
 ghost use Rattle.json.specs.Bytes.{orderBytes};
 ghost use Rattle.number.specs.Compare.{scaled, scaledOrder, signOf};
-ghost use Rattle.number.specs.Places.{Tidy, Same, integer};
+ghost use Rattle.number.specs.Places.{Tidy, Same, integer, orderIntegers};
 ghost use Rattle.number.specs.Compared.{orderOf};
 ghost use Rattle.number.specs.Parts.{opens, stops, startsPoint, SignTold, ZerosTold, EndsTold, FractionTold, BehindTold, Stepped, Parsed, digitsAt, rankOf};
 
@@ -308,16 +308,33 @@ impl Decimal {
         Integer::sum(s, next, negative, whole - leading, false)
     }
 
+    // The order of where two points stand. Without exponents it is that of two differences of lengths, and no digits are made.
+    fn order_places(self, left: &[u8], other: Decimal, right: &[u8]) -> Order
+        requires { ⌜ Parsed (now left) self × (length (now left) ≤ 255) ⌝ }
+        requires { ⌜ Parsed (now right) other × (length (now right) ≤ 255) ⌝ }
+        ensures { λ r. ⌜ orderOf r ≡ orderIntegers (scaled (now (left .entry)) .place) (scaled (now (right .entry)) .place) ⌝ }
+    {
+        if self.exponent == left.len() {
+            if other.exponent == right.len() {
+                return places::order_lengths(
+                    self.whole + other.leading,
+                    other.whole + self.leading,
+                );
+            }
+        }
+        let x = self.places(left);
+        let y = other.places(right);
+        let count = places::larger(x.count, y.count);
+        places::order(x.negative, &x.digits, y.negative, &y.digits, count)
+    }
+
     // The order of two numbers without their signs.
     pub fn magnitude(self, left: &[u8], other: Decimal, right: &[u8]) -> Order
         requires { ⌜ Parsed (now left) self × (length (now left) ≤ 255) ⌝ }
         requires { ⌜ Parsed (now right) other × (length (now right) ≤ 255) ⌝ }
         ensures { λ r. ⌜ orderOf r ≡ scaledOrder (scaled (now (left .entry))) (scaled (now (right .entry))) ⌝ }
     {
-        let x = self.places(left);
-        let y = other.places(right);
-        let count = places::larger(x.count, y.count);
-        match places::order(x.negative, &x.digits, y.negative, &y.digits, count) {
+        match self.order_places(left, other, right) {
             Order::Less => Order::Less,
             Order::Equal => {
                 let a = self.digits;

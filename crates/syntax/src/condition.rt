@@ -9,6 +9,7 @@ use members::told::Fault;
 use members::told::Form;
 use members::told::Mode;
 use members::told::Operator;
+use members::word::is_word;
 use strings::rows::Found;
 ghost use mathlib.Core.Path.{_≡_};
 ghost use lib.ListN.{length};
@@ -23,8 +24,8 @@ ghost use Rattle.members.specs.Condition.{condition, conditionArray, operators}
 ghost use Rattle.members.specs.Faults.{pairFault, quantifierFault};
 ghost use Rattle.members.specs.Verdicts.{faultOf};
 
-// The operator that a text names.
-pub fn operator_at(s: &[u8], at: usize) -> Operator
+// The operator that a text names, by its place among all of them.
+fn operator_listed(s: &[u8], at: usize) -> Operator
     requires { ⌜ OnText (now s) at 0 ⌝ }
     ensures { λ r. ⌜ find (textAt (now (s .entry)) at) operators ≡ operatorOf r ⌝ }
 {
@@ -52,6 +53,47 @@ pub fn operator_at(s: &[u8], at: usize) -> Operator
         15 => Operator::Quantified(Mode::Any),
         _ => Operator::NotCarried,
     }
+}
+
+// The operator that a text names. Those that stand late in the list and are met at every element of a collection are told by
+// their first byte.
+pub fn operator_at(s: &[u8], at: usize) -> Operator
+    requires { ⌜ OnText (now s) at 0 ⌝ }
+    ensures { λ r. ⌜ find (textAt (now (s .entry)) at) operators ≡ operatorOf r ⌝ }
+{
+    match s[at] {
+        b'e' => {
+            if is_word(s, at, b"eq") {
+                return Operator::Pair(Form::Eq);
+            }
+        }
+        b'f' => {
+            if is_word(s, at, b"for_all") {
+                return Operator::Quantified(Mode::Every);
+            }
+            if is_word(s, at, b"for_any") {
+                return Operator::Quantified(Mode::Any);
+            }
+        }
+        b'g' => {
+            if is_word(s, at, b"gt") {
+                return Operator::Pair(Form::Gt);
+            }
+            if is_word(s, at, b"gte") {
+                return Operator::Pair(Form::Gte);
+            }
+        }
+        b'l' => {
+            if is_word(s, at, b"lt") {
+                return Operator::Pair(Form::Lt);
+            }
+            if is_word(s, at, b"lte") {
+                return Operator::Pair(Form::Lte);
+            }
+        }
+        _ => {}
+    }
+    operator_listed(s, at)
 }
 
 // How many members stand from `from` up to `end`.

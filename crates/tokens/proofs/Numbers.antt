@@ -7,12 +7,16 @@ use mathlib.Core.Path.{ap, refl, _∙_, _≡_}
 use Prim.Native.Nat.{suc, zero, ℕ, _+_, _-_, _<_, _≤_}
 use native.Mathlib.Numerals.{add-one}
 use native.Mathlib.Omega.{arith}
+use lib.Dec.{eqb}
 use lib.ListN.{drop, drop-of-length-le, getD, length, length-drop}
 use lib.Seq.{drop-cons}
+use Rattle.json.proofs.Laws.{eqb-no}
 use Rattle.json.proofs.Sound.{between-of, between-out}
 use Rattle.strings.specs.Answers.{classOf, placeBy}
+use Rattle.tokens.specs.Numbering.{Numbering, Reaches, behind, pointed}
+use Rattle.tokens.specs.declared.numeral.Stand.{Stand}
 use Rattle.json.specs.Bytes.{Bytes, choose}
-use Rattle.json.specs.Numerals.{Place, complete, digit, digits, first, isStop, onward}
+use Rattle.json.specs.Numerals.{Digit, Place, complete, digit, digits, first, isStop, onward}
 use Rattle.json.specs.Placing.{digitsAt, placeOf}
 use Rattle.json.specs.Refusal.{Result, notJson, numberTooLong, ok, refused, _>>=_}
 use Rattle.json.specs.Scan.{Read}
@@ -74,18 +78,31 @@ incomplete (suc (suc (suc (suc (suc (suc (suc (suc zero)))))))) h a b c d = refl
 incomplete (suc (suc (suc (suc (suc (suc (suc (suc (suc n))))))))) h a b c d = absurd (omega arith)
 
 -- ---- the loop: what is left of the number decides the whole
-abbrev behind : Bytes → Result (Read Bytes) → Result ℕ
-behind s x = x >>= λ r. ok (placeOf s (r .rest))
-
 behind-more : (s : Bytes) (c : ℕ) (x : Result (Read Bytes)) → behind s (x >>= λ r. ok (record { got = c ∷ r .got; rest = r .rest })) ≡ behind s x
 behind-more s c (ok r) = refl
 behind-more s c (refused r) = refl
 
-pub record Numbering (s : Bytes) (at place here left : ℕ) : Type 0 where
-  pub upto : here ≤ length s
-  pub small : place < 9
-  pub few : left ≤ 254
-  pub rest : digitsAt s at ≡ behind s (digits (placeBy place) left (drop here s))
+-- digits do not lead away from whole and fraction; a point leads from zero and whole, and a digit on from there
+digit-of : (c : ℕ) → 48 ≤ c → c ≤ 57 → (digit c ≡ classOf 0) ⊎ (digit c ≡ classOf 1)
+digit-of c h k = go (eqb c 48) refl
+  where
+    go : (b : Bool) → eqb c 48 ≡ b → (digit c ≡ classOf 0) ⊎ (digit c ≡ classOf 1)
+    go true e = inl (rw (e, choose))
+    go false e = inr (nonzero-is c (omega (arith, eqb-no c 48 e)) k)
+
+stays : (p : ℕ) {d : Digit} → (p ≡ 2) ⊎ (p ≡ 4) → (d ≡ classOf 0) ⊎ (d ≡ classOf 1) → onward (placeBy p) d ≡ placeBy p
+stays p (inl e) (inl f) = rw (e, f)
+stays p (inl e) (inr f) = rw (e, f)
+stays p (inr e) (inl f) = rw (e, f)
+stays p (inr e) (inr f) = rw (e, f)
+
+to-point : (p : ℕ) → (p ≡ 1) ⊎ (p ≡ 2) → onward (placeBy p) (digit 46) ≡ placeBy 3
+to-point p (inl e) = rw e
+to-point p (inr e) = rw e
+
+to-fraction : {d : Digit} → (d ≡ classOf 0) ⊎ (d ≡ classOf 1) → onward (placeBy 3) d ≡ placeBy 4
+to-fraction (inl f) = rw f
+to-fraction (inr f) = rw f
 
 pub numbering : (s : Bytes) (at place : ℕ) → at < length s → first (getD s at 0) ≡ placeBy place → place < 9 → Numbering s at place (at + 1) 254
 unfolding digitsAt
@@ -126,3 +143,29 @@ module _ {s : Bytes} {at place here left : ℕ} (l : Numbering s at place here l
       pub on : (left ≡ 0 → ⊥) → Numbering s at next (here + 1) (left - 1)
       unfolding digits
       on g = record { upto = omega arith; small = small; few = omega (arith, l .few); rest = l .rest ∙ rw (opened, ap isStop e ∙ goes-on next small f, digits, ne-eqb left 0 g) (behind-more s (getD s here 0) (digits (onward (placeBy place) (digit (getD s here 0))) (left - 1) (drop (here + 1) s))) ∙ ap (λ (q : Place). behind s (digits q (left - 1) (drop (here + 1) s))) e }
+
+-- ---- the bytes that most numbers have
+abbrev at-stand : ℕ → ℕ → ℕ → Stand
+at-stand place here left = record { place = place; here = here; left = left }
+
+pub over-digit : {s : Bytes} {a : Stand} (p here left : ℕ) → (p ≡ 2) ⊎ (p ≡ 4) → Reaches s a (at-stand p here left) → here < length s → (left ≡ 0 → ⊥) → 48 ≤ getD s here 0 → getD s here 0 ≤ 57 → Reaches s a (at-stand p (here + 1) (left - 1))
+over-digit p here left w r h g i j at n = on (r at n) h p (stays p w (digit-of _ i j)) (r at n .small) (not-stop w) g
+  where
+    not-stop : (p ≡ 2) ⊎ (p ≡ 4) → p ≡ 8 → ⊥
+    not-stop (inl i) j = omega arith
+    not-stop (inr i) j = omega arith
+
+pub over-point : (s : Bytes) (a : Stand) → (a .place ≡ 1) ⊎ (a .place ≡ 2) → a .here + 2 ≤ length s → 2 ≤ a .left → getD s (a .here) 0 ≡ 46 → 48 ≤ getD s (a .here + 1) 0 → getD s (a .here + 1) 0 ≤ 57 → Reaches s a (pointed a)
+over-point s a w h l e i j at n = rw (u, v) second
+  where
+    u : a .here + 2 ≡ a .here + 1 + 1
+    u = omega arith
+
+    v : a .left - 2 ≡ a .left - 1 - 1
+    v = omega arith
+
+    first : Numbering s at 3 (a .here + 1) (a .left - 1)
+    first = on n (omega arith) 3 (rw e (to-point (a .place) w)) (omega arith) (λ z. omega arith) (λ z. omega arith)
+
+    second : Numbering s at 4 (a .here + 1 + 1) (a .left - 1 - 1)
+    second = on first (omega arith) 4 (to-fraction (digit-of _ i j)) (omega arith) (λ z. omega arith) (λ z. omega arith)

@@ -1,6 +1,7 @@
--- `reader::numeral::number` meets its contract: the loop says that the rest of the number decides the whole.
+-- `number` meets its contract: the loop says that the rest of the number decides the whole.
 -- Assumes nothing.
-use Rattle.tokens.proofs.Numbers.{Numbering, at-end, at-stop, numbering, on, too-long}
+use Rattle.tokens.specs.Numbering.{Numbering}
+use Rattle.tokens.proofs.Numbers.{at-end, at-stop, on, too-long}
 use Rattle.strings.specs.Answers.{scanOf}
 use lib.ListN.{length}
 use Prim.Native.Nat.{_-_}
@@ -16,20 +17,11 @@ Inv-loop s at place₀ here₀ left₀ place here left = Numbering s at place he
 abbrev μ-loop : tie.MeasureT-loop
 μ-loop s at place₀ here₀ left₀ place here left = length s - here
 
-shared-slice-read-first : tie.Need-shared-slice-read-first Inv-loop μ-loop
-shared-slice-read-first c = omega arith
-
-first-requires : tie.Need-first-requires Inv-loop μ-loop
-first-requires c κs = search needs
-
-add-here : tie.Need-add-here Inv-loop μ-loop
-add-here c = omega arith
+plain-requires : tie.Need-plain-requires Inv-loop μ-loop
+plain-requires c κs = c .before .pre
 
 loop-holds : tie.Need-loop-holds Inv-loop μ-loop
-loop-holds c =
-    let a = c .before .before .before .args in
-    numbering (a .s .now) (a .at) (c .first .result) (c .before .before .before .pre) (c .first .ensures .0)
-    (c .first .ensures .1)
+loop-holds c = c .plain .ensures
 
 shared-slice-read-onward : tie.Need-shared-slice-read-onward Inv-loop μ-loop
 shared-slice-read-onward c = omega arith
@@ -57,8 +49,8 @@ returns-2 c =
 sub-left : tie.Need-sub-left Inv-loop μ-loop
 sub-left c = omega arith
 
-add-here-2 : tie.Need-add-here-2 Inv-loop μ-loop
-add-here-2 c = omega arith
+add-here : tie.Need-add-here Inv-loop μ-loop
+add-here c = omega arith
 
 loop-less : tie.Need-loop-less Inv-loop μ-loop
 loop-less c = omega arith
@@ -82,9 +74,7 @@ number-spec =
     (tie.spec
     Inv-loop
     μ-loop
-    shared-slice-read-first
-    first-requires
-    add-here
+    plain-requires
     loop-holds
     shared-slice-read-onward
     onward-requires
@@ -92,7 +82,7 @@ number-spec =
     returns
     returns-2
     sub-left
-    add-here-2
+    add-here
     loop-less
     loop-again
     ending-requires-2
