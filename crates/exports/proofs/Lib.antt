@@ -1,1 +1,5 @@
+pub mod Longest
+pub mod Named
+pub mod Reading
+pub mod Texts
 pub mod Words
