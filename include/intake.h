@@ -1,4 +1,5 @@
-/* intake: decisions on JSON sheets, for C. Link target/staticlib/libexports.a, which `rt staticlib exports` makes (x86-64 Linux).
+/* intake: decisions on JSON sheets, for C and C++. `scripts/install PREFIX` installs this header with libintake.a, libintake.so and intake.pc (x86-64
+ * Linux): `cc program.c $(pkg-config --cflags --libs intake)`. Uninstalled, the library is target/staticlib/libexports.a, which `rt staticlib exports` makes.
  *
  * Every call reads one sheet, works in a table that the caller lends, and writes at most one line. Any bytes may be given; nothing is kept from call
  * to call, nothing is allocated, no input or output is done, and calls on different tables and outputs may run at once. Each is proved against its
@@ -40,7 +41,47 @@
 extern "C" {
 #endif
 
+/* The version of this header: 10,000 times the major number, 100 times the minor one, and the patch. */
+#define INTAKE_VERSION 100
+
+/* The words of a work table. */
 #define INTAKE_WORK_WORDS 16384
+
+/* An output that no line exceeds (`longest-line`, crates/exports/proofs/Longest.antt): with it, 23 is never given. */
+#define INTAKE_OUTPUT_BYTES 294976
+
+/* Stack for a call: twice the most that was measured, on sheets that nest as deep as sheets can (`scripts/stack`). */
+#define INTAKE_STACK_BYTES 3145728
+
+/* The numbers, as in the table above. */
+enum intake_number {
+    INTAKE_ANSWERED = 0,
+    INTAKE_WORK_TOO_SHORT = 1,
+    INTAKE_SHEET_TOO_LONG = 2,
+    INTAKE_NOT_UTF8 = 3,
+    INTAKE_NOT_JSON = 4,
+    INTAKE_TOO_DEEP = 5,
+    INTAKE_NUMBER_TOO_LONG = 6,
+    INTAKE_TOO_MANY_NODES = 7,
+    INTAKE_REPEATED_NAME = 8,
+    INTAKE_NOT_A_SHEET = 9,
+    INTAKE_WRONG_SHAPE = 10,
+    INTAKE_NOT_CARRIED = 11,
+    INTAKE_NO_INPUT = 12,
+    INTAKE_UNKNOWN_EXPRESSION = 13,
+    INTAKE_NO_ID = 14,
+    INTAKE_PRECONDITION_FALSE = 15,
+    INTAKE_PRECONDITION_UNKNOWN = 16,
+    INTAKE_INVARIANT_FALSE = 17,
+    INTAKE_INVARIANT_UNKNOWN = 18,
+    INTAKE_NO_OUTCOME = 19,
+    INTAKE_GUARD_UNKNOWN = 20,
+    INTAKE_WRONG_STATE = 21,
+    INTAKE_NOT_A_SOURCE = 22,
+    INTAKE_LINE_TOO_LONG = 23
+};
+
+/* What the returned word holds. */
 #define INTAKE_NUMBER(answer) ((uint32_t)((answer) >> 32))
 #define INTAKE_LENGTH(answer) ((size_t)((answer) & 0xffffffffu))
 
@@ -59,6 +100,9 @@ uint64_t intake_admit(uint64_t place, const uint8_t *sheet, size_t sheet_length,
 
 /* The whole decision: preconditions, then the outcome selected, then its admission. */
 uint64_t intake_decide(const uint8_t *sheet, size_t sheet_length, uint32_t *work, size_t work_length, uint8_t *output, size_t output_length);
+
+/* The version of the library that is linked or loaded; INTAKE_VERSION is that of the header. */
+uint32_t intake_version(void);
 
 #ifdef __cplusplus
 }

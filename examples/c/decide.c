@@ -7,7 +7,7 @@
 /* One byte more than a sheet may have, so that a longer one is seen to be too long. */
 static uint8_t sheet[32769];
 static uint32_t work[INTAKE_WORK_WORDS];
-static uint8_t output[65536];
+static uint8_t output[INTAKE_OUTPUT_BYTES];
 
 int main(void)
 {

@@ -11,6 +11,7 @@ ghost use Prim.Native.Nat.{_<_, _≤_};
 ghost use lib.ListN.{length};
 ghost use Rattle.answers.specs.Entry.{admit, checkInvariants, checkPreconditions, decide, evaluate, select};
 ghost use Rattle.exports.specs.Exported.{Exported, wordOf};
+ghost use Rattle.exports.specs.Version.{version};
 
 // The number of an answer and the bytes of its line in one word.
 fn word_of(sent: Sent) -> u64
@@ -68,4 +69,12 @@ pub extern "C" fn intake_decide(sheet: &[u8], work: &mut [u32], out: &mut [u8]) 
     ensures { λ r. ⌜ Exported (decide (now (sheet .entry)) (length (now (work .entry))) (length (now (out .entry)))) (now (work .entry)) (now (work .exit)) (now (out .entry)) (now (out .exit)) r ⌝ }
 {
     word_of(decide(sheet, work, out))
+}
+
+// The library's version.
+#[no_mangle]
+pub extern "C" fn intake_version() -> u32
+    ensures { λ r. ⌜ r ≡ version ⌝ }
+{
+    100
 }
