@@ -7,3 +7,4 @@ pub mod SortedConditions
 pub mod SortedKinds
 pub mod SortedMembers
 pub mod SortedSheet
+pub mod FirstCondition
