@@ -5,7 +5,7 @@ use mathlib.Core.List.{List, List·Memᴰ, [], _∷_}
 use mathlib.Core.Logic.{inl, inr, _≢_, _⊎_}
 use mathlib.Core.Option.{Option, none, some}
 use mathlib.Core.Path.{ap, ap₂, refl, subst, sym, _∙_, _≡_}
-use Prim.Native.Nat.{ℕ, _+_, _<_, _≤_}
+use Prim.Native.Nat.{ℕ, _+_, _<_}
 use native.Mathlib.Omega.{arith}
 use lib.Dec.{leb}
 use lib.ListN.{length}
@@ -34,7 +34,7 @@ use Rattle.json.specs.Refusal.{Refusal, Result, guardUnknown, noInput, noOutcom
 use Rattle.members.specs.Condition.{Condition}
 use Rattle.members.specs.Outcome.{Effect, Outcome, moves, stays}
 use Rattle.members.specs.Rule.{Rule}
-use Rattle.members.specs.Sheet.{Sheet, readSheet}
+use Rattle.members.specs.Sheet.{Sheet}
 
 -- a decision by its parts
 decideFrom : Sheet Condition → Option Bytes → List (Rule Condition) → List (Outcome Condition) → List Bytes → Result Verdict
