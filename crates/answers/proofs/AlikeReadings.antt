@@ -3,10 +3,9 @@
 -- Assumes nothing.
 use mathlib.Core.Bool.{Bool, false, true, true≢false}
 use mathlib.Core.List.{List, [], _∷_}
-use mathlib.Core.Logic.{inl, inr, _⊎_}
+use mathlib.Core.Logic.{inl, inr}
 use mathlib.Core.Option.{Option, none, some}
 use mathlib.Core.Path.{ap, refl, subst, sym, _∙_, _≡_}
-use Prim.Native.Nat.{ℕ}
 use Rattle.answers.proofs.AlikeRules.{ReadFrom, alike-rules, optional-alike, read-from, required-alike}
 use Rattle.answers.proofs.Demand.{same-readings}
 use Rattle.answers.proofs.Each.{Each, done, each-found, one}

@@ -1,40 +1,38 @@
 -- The third demand, proved: two whole decisions, from the rules and the guards tried again.
 -- Assumes nothing.
-use mathlib.Core.Bool.{Bool, false, true, true≢false}
+use mathlib.Core.Bool.{Bool, false, true}
 use mathlib.Core.List.{List, List·Memᴰ, [], _∷_}
 use mathlib.Core.Logic.{inl, inr, _≢_, _⊎_}
 use mathlib.Core.Option.{Option, none, some}
 use mathlib.Core.Path.{ap, ap₂, refl, subst, sym, _∙_, _≡_}
-use Prim.Native.Nat.{ℕ, _+_, _<_, _≤_}
+use Prim.Native.Nat.{ℕ, _+_, _<_}
 use native.Mathlib.Omega.{arith}
 use lib.Dec.{leb}
 use lib.ListN.{length}
-use Rattle.answers.proofs.Demand.{same-readings}
+use Rattle.answers.proofs.Demand.{Erased, fact-of}
 use Rattle.answers.proofs.Guards.{GuardRefused, GuardShape, GuardTried, GuardsLater, chosen, exhausted, guard-at, later-select, stopped}
 use Rattle.answers.proofs.LaterRules.{RuleRefused, RuleShape, RulesLater, later-check, rule-at}
 use Rattle.answers.specs.Decide.{asAdmitted, decideCall}
 use Rattle.answers.specs.Outcomes.{Placed, at, eligible, firstFrom, guard as Decide·guard, select}
 use Rattle.answers.specs.Rules.{check}
-use Rattle.answers.specs.Demand.{AcceptedAs, Comparable, Demand, IsUnobservable, Kept, NamesVanished, RefusedAgain, Repeats, SameRules, Settler, Step, Vanished, atGuard, atOrBefore, atPlace, atRule, countsFor, everything, guard, isGuarded, isTried, refusalReply, rule, selection, settler, upToOutcome, upToSettler}
+use Rattle.answers.specs.Demand.{AcceptedAs, Demand, IsUnobservable, NamesVanished, RefusedAgain, Repeats, SameRules, Settler, Step, atGuard, atOrBefore, atPlace, atRule, countsFor, everything, guard, isGuarded, isTried, refusalReply, rule, selection, settler, upToOutcome, upToSettler}
 use Rattle.answers.specs.Entry.{Reply, call, decide, enough, fitted, reply, workWords}
 use Rattle.answers.specs.Line.{refusalLine, refusalNumber, verdictLine}
 use Rattle.answers.specs.Admission.{admit, isWrong}
 use Rattle.answers.specs.Verdict.{Verdict, passed}
-use Rattle.semantics.proofs.Later.{Alike, Every, Fact, Lost, alike-evaluate, every-left, every-right, known-gives}
+use Rattle.semantics.proofs.Later.{Alike, Every, Fact, Lost, alike-evaluate, every-left, every-right}
 use Rattle.semantics.specs.Evaluate.{Answer}
-use Rattle.semantics.specs.Expression.{gives}
 use Rattle.semantics.specs.Names.{Names, ascending}
-use Rattle.semantics.specs.Readings.{IsReading, Reading, clean, guardReadings, readings, ruleReadings, sheetReadings, whenReadings}
+use Rattle.semantics.specs.Readings.{clean, guardReadings, readings, ruleReadings, sheetReadings, whenReadings}
 use Rattle.semantics.specs.Semantics.{kernel}
 use Rattle.semantics.specs.Truth.{False, True, Unknown}
-use Rattle.json.proofs.Laws.{bind-ok, leb-true, ltb-true, ok-injective}
+use Rattle.json.proofs.Laws.{bind-ok, leb-true, ltb-true}
 use Rattle.json.specs.Bytes.{Bytes, isOneOf}
-use Rattle.json.specs.Json.{Value, isNull, null}
 use Rattle.json.specs.Refusal.{Refusal, Result, guardUnknown, noInput, noOutcome, ok, orElse, preconditions, refused, ruleFalse, ruleUnknown, _>>=_}
 use Rattle.members.specs.Condition.{Condition}
 use Rattle.members.specs.Outcome.{Effect, Outcome, moves, stays}
 use Rattle.members.specs.Rule.{Rule}
-use Rattle.members.specs.Sheet.{Sheet, readSheet}
+use Rattle.members.specs.Sheet.{Sheet}
 
 -- a decision by its parts
 decideFrom : Sheet Condition → Option Bytes → List (Rule Condition) → List (Outcome Condition) → List Bytes → Result Verdict
@@ -148,11 +146,7 @@ module _ (s : Sheet Condition) (x : Bytes) (st : s .state ≡ some x) (pass : ch
 
 -- two sheets with the same rules and state
 module _ (old new : Sheet Condition) (same : SameRules old new) where
-  -- a lost reading's text
-  Erased : Bytes → Type 0
-  Erased e = (r : Reading) × (r .text ≡ e) × IsReading old r × Vanished old new r
-
-  vanished-named : (ns : Names) → Lost Erased ns → NamesVanished old new ns
+  vanished-named : (ns : Names) → Lost (Erased old new) ns → NamesVanished old new ns
   unfolding Erased
   vanished-named ns l = (l .1 .0, l .1 .2, l .1 .3, subst (λ (e : Bytes). List·Memᴰ (36 ∷ e) ns) (sym (l .1 .1)) (l .2))
 
@@ -191,12 +185,12 @@ module _ (old new : Sheet Condition) (same : SameRules old new) where
   unfolding decideFrom admitted-from
   passed-rules s x rs os states e = bind-ok _ e
 
-  module _ (facts : Every (Fact kernel Erased old new) (sheetReadings old)) where
-    R : RulesLater Erased 0 (check old preconditions 0 (old .preconditions)) (check new preconditions 0 (old .preconditions))
-    R = later-check Erased old new 0 (old .preconditions) (every-left (ruleReadings (old .preconditions)) (guardReadings (old .outcomes)) facts)
+  module _ (facts : Every (Fact kernel (Erased old new) old new) (sheetReadings old)) where
+    R : RulesLater (Erased old new) 0 (check old preconditions 0 (old .preconditions)) (check new preconditions 0 (old .preconditions))
+    R = later-check (Erased old new) old new 0 (old .preconditions) (every-left (ruleReadings (old .preconditions)) (guardReadings (old .outcomes)) facts)
 
-    G : GuardsLater Erased 0 (select old 0 (old .outcomes)) (select new 0 (old .outcomes))
-    G = later-select Erased old new 0 (old .outcomes) eligible-same (every-right (ruleReadings (old .preconditions)) (guardReadings (old .outcomes)) facts)
+    G : GuardsLater (Erased old new) 0 (select old 0 (old .outcomes)) (select new 0 (old .outcomes))
+    G = later-select (Erased old new) old new 0 (old .outcomes) eligible-same (every-right (ruleReadings (old .preconditions)) (guardReadings (old .outcomes)) facts)
 
     module _ (x : Bytes) (st : old .state ≡ some x) where
       -- the rules passed on the old sheet, so a new refusal at a rule came before what settled it
@@ -204,7 +198,7 @@ module _ (old new : Sheet Condition) (same : SameRules old new) where
       ruleTried k (inl p) = rule-counts old x st p k (G .shape)
       ruleTried k (inr t) = counts-refused old (t .0) (atPlace (rule (t .1))) (rule k) (oldParts (some x) st ∙ refused-rules old x _ _ _ (t .0) (t .2)) (t .3) ∙ leb-true k (t .1) (t .4)
 
-      at-rule : RuleRefused Erased (check old preconditions 0 (old .preconditions)) (check new preconditions 0 (old .preconditions)) → RefusedAgain old new
+      at-rule : RuleRefused (Erased old new) (check old preconditions 0 (old .preconditions)) (check new preconditions 0 (old .preconditions)) → RefusedAgain old new
       at-rule r =
           record {
             refusal = _;
@@ -212,12 +206,12 @@ module _ (old new : Sheet Condition) (same : SameRules old new) where
             names = r .names;
             unobservable = atRule;
             isNew = newParts (some x) st ∙ refused-rules new x _ _ _ _ (r .isNew);
-            tried = rule-step (r .place) (rule-at Erased old new 0 (old .preconditions) (every-left (ruleReadings (old .preconditions)) (guardReadings (old .outcomes)) facts) (r .place) (r .name) (r .message) (r .names) (r .isNew));
+            tried = rule-step (r .place) (rule-at (Erased old new) old new 0 (old .preconditions) (every-left (ruleReadings (old .preconditions)) (guardReadings (old .outcomes)) facts) (r .place) (r .name) (r .message) (r .names) (r .isNew));
             counts = ruleTried (r .place) (r .tried);
             named = by (r .named);
           }
         where
-          by : Lost Erased (r .names) ⊎ ((ms : Names) × (check old preconditions 0 (old .preconditions) ≡ refused (ruleUnknown preconditions (r .place) (r .name) (r .message) ms))) → NamesVanished old new (r .names) ⊎ IsUnobservable old (rule (r .place))
+          by : Lost (Erased old new) (r .names) ⊎ ((ms : Names) × (check old preconditions 0 (old .preconditions) ≡ refused (ruleUnknown preconditions (r .place) (r .name) (r .message) ms))) → NamesVanished old new (r .names) ⊎ IsUnobservable old (rule (r .place))
           by (inl l) = inl (vanished-named (r .names) l)
           by (inr l) = inr (_, l .0, oldParts (some x) st ∙ refused-rules old x _ _ _ _ (l .1), atRule)
 
@@ -228,7 +222,7 @@ module _ (old new : Sheet Condition) (same : SameRules old new) where
         oldSelect : decideCall old ≡ (select old 0 (old .outcomes) >>= admitted-from (old .states) (old .outcomes) x)
         oldSelect = oldParts (some x) st ∙ passed-rules old x _ _ _ pass
 
-        at-guard : GuardRefused Erased (select old 0 (old .outcomes)) (select new 0 (old .outcomes)) → RefusedAgain old new
+        at-guard : GuardRefused (Erased old new) (select old 0 (old .outcomes)) (select new 0 (old .outcomes)) → RefusedAgain old new
         at-guard r =
             record {
               refusal = _;
@@ -236,20 +230,20 @@ module _ (old new : Sheet Condition) (same : SameRules old new) where
               names = r .names;
               unobservable = atGuard;
               isNew = newSelect ∙ ap (λ (y : Result Placed). y >>= admitted-from (old .states) (old .outcomes) x) (r .isNew);
-              tried = guard-step (r .place) (guard-at Erased old new 0 (old .outcomes) (every-right (ruleReadings (old .preconditions)) (guardReadings (old .outcomes)) facts) (r .place) (r .name) (r .names) (r .isNew));
+              tried = guard-step (r .place) (guard-at (Erased old new) old new 0 (old .outcomes) (every-right (ruleReadings (old .preconditions)) (guardReadings (old .outcomes)) facts) (r .place) (r .name) (r .names) (r .isNew));
               counts = guard-counts old x st pass (r .place) (r .tried);
               named = by (r .named);
             }
           where
-            by : Lost Erased (r .names) ⊎ ((ms : Names) × (select old 0 (old .outcomes) ≡ refused (guardUnknown (r .place) (r .name) ms))) → NamesVanished old new (r .names) ⊎ IsUnobservable old (guard (r .place))
+            by : Lost (Erased old new) (r .names) ⊎ ((ms : Names) × (select old 0 (old .outcomes) ≡ refused (guardUnknown (r .place) (r .name) ms))) → NamesVanished old new (r .names) ⊎ IsUnobservable old (guard (r .place))
             by (inl l) = inl (vanished-named (r .names) l)
             by (inr l) = inr (_, l .0, oldSelect ∙ ap (λ (y : Result Placed). y >>= admitted-from (old .states) (old .outcomes) x) (l .1), atGuard)
 
-        by-guards : (select new 0 (old .outcomes) ≡ select old 0 (old .outcomes)) ⊎ GuardRefused Erased (select old 0 (old .outcomes)) (select new 0 (old .outcomes)) → (decideCall new ≡ decideCall old) ⊎ RefusedAgain old new
+        by-guards : (select new 0 (old .outcomes) ≡ select old 0 (old .outcomes)) ⊎ GuardRefused (Erased old new) (select old 0 (old .outcomes)) (select new 0 (old .outcomes)) → (decideCall new ≡ decideCall old) ⊎ RefusedAgain old new
         by-guards (inl e) = inl (newSelect ∙ ap (λ (y : Result Placed). y >>= admitted-from (old .states) (old .outcomes) x) e ∙ sym oldSelect)
         by-guards (inr r) = inr (at-guard r)
 
-      by-rules : RuleShape 0 (check old preconditions 0 (old .preconditions)) → (check new preconditions 0 (old .preconditions) ≡ check old preconditions 0 (old .preconditions)) ⊎ RuleRefused Erased (check old preconditions 0 (old .preconditions)) (check new preconditions 0 (old .preconditions)) → (decideCall new ≡ decideCall old) ⊎ RefusedAgain old new
+      by-rules : RuleShape 0 (check old preconditions 0 (old .preconditions)) → (check new preconditions 0 (old .preconditions) ≡ check old preconditions 0 (old .preconditions)) ⊎ RuleRefused (Erased old new) (check old preconditions 0 (old .preconditions)) (check new preconditions 0 (old .preconditions)) → (decideCall new ≡ decideCall old) ⊎ RefusedAgain old new
       by-rules (inl p) (inl e) = by-guards p (e ∙ p) (G .later)
       by-rules (inr t) (inl e) = inl (newParts (some x) st ∙ refused-rules new x _ _ _ (t .0) (e ∙ t .2) ∙ sym (oldParts (some x) st ∙ refused-rules old x _ _ _ (t .0) (t .2)))
       by-rules p (inr r) = inr (at-rule r)
@@ -287,36 +281,6 @@ decide-plain s work output {sheet} a = whole ∙ reply-plain output (decideCall 
   where
     whole : decide s work output ≡ reply output (decideCall sheet)
     whole = rw (leb-true workWords work (a .enoughWork), enough) (rw (a .reads) refl)
-
-not-null : (v : Value) → isNull v ≡ false → v ≢ null
-not-null v e p = true≢false (sym (ap isNull p) ∙ e)
-
-fact-of : (old new : Sheet Condition) (c : Comparable old new) → Every (Fact kernel (Erased old new (c .sameRules)) old new) (sheetReadings old)
-unfolding Erased
-fact-of old new c r m =
-    record {
-      was = was .0;
-      now = now .0;
-      isWas = was .1;
-      isNow = now .1;
-      change = change (c .oldValueOrNothing r m);
-      exact = exact (c .oldValueOrNothing r m);
-      erased = λ v p n g. (r, refl, m, record { value = v; gave = was .1 ∙ ap {B = Result (Option Value)} ok p; notNull = not-null v n; gone = now .1 ∙ ap {B = Result (Option Value)} ok g });
-    }
-  where
-    was : (g : Option Value) × (gives kernel old [] (r .text) ≡ ok g)
-    was = known-gives kernel old (sheetReadings old) (c .isClean) r m
-
-    now : (g : Option Value) × (gives kernel new [] (r .text) ≡ ok g)
-    now = known-gives kernel new (sheetReadings new) (c .isCleanAgain) r (rw (same-readings old new (c .sameRules)) m)
-
-    change : Kept old new r → (now .0 ≡ was .0) ⊎ (now .0 ≡ none)
-    change (inl u) = inl (ok-injective (sym (now .1) ∙ u ∙ was .1))
-    change (inr g) = inr (ok-injective (sym (now .1) ∙ g .1))
-
-    exact : Kept old new r → r .exact ≡ true → now .0 ≡ was .0
-    exact (inl u) e = ok-injective (sym (now .1) ∙ u ∙ was .1)
-    exact (inr g) e = absurd (true≢false (sym e ∙ g .0))
 
 -- where nothing changed, every rule and guard answers as before
 alike-check : (old new : Sheet Condition) (i : ℕ) (rs : List (Rule Condition)) → Every (Alike kernel old new) (ruleReadings rs) → check new preconditions i rs ≡ check old preconditions i rs
@@ -435,7 +399,7 @@ clean-decided s c = by (s .state) refl
     same : SameRules s s
     same = record { rules = refl; outcomes = refl; state = refl; states = refl }
 
-    facts : Every (Fact kernel (Erased s s same) s s) (sheetReadings s)
+    facts : Every (Fact kernel (Erased s s) s s) (sheetReadings s)
     facts = fact-of s s (record { sameRules = same; isClean = c; isCleanAgain = c; oldValueOrNothing = λ r m. inl refl })
 
     admitting : (x : Bytes) (p : Placed) → decideCall s ≡ admitted-from (s .states) (s .outcomes) x p → AdmitShape (admit (s .states) (s .outcomes) x p) → Decided (decideCall s)

@@ -11,7 +11,7 @@ use Prim.Native.String.{String}
 use native.Mathlib.Omega.{arith}
 use borrow.Author.Tests.{eqb-false}
 use lib.Dec.{eqb}
-use Rattle.answers.specs.Demand.{Kept, Premises, Step, countsFor, guard, isTried, rule}
+use Rattle.answers.specs.Demand.{Kept, Premises, countsFor, guard, isTried, rule}
 use Rattle.answers.specs.Entry.{Reply, decide}
 use Rattle.json.specs.Bytes.{Bytes, ascii}
 use Rattle.json.specs.Json.{Members, array, cons, empty, member, nil, number, text}

@@ -1,8 +1,7 @@
 -- The third demand of what the program prints, from the two calls of Decide that it makes.
 -- Assumes nothing.
-use mathlib.Core.Logic.{inl, inr, _≢_, _⊎_}
+use mathlib.Core.Logic.{inl, inr, _⊎_}
 use mathlib.Core.Path.{ap, refl, _∙_, _≡_}
-use Prim.Native.Nat.{ℕ}
 use native.Mathlib.Omega.{arith}
 use Rattle.answers.proofs.Repeat.{demand}
 use Rattle.answers.specs.Decide.{decideCall}
@@ -12,11 +11,9 @@ use Rattle.answers.specs.Entry.{Reply, decide, workWords}
 use Rattle.answers.specs.Line.{numberLine, refusalLine}
 use Rattle.decision.proofs.Numbers.{every-call-ends}
 use Rattle.intake.specs.Printed.{intake, printed}
-use Rattle.intake.specs.Repeated.{PrintPremises, PrintsRepeat, lineOf}
+use Rattle.intake.specs.Repeated.{PrintsRepeat, lineOf}
 use Rattle.json.specs.Bytes.{Bytes}
 use Rattle.json.specs.Refusal.{Refusal}
-use Rattle.members.specs.Condition.{Condition}
-use Rattle.members.specs.Sheet.{Sheet}
 use Rattle.semantics.specs.Names.{Names}
 
 -- the call that the program makes
