@@ -9,3 +9,5 @@ pub mod Sentences
 pub mod AlikeRules
 pub mod Witness
 pub mod AlikeReadings
+pub mod Digits
+pub mod ReadBack

@@ -10,3 +10,4 @@ pub mod Entry
 pub mod Demand
 pub mod AlikeRules
 pub mod Ended
+pub mod ReadBack
