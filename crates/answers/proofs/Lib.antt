@@ -11,3 +11,5 @@ pub mod Samples
 pub mod Examples
 pub mod Limits
 pub mod Sentences
+pub mod Digits
+pub mod ReadBack

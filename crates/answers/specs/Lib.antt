@@ -11,3 +11,4 @@ pub mod Demand
 pub mod AlikeMembers
 pub mod AlikeReadings
 pub mod Ended
+pub mod ReadBack

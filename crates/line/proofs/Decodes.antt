@@ -9,7 +9,7 @@ use native.Mathlib.Omega.{arith}
 use borrow.Author.Tests.{eqb-false, eqb-true, le-leb, lt-leb, lt-ltb, ltb-false, ltb-true}
 use lib.Dec.{eqb, ltb}
 use lib.ListN.{length}
-use Rattle.writer.proofs.Digits.{backslash-escaped, byte-itself, control-escaped, high-hex, low-hex, quote-escaped}
+use Rattle.answers.proofs.Digits.{backslash-escaped, byte-itself, control-escaped, high-hex, low-hex, quote-escaped}
 use Rattle.answers.specs.Line.{hexOf, quotedByte, quotedBytes}
 use Rattle.tokens.proofs.Scans.{chars-enough}
 use Rattle.json.specs.Bytes.{Bytes}

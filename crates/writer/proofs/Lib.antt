@@ -1,5 +1,4 @@
 pub mod Laying
-pub mod Digits
 pub mod Quotes
 pub mod Lists
 pub mod Texts

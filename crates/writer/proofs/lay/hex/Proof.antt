@@ -1,7 +1,7 @@
 -- `line::lay::hex` meets its contract: by its two cases.
 -- Assumes nothing.
 use mathlib.Core.Path.{sym}
-use Rattle.writer.proofs.Digits.{high-hex, low-hex}
+use Rattle.answers.proofs.Digits.{high-hex, low-hex}
 use borrow.Author.Needs.{needs}
 use Rattle.writer.proofs.lay.hex.Statement.{statement}
 use Rattle.writer.proofs.lay.hex.Tie as tie

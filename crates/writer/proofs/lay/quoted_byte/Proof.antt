@@ -2,7 +2,7 @@
 -- Assumes nothing.
 use mathlib.Core.Path.{sym, _∙_}
 use Rattle.writer.proofs.Laying.{then, told}
-use Rattle.writer.proofs.Digits.{backslash-escaped, byte-itself, control-escaped, quote-escaped}
+use Rattle.answers.proofs.Digits.{backslash-escaped, byte-itself, control-escaped, quote-escaped}
 use native.Mathlib.Omega.{arith}
 use borrow.Author.Needs.{needs}
 use Rattle.writer.proofs.lay.quoted_byte.Statement.{statement}
