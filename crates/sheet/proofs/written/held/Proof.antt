@@ -17,7 +17,10 @@ condition-requires : tie.Need-condition-requires
 condition-requires c κs = search needs
 
 returns : tie.Need-returns
-returns c = held-itself _ _ (sym (c .before .before .is-word .ensures) ∙ c .before .if1 .taken) (c .condition .ensures)
+returns c =
+    held-itself _ _
+    (sym (c .before .before .is-word .ensures) ∙ c .before .if1 .taken)
+    (c .condition .ensures)
 
 slice-aggregate-is-word-2 : tie.Need-slice-aggregate-is-word-2
 slice-aggregate-is-word-2 c = search needs
@@ -32,7 +35,11 @@ under-each-requires : tie.Need-under-each-requires
 under-each-requires c κs = search needs
 
 returns-2 : tie.Need-returns-2
-returns-2 c = held-first _ _ (sym (c .before .before .before .before .before .before .is-word .ensures) ∙ c .before .before .before .before .before .if1 .left) (sym (c .before .before .before .is-word2 .ensures) ∙ c .before .before .if2 .taken) (c .under-each .ensures)
+returns-2 c =
+    held-first _ _
+    (sym (c .before .before .before .before .before .before .is-word .ensures) ∙ c .before .before .before .before .before .if1 .left)
+    (sym (c .before .before .before .is-word2 .ensures) ∙ c .before .before .if2 .taken)
+    (c .under-each .ensures)
 
 slice-aggregate-is-word-3 : tie.Need-slice-aggregate-is-word-3
 slice-aggregate-is-word-3 c = search needs
@@ -47,7 +54,13 @@ under-each-requires-2 : tie.Need-under-each-requires-2
 under-each-requires-2 c κs = search needs
 
 returns-3 : tie.Need-returns-3
-returns-3 c = held-second _ _ (sym (c .before .before .before .before .before .before .before .before .before .is-word .ensures) ∙ c .before .before .before .before .before .before .before .before .if1 .left) (sym (c .before .before .before .before .before .before .is-word2 .ensures) ∙ c .before .before .before .before .before .if2 .left) (sym (c .before .before .before .is-word3 .ensures) ∙ c .before .before .if3 .taken) (c .under-each2 .ensures)
+returns-3 c =
+    held-second _ _
+    (sym (c .before .before .before .before .before .before .before .before .before .is-word .ensures) ∙
+    c .before .before .before .before .before .before .before .before .if1 .left)
+    (sym (c .before .before .before .before .before .before .is-word2 .ensures) ∙ c .before .before .before .before .before .if2 .left)
+    (sym (c .before .before .before .is-word3 .ensures) ∙ c .before .before .if3 .taken)
+    (c .under-each2 .ensures)
 
 slice-aggregate-is-word-4 : tie.Need-slice-aggregate-is-word-4
 slice-aggregate-is-word-4 c = search needs
@@ -62,11 +75,26 @@ under-each-requires-3 : tie.Need-under-each-requires-3
 under-each-requires-3 c κs = search needs
 
 returns-4 : tie.Need-returns-4
-returns-4 c = held-third _ _ (sym (c .before .before .before .before .before .before .before .before .before .before .before .before .is-word .ensures) ∙ c .before .before .before .before .before .before .before .before .before .before .before .if1 .left) (sym (c .before .before .before .before .before .before .before .before .before .is-word2 .ensures) ∙ c .before .before .before .before .before .before .before .before .if2 .left) (sym (c .before .before .before .before .before .before .is-word3 .ensures) ∙ c .before .before .before .before .before .if3 .left) (sym (c .before .before .before .is-word4 .ensures) ∙ c .before .before .if4 .taken) (c .under-each3 .ensures)
+returns-4 c =
+    held-third _ _
+    (sym (c .before .before .before .before .before .before .before .before .before .before .before .before .is-word .ensures) ∙
+    c .before .before .before .before .before .before .before .before .before .before .before .if1 .left)
+    (sym (c .before .before .before .before .before .before .before .before .before .is-word2 .ensures) ∙
+    c .before .before .before .before .before .before .before .before .if2 .left)
+    (sym (c .before .before .before .before .before .before .is-word3 .ensures) ∙ c .before .before .before .before .before .if3 .left)
+    (sym (c .before .before .before .is-word4 .ensures) ∙ c .before .before .if4 .taken)
+    (c .under-each3 .ensures)
 
 returns-5 : tie.Need-returns-5
 unfolding faultIs
-returns-5 c = held-nothing _ _ (sym (c .before .before .before .before .before .before .before .before .before .before .is-word .ensures) ∙ c .before .before .before .before .before .before .before .before .before .if1 .left) (sym (c .before .before .before .before .before .before .before .is-word2 .ensures) ∙ c .before .before .before .before .before .before .if2 .left) (sym (c .before .before .before .before .is-word3 .ensures) ∙ c .before .before .before .if3 .left) (sym (c .before .is-word4 .ensures) ∙ c .if4 .left) refl
+returns-5 c =
+    held-nothing _ _
+    (sym (c .before .before .before .before .before .before .before .before .before .before .is-word .ensures) ∙
+    c .before .before .before .before .before .before .before .before .before .if1 .left)
+    (sym (c .before .before .before .before .before .before .before .is-word2 .ensures) ∙ c .before .before .before .before .before .before .if2 .left)
+    (sym (c .before .before .before .before .is-word3 .ensures) ∙ c .before .before .before .if3 .left)
+    (sym (c .before .is-word4 .ensures) ∙ c .if4 .left)
+    refl
 
 pub held-spec : {M : Type 1} → statement M
 held-spec =
