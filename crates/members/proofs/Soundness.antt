@@ -6,9 +6,8 @@ use mathlib.Core.Option.{Option, none, some}
 use mathlib.Core.Path.{ap, refl, subst, sym, _∙_, _≡_}
 use Prim.Native.Nat.{ℕ, _+_, _-_, _<_, _≤_}
 use native.Mathlib.Omega.{arith}
-use Rattle.json.proofs.Laws.{find-none, namesOf}
 use Rattle.strings.specs.Answers.{foundOf}
-use Rattle.json.specs.Bytes.{Bytes, ascii, find}
+use Rattle.json.specs.Bytes.{Bytes, ascii, find, sameBytes}
 use Rattle.json.specs.Held.{AreNodes, IsNode}
 use Rattle.json.specs.Json.{Members, Value, array, bool, elements, entries, null, number, object, text}
 use Rattle.json.specs.Refusal.{Refusal, Result, ok, refused, _>>=_}
@@ -17,15 +16,11 @@ use Rattle.json.specs.Table.{afterAt, kindAt, membersAt, startAt, valueAt, valu
 use Rattle.strings.specs.declared.rows.Found.{Found}
 use Rattle.strings.specs.declared.rows.Found.the-variants as founds
 use Rattle.members.proofs.Conditions.{firstOf}
-use Rattle.members.proofs.Names.{unlisted}
-use Rattle.members.proofs.Operators.{Placed, nth, placed}
 use Rattle.members.proofs.Shapes.{array-at, object-at, tag, tagged}
 use Rattle.members.proofs.Walks.{OverMembers, OverNodes, a-member, an-element, element-on, full-nodes, no-element, no-member, on}
-use Rattle.members.specs.Answers.{placeOf}
 use Rattle.members.specs.Condition.{Condition, condition}
-use Rattle.members.specs.Sheet.{Holds, heldBy, holders, inArray, memberOf, memberOfEach, sound, written}
+use Rattle.members.specs.Sheet.{Holds, eachUnder, heldBy, holders, inArray, itself, memberOf, memberOfEach, sound, written}
 use Rattle.members.specs.Verdicts.{faultOf}
-use Rattle.members.specs.Words.{position}
 
 abbrev pub soundness : List Value → Option Refusal
 soundness vs = faultOf (sound vs)
@@ -126,30 +121,32 @@ module _ {s : Bytes} {w : List ℕ} {e : ℕ} {whole : Option Refusal} (key : By
     each-on i k′ j = element-on l g k′ j (each-here ∙ ap (λ (x : Option Refusal). firstOf x (soundness (memberOfEach key (elements (valuesAt s w (afterAt w k) e))))) i)
 
 -- ---- a member of the sheet, by its name
-module _ (t : Bytes) (v : Value) (r : Found) (p : position 0 t (namesOf holders) ≡ placeOf r) where
-  pub held-nothing : r ≡ founds.Nothing → soundness (heldBy (find t holders) v) ≡ none
-  unfolding placeOf
-  held-nothing e = ap (λ (x : Option Holds). soundness (heldBy x v)) (find-none t holders (unlisted 0 t (namesOf holders) (p ∙ ap placeOf e))) ∙ sound-none
+module _ (t : Bytes) (v : Value) {o : Option Refusal} where
+  held-as : {h : Option Holds} → find t holders ≡ h → soundness (heldBy h v) ≡ o → soundness (heldBy (find t holders) v) ≡ o
+  held-as e f = ap (λ (x : Option Holds). soundness (heldBy x v)) e ∙ f
 
-  module _ (n : ℕ) (e : r ≡ founds.At n) where
-    at-place : Placed 0 n t holders
-    unfolding placeOf
-    at-place = placed 0 n t holders (p ∙ ap placeOf e)
+  pub held-itself : sameBytes t (ascii "condition") ≡ true → faultOf (condition v) ≡ o → soundness (heldBy (find t holders) v) ≡ o
+  unfolding find
+  held-itself p f = held-as {h = some itself} (rw (p, find)) (sound-one v ∙ f)
 
-    held-as : (m : ℕ) → n ≡ m → soundness (heldBy (find t holders) v) ≡ soundness (heldBy (nth holders m) v)
-    held-as m i = let q : n - 0 ≡ m = omega arith in ap (λ (x : Option Holds). soundness (heldBy x v)) (at-place .is ∙ ap (nth holders) q)
+  module _ (n : sameBytes t (ascii "condition") ≡ false) where
+    pub held-first : sameBytes t (ascii "preconditions") ≡ true → soundness (inArray (ascii "assert") v) ≡ o → soundness (heldBy (find t holders) v) ≡ o
+    unfolding find
+    held-first p f = held-as {h = some (eachUnder (ascii "assert"))} (rw (n, p, find)) f
 
-    pub held-itself : {o : Option Refusal} → n ≡ 0 → faultOf (condition v) ≡ o → soundness (heldBy (find t holders) v) ≡ o
-    held-itself i f = held-as 0 i ∙ sound-one v ∙ f
+    module _ (m : sameBytes t (ascii "preconditions") ≡ false) where
+      pub held-second : sameBytes t (ascii "invariants") ≡ true → soundness (inArray (ascii "assert") v) ≡ o → soundness (heldBy (find t holders) v) ≡ o
+      unfolding find
+      held-second p f = held-as {h = some (eachUnder (ascii "assert"))} (rw (n, m, p, find)) f
 
-    pub held-1 : {o : Option Refusal} → n ≡ 1 → soundness (inArray (ascii "assert") v) ≡ o → soundness (heldBy (find t holders) v) ≡ o
-    held-1 i f = held-as 1 i ∙ f
+      module _ (l : sameBytes t (ascii "invariants") ≡ false) where
+        pub held-third : sameBytes t (ascii "outcomes") ≡ true → soundness (inArray (ascii "when") v) ≡ o → soundness (heldBy (find t holders) v) ≡ o
+        unfolding find
+        held-third p f = held-as {h = some (eachUnder (ascii "when"))} (rw (n, m, l, p, find)) f
 
-    pub held-2 : {o : Option Refusal} → n ≡ 2 → soundness (inArray (ascii "assert") v) ≡ o → soundness (heldBy (find t holders) v) ≡ o
-    held-2 i f = held-as 2 i ∙ f
-
-    pub held-3 : {o : Option Refusal} → 3 ≤ n → soundness (inArray (ascii "when") v) ≡ o → soundness (heldBy (find t holders) v) ≡ o
-    held-3 i f = held-as 3 (omega (arith, at-place .upto)) ∙ f
+        pub held-nothing : sameBytes t (ascii "outcomes") ≡ false → none ≡ o → soundness (heldBy (find t holders) v) ≡ o
+        unfolding find
+        held-nothing p f = held-as {h = none} (rw (n, m, l, p, find)) (sound-none ∙ f)
 
 -- ---- the sheet's members
 abbrev pub soundnessOf : Members → Option Refusal

@@ -87,6 +87,20 @@ module _ {s : Bytes} {at : ℕ} {word : Bytes} {i : ℕ} (l : Spelling s at word
     pub plain-like : (i ≡ length word → ⊥) → getD s (at + i) 0 ≡ getD word i 0 → Spelling s at word (fresh (at + (i + 1))) (i + 1)
     plain-like h e = subst (λ (a : ℕ). Spelling s at word (fresh a) (i + 1)) (omega arith) (like l plainTaken plain-took h e)
 
+-- a text that begins with another byte than the word, and with no escape
+pub other-start : (s : Bytes) (at : ℕ) (word : Bytes) → OnText s at 0 → 0 < length word → (getD s at 0 ≡ getD word 0 0 → ⊥) → (getD s at 0 ≡ 92 → ⊥) → false ≡ sameBytes (textAt s at) word
+other-start s at word o h f g = go (eqb (getD s (at + 0) 0) 34) refl
+  where
+    l : Spelling s at word (fresh (at + 0)) 0
+    l = plainly s at word o
+
+    z : at + 0 ≡ at
+    z = omega arith
+
+    go : (b : Bool) → eqb (getD s (at + 0) 0) 34 ≡ b → false ≡ sameBytes (textAt s at) word
+    go true e = sym (ne-eqb 0 (length word) (λ q. omega arith)) ∙ plain-ended l (eqb-true (getD s (at + 0) 0) 34 e)
+    go false e = plain-unlike l (eqb-no (getD s (at + 0) 0) 34 e) (rw z g) (λ q. omega arith) (rw z f)
+
 -- a text's first byte, or a comma
 module _ (s : Bytes) {at : ℕ} {c : Cursor} (e : c ≡ fresh at) where
   pub head-none : beforeOf s c ≡ [] → 44 ≡ getD (textAt s at) 0 44

@@ -36,7 +36,7 @@ fn spells(s: &[u8], at: usize, word: &[u8]) -> bool
 }
 
 // Whether a text is a given word. Few names have an escape: up to the first one, bytes are compared as they stand.
-pub fn is_word(s: &[u8], at: usize, word: &[u8]) -> bool
+fn matches(s: &[u8], at: usize, word: &[u8]) -> bool
     requires { ⌜ OnText (now s) at 0 ⌝ }
     ensures { λ r. ⌜ r ≡ sameBytes (textAt (now (s .entry)) at) (now (word .entry)) ⌝ }
 {
@@ -57,6 +57,24 @@ pub fn is_word(s: &[u8], at: usize, word: &[u8]) -> bool
         }
         i += 1;
     }
+}
+
+// Whether a text is a given word. Mostly it is not, and its first byte tells.
+pub fn is_word(s: &[u8], at: usize, word: &[u8]) -> bool
+    requires { ⌜ OnText (now s) at 0 ⌝ }
+    ensures { λ r. ⌜ r ≡ sameBytes (textAt (now (s .entry)) at) (now (word .entry)) ⌝ }
+{
+    if word.len() == 0 {
+        return matches(s, at, word);
+    }
+    let b = s[at];
+    if b == word[0] {
+        return matches(s, at, word);
+    }
+    if b == b'\\' {
+        return matches(s, at, word);
+    }
+    false
 }
 
 // The text's first byte, or a comma for a text that has none.

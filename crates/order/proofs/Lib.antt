@@ -8,6 +8,7 @@ pub mod Prefix
 pub mod ByText
 pub mod InPlace
 pub mod Joining
+pub mod Inserting
 pub mod Merging
 pub mod Distinct
 pub mod Linking

@@ -77,13 +77,27 @@ fn join(s: &[u8], work: &[u32], nodes: &mut [u16], mid: usize, spare: &mut [u16]
     }
 }
 
+// A few nodes in order: from the last one backwards, each is merged with those behind it.
+fn insert_each(s: &[u8], work: &[u32], nodes: &mut [u16])
+    requires { ⌜ (12288 ≤ length (now work)) × TextNodes (now s) (now work) (now nodes) ⌝ }
+    ensures { λ _. ⌜ now (nodes .exit) ≡ byKey (keyAt (now (s .entry)) (now (work .entry))) (now (nodes .entry)) ⌝ }
+{
+    let mut i = nodes.len();
+    while 0 < i {
+        i -= 1;
+        let one = [nodes[i]; 1];
+        merge(s, work, &one, &mut nodes[i..]);
+    }
+}
+
 // The nodes in order. `spare` is as long at least, and holds anything.
 pub fn sort(s: &[u8], work: &[u32], nodes: &mut [u16], spare: &mut [u16])
     requires { ⌜ (12288 ≤ length (now work)) × TextNodes (now s) (now work) (now nodes) × (length (now nodes) ≤ length (now spare)) ⌝ }
     ensures { λ _. ⌜ now (nodes .exit) ≡ byKey (keyAt (now (s .entry)) (now (work .entry))) (now (nodes .entry)) ⌝ }
 {
     let n = nodes.len();
-    if n < 2 {
+    if n < 9 {
+        insert_each(s, work, nodes);
         return;
     }
     let mid = n / 2;

@@ -3,6 +3,7 @@ use members::member::named;
 use members::node::ARRAY;
 use members::node::OBJECT;
 use members::told::Fault;
+use members::word::is_word;
 use strings::rows::Found;
 ghost use mathlib.Core.Path.{_≡_};
 ghost use Prim.Native.Nat.{_+_};
@@ -62,19 +63,19 @@ pub fn held(s: &[u8], work: &[u32], name: usize, node: usize) -> Fault
     requires { ⌜ OnText (now s) name 0 × IsNode (now s) (now work) 64 node ⌝ }
     ensures { λ r. ⌜ faultOf (sound (heldBy (find (textAt (now (s .entry)) name) holders) (valueAt (now (s .entry)) (now (work .entry)) node))) ≡ faultIs r ⌝ }
 {
-    let Found::At(n) = members::word::which(
-        s,
-        name,
-        b"condition,preconditions,invariants,outcomes,",
-    ) else {
-        return Fault::Sound;
-    };
-    match n {
-        0 => syntax::condition::condition(s, work, node, 64),
-        1 => under_each(s, work, node, b"assert"),
-        2 => under_each(s, work, node, b"assert"),
-        _ => under_each(s, work, node, b"when"),
+    if is_word(s, name, b"condition") {
+        return syntax::condition::condition(s, work, node, 64);
     }
+    if is_word(s, name, b"preconditions") {
+        return under_each(s, work, node, b"assert");
+    }
+    if is_word(s, name, b"invariants") {
+        return under_each(s, work, node, b"assert");
+    }
+    if is_word(s, name, b"outcomes") {
+        return under_each(s, work, node, b"when");
+    }
+    Fault::Sound
 }
 
 // The first fault of the conditions that the sheet's members from `from` up to `end` hold.

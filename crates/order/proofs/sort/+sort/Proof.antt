@@ -1,4 +1,4 @@
--- `order::sort::sort` meets its contract: each half is shorter than the whole; the two are sorted and joined.
+-- `order::sort::sort` meets its contract: a few are inserted one by one; else each half is shorter than the whole, and the two are sorted and joined.
 -- Assumes nothing.
 use mathlib.Core.Path.{sym}
 use Prim.Native.Nat.{ℕ, _-_, _/_, _<_, _≤_}
@@ -10,11 +10,11 @@ use borrow.Fn.Kinds.{In}
 use borrow.Fn.PlainCycle.{Measures, is, falls, and}
 use Rattle.order.proofs.ByText.{text-take}
 use Rattle.order.proofs.Joining.{all-sorted, joinable, second-long, second-texts}
-use Rattle.order.proofs.Merging.{short-sorted}
 use Rattle.order.specs.ByText.{keyAt}
 use Rattle.order.proofs.sort.sort.Reads as sort
 use Rattle.order.proofs.sort.sort.Kinds as sort-kinds
 use Rattle.order.proofs.sort.+sort.Lts-sort as sort-lts
+use Rattle.order.proofs.sort.insert_each.Reads as insert-each-reads
 use Rattle.order.proofs.sort.join.Reads as join-reads
 use Rattle.order.proofs.sort.+sort.{statement}
 use Rattle.order.proofs.sort.+sort.Tie.{close}
@@ -28,17 +28,41 @@ sort-at t = and 4 sort-kinds.ps (is 4 sort-kinds.ps μ-sort t) sort.Pre
 abbrev sort-below : ℕ → In 4 sort-kinds.ps
 sort-below t = and 4 sort-kinds.ps (falls 4 sort-kinds.ps _<_ μ-sort t) sort.Pre
 
-sort-returns : (t : ℕ) → sort-lts.Need-returns (
+sort-insert-each-requires : (t : ℕ) → sort-lts.Need-insert-each-requires (
+  insert-each-reads.Asked,
+  insert-each-reads.Learnt,
   sort-below t,
   sort.Post,
   join-reads.Asked,
   join-reads.Learnt,
 ) (sort-at t) sort.Post
-sort-returns t c =
-    let a = c .before .before .before .before .before .args in
-    short-sorted (keyAt (a .s .now) (a .work .now)) (a .nodes .now) (c .if1 .taken)
+sort-insert-each-requires t c κs =
+    let p = c .before .before .before .before .before .before .pre .1 in
+    (p .0, p .1)
+
+sort-same-length : (t : ℕ) → sort-lts.Need-same-length (
+  insert-each-reads.Asked,
+  insert-each-reads.Learnt,
+  sort-below t,
+  sort.Post,
+  join-reads.Asked,
+  join-reads.Learnt,
+) (sort-at t) sort.Post
+sort-same-length t c = search needs
+
+sort-returns : (t : ℕ) → sort-lts.Need-returns (
+  insert-each-reads.Asked,
+  insert-each-reads.Learnt,
+  sort-below t,
+  sort.Post,
+  join-reads.Asked,
+  join-reads.Learnt,
+) (sort-at t) sort.Post
+sort-returns t c = c .before .before .insert-each .ensures
 
 sort-slice-relend-prefix-sort : (t : ℕ) → sort-lts.Need-slice-relend-prefix-sort (
+  insert-each-reads.Asked,
+  insert-each-reads.Learnt,
   sort-below t,
   sort.Post,
   join-reads.Asked,
@@ -47,6 +71,8 @@ sort-slice-relend-prefix-sort : (t : ℕ) → sort-lts.Need-slice-relend-prefix-
 sort-slice-relend-prefix-sort t c = search needs
 
 sort-slice-aggregate-sort : (t : ℕ) → sort-lts.Need-slice-aggregate-sort (
+  insert-each-reads.Asked,
+  insert-each-reads.Learnt,
   sort-below t,
   sort.Post,
   join-reads.Asked,
@@ -57,6 +83,8 @@ sort-slice-aggregate-sort t c =
     sym (length-take-le (length n / 2) n (omega arith))
 
 sort-sort-requires : (t : ℕ) → sort-lts.Need-sort-requires (
+  insert-each-reads.Asked,
+  insert-each-reads.Learnt,
   sort-below t,
   sort.Post,
   join-reads.Asked,
@@ -74,6 +102,8 @@ sort-sort-requires t c κs =
     (rw l falls, (p .0, text-take (a .s .now) (a .work .now) n mid (p .1), rw l fits))
 
 sort-mul-sort : (t : ℕ) → sort-lts.Need-mul-sort (
+  insert-each-reads.Asked,
+  insert-each-reads.Learnt,
   sort-below t,
   sort.Post,
   join-reads.Asked,
@@ -82,6 +112,8 @@ sort-mul-sort : (t : ℕ) → sort-lts.Need-mul-sort (
 sort-mul-sort t c = search needs
 
 sort-sub-sort : (t : ℕ) → sort-lts.Need-sub-sort (
+  insert-each-reads.Asked,
+  insert-each-reads.Learnt,
   sort-below t,
   sort.Post,
   join-reads.Asked,
@@ -90,6 +122,8 @@ sort-sub-sort : (t : ℕ) → sort-lts.Need-sub-sort (
 sort-sub-sort t c = search needs
 
 sort-part-sort-start : (t : ℕ) → sort-lts.Need-part-sort-start (
+  insert-each-reads.Asked,
+  insert-each-reads.Learnt,
   sort-below t,
   sort.Post,
   join-reads.Asked,
@@ -98,6 +132,8 @@ sort-part-sort-start : (t : ℕ) → sort-lts.Need-part-sort-start (
 sort-part-sort-start t c = search needs
 
 sort-part-sort-end : (t : ℕ) → sort-lts.Need-part-sort-end (
+  insert-each-reads.Asked,
+  insert-each-reads.Learnt,
   sort-below t,
   sort.Post,
   join-reads.Asked,
@@ -106,6 +142,8 @@ sort-part-sort-end : (t : ℕ) → sort-lts.Need-part-sort-end (
 sort-part-sort-end t c = search needs
 
 sort-sort-requires-2 : (t : ℕ) → sort-lts.Need-sort-requires-2 (
+  insert-each-reads.Asked,
+  insert-each-reads.Learnt,
   sort-below t,
   sort.Post,
   join-reads.Asked,
@@ -131,6 +169,8 @@ sort-sort-requires-2 t c κs =
     )
 
 sort-join-requires : (t : ℕ) → sort-lts.Need-join-requires (
+  insert-each-reads.Asked,
+  insert-each-reads.Learnt,
   sort-below t,
   sort.Post,
   join-reads.Asked,
@@ -150,15 +190,9 @@ sort-join-requires t c κs =
       search needs,
     )
 
-sort-same-length : (t : ℕ) → sort-lts.Need-same-length (
-  sort-below t,
-  sort.Post,
-  join-reads.Asked,
-  join-reads.Learnt,
-) (sort-at t) sort.Post
-sort-same-length t c = search needs
-
 sort-same-length-2 : (t : ℕ) → sort-lts.Need-same-length-2 (
+  insert-each-reads.Asked,
+  insert-each-reads.Learnt,
   sort-below t,
   sort.Post,
   join-reads.Asked,
@@ -166,7 +200,19 @@ sort-same-length-2 : (t : ℕ) → sort-lts.Need-same-length-2 (
 ) (sort-at t) sort.Post
 sort-same-length-2 t c = search needs
 
+sort-same-length-3 : (t : ℕ) → sort-lts.Need-same-length-3 (
+  insert-each-reads.Asked,
+  insert-each-reads.Learnt,
+  sort-below t,
+  sort.Post,
+  join-reads.Asked,
+  join-reads.Learnt,
+) (sort-at t) sort.Post
+sort-same-length-3 t c = search needs
+
 sort-returns-2 : (t : ℕ) → sort-lts.Need-returns-2 (
+  insert-each-reads.Asked,
+  insert-each-reads.Learnt,
   sort-below t,
   sort.Post,
   join-reads.Asked,
@@ -185,6 +231,8 @@ sort-returns-2 t c =
 
 pub +sort-spec : {M : Type 1} → statement M
 +sort-spec = close μ-sort λ t. sort-lts.spec (
+  insert-each-reads.Asked,
+  insert-each-reads.Learnt,
   sort-below t,
   sort.Post,
   join-reads.Asked,
@@ -192,6 +240,8 @@ pub +sort-spec : {M : Type 1} → statement M
 )
     (sort-at t)
     sort.Post
+    (sort-insert-each-requires t)
+    (sort-same-length t)
     (sort-returns t)
     (sort-slice-relend-prefix-sort t)
     (sort-slice-aggregate-sort t)
@@ -202,6 +252,6 @@ pub +sort-spec : {M : Type 1} → statement M
     (sort-part-sort-end t)
     (sort-sort-requires-2 t)
     (sort-join-requires t)
-    (sort-same-length t)
     (sort-same-length-2 t)
+    (sort-same-length-3 t)
     (sort-returns-2 t)

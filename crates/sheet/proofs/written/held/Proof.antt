@@ -1,32 +1,32 @@
--- `sheet::written::held` meets its contract: by the place of the name among those that hold conditions.
+-- `held` meets its contract: by the name's tests in turn.
 -- Assumes nothing.
-use native.Mathlib.Omega.{arith}
-use Rattle.members.proofs.Operators.{past}
-use Rattle.members.proofs.Soundness.{held-1, held-2, held-3, held-itself, held-nothing}
-use Rattle.members.specs.Answers.{faultIs}
-use Rattle.members.specs.Words.{wordsFrom}
+use mathlib.Core.Path.{refl, sym, _∙_}
 use borrow.Author.Needs.{needs}
+use Rattle.members.proofs.Soundness.{held-first, held-itself, held-nothing, held-second, held-third}
+use Rattle.members.specs.Answers.{faultIs}
 use Rattle.sheet.proofs.written.held.Statement.{statement}
 use Rattle.sheet.proofs.written.held.Tie as tie
 
-slice-aggregate-which : tie.Need-slice-aggregate-which
-slice-aggregate-which c = search needs
+slice-aggregate-is-word : tie.Need-slice-aggregate-is-word
+slice-aggregate-is-word c = search needs
 
-which-requires : tie.Need-which-requires
-which-requires c κs = search needs
-
-enum-known-n : tie.Need-enum-known-n
-enum-known-n c = search needs
-
-enum-told : tie.Need-enum-told
-enum-told c = search needs
-
-returns : tie.Need-returns
-unfolding wordsFrom faultIs
-returns c = held-nothing _ _ _ (c .before .before .which .ensures) (c .enum-told .given .1)
+is-word-requires : tie.Need-is-word-requires
+is-word-requires c κs = search needs
 
 condition-requires : tie.Need-condition-requires
-condition-requires c κs = c .before .before .before .before .before .before .before .before .pre .1
+condition-requires c κs = search needs
+
+returns : tie.Need-returns
+returns c =
+    held-itself _ _
+    (sym (c .before .before .is-word .ensures) ∙ c .before .if1 .taken)
+    (c .condition .ensures)
+
+slice-aggregate-is-word-2 : tie.Need-slice-aggregate-is-word-2
+slice-aggregate-is-word-2 c = search needs
+
+is-word-requires-2 : tie.Need-is-word-requires-2
+is-word-requires-2 c κs = search needs
 
 slice-aggregate-under-each : tie.Need-slice-aggregate-under-each
 slice-aggregate-under-each c = search needs
@@ -34,11 +34,39 @@ slice-aggregate-under-each c = search needs
 under-each-requires : tie.Need-under-each-requires
 under-each-requires c κs = search needs
 
+returns-2 : tie.Need-returns-2
+returns-2 c =
+    held-first _ _
+    (sym (c .before .before .before .before .before .before .is-word .ensures) ∙ c .before .before .before .before .before .if1 .left)
+    (sym (c .before .before .before .is-word2 .ensures) ∙ c .before .before .if2 .taken)
+    (c .under-each .ensures)
+
+slice-aggregate-is-word-3 : tie.Need-slice-aggregate-is-word-3
+slice-aggregate-is-word-3 c = search needs
+
+is-word-requires-3 : tie.Need-is-word-requires-3
+is-word-requires-3 c κs = search needs
+
 slice-aggregate-under-each-2 : tie.Need-slice-aggregate-under-each-2
 slice-aggregate-under-each-2 c = search needs
 
 under-each-requires-2 : tie.Need-under-each-requires-2
 under-each-requires-2 c κs = search needs
+
+returns-3 : tie.Need-returns-3
+returns-3 c =
+    held-second _ _
+    (sym (c .before .before .before .before .before .before .before .before .before .is-word .ensures) ∙
+    c .before .before .before .before .before .before .before .before .if1 .left)
+    (sym (c .before .before .before .before .before .before .is-word2 .ensures) ∙ c .before .before .before .before .before .if2 .left)
+    (sym (c .before .before .before .is-word3 .ensures) ∙ c .before .before .if3 .taken)
+    (c .under-each2 .ensures)
+
+slice-aggregate-is-word-4 : tie.Need-slice-aggregate-is-word-4
+slice-aggregate-is-word-4 c = search needs
+
+is-word-requires-4 : tie.Need-is-word-requires-4
+is-word-requires-4 c κs = search needs
 
 slice-aggregate-under-each-3 : tie.Need-slice-aggregate-under-each-3
 slice-aggregate-under-each-3 c = search needs
@@ -46,51 +74,49 @@ slice-aggregate-under-each-3 c = search needs
 under-each-requires-3 : tie.Need-under-each-requires-3
 under-each-requires-3 c κs = search needs
 
-returns-2 : tie.Need-returns-2
-unfolding wordsFrom
-returns-2 c =
-    held-itself _ _ _ (c .before .before .before .before .before .which .ensures) _
-    (c .before .before .before .n .given .1) (c .before .match2 .keys1) (c .condition .ensures)
-
-returns-3 : tie.Need-returns-3
-unfolding wordsFrom
-returns-3 c =
-    held-1 _ _ _ (c .before .before .before .before .before .before .which .ensures) _
-    (c .before .before .before .before .n .given .1) (c .before .before .match2 .keys2)
-    (c .under-each .ensures)
-
 returns-4 : tie.Need-returns-4
-unfolding wordsFrom
 returns-4 c =
-    held-2 _ _ _ (c .before .before .before .before .before .before .which .ensures) _
-    (c .before .before .before .before .n .given .1) (c .before .before .match2 .keys3)
-    (c .under-each2 .ensures)
+    held-third _ _
+    (sym (c .before .before .before .before .before .before .before .before .before .before .before .before .is-word .ensures) ∙
+    c .before .before .before .before .before .before .before .before .before .before .before .if1 .left)
+    (sym (c .before .before .before .before .before .before .before .before .before .is-word2 .ensures) ∙
+    c .before .before .before .before .before .before .before .before .if2 .left)
+    (sym (c .before .before .before .before .before .before .is-word3 .ensures) ∙ c .before .before .before .before .before .if3 .left)
+    (sym (c .before .before .before .is-word4 .ensures) ∙ c .before .before .if4 .taken)
+    (c .under-each3 .ensures)
 
 returns-5 : tie.Need-returns-5
-unfolding wordsFrom
+unfolding faultIs
 returns-5 c =
-    let rest = c .before .before .match2 .rest in
-    held-3 _ _ _ (c .before .before .before .before .before .before .which .ensures) _
-    (c .before .before .before .before .n .given .1)
-    (past 2 (past 1 (past 0 (omega arith) (rest .0 .0 .1)) (rest .0 .1)) (rest .1)) (c .under-each3 .ensures)
+    held-nothing _ _
+    (sym (c .before .before .before .before .before .before .before .before .before .before .is-word .ensures) ∙
+    c .before .before .before .before .before .before .before .before .before .if1 .left)
+    (sym (c .before .before .before .before .before .before .before .is-word2 .ensures) ∙ c .before .before .before .before .before .before .if2 .left)
+    (sym (c .before .before .before .before .is-word3 .ensures) ∙ c .before .before .before .if3 .left)
+    (sym (c .before .is-word4 .ensures) ∙ c .if4 .left)
+    refl
 
 pub held-spec : {M : Type 1} → statement M
 held-spec =
     tie.close
     (tie.spec
-    slice-aggregate-which
-    which-requires
-    enum-known-n
-    enum-told
-    returns
+    slice-aggregate-is-word
+    is-word-requires
     condition-requires
+    returns
+    slice-aggregate-is-word-2
+    is-word-requires-2
     slice-aggregate-under-each
     under-each-requires
+    returns-2
+    slice-aggregate-is-word-3
+    is-word-requires-3
     slice-aggregate-under-each-2
     under-each-requires-2
+    returns-3
+    slice-aggregate-is-word-4
+    is-word-requires-4
     slice-aggregate-under-each-3
     under-each-requires-3
-    returns-2
-    returns-3
     returns-4
     returns-5)

@@ -10,7 +10,7 @@ returns : tie.Need-returns
 returns c e = absurd (false≢true e)
 
 returns-2 : tie.Need-returns-2
-returns-2 c e = omega (arith, ltb-true (c .before .args .c) 58 e)
+returns-2 c e = omega (arith, ltb-true)
 
 pub is-digit-spec : {M : Type 1} → statement M
 is-digit-spec = tie.close (tie.spec returns returns-2)
