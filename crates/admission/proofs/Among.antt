@@ -32,7 +32,8 @@ one-among t x = go (sameBytes t x) refl
     go true q = among t x [] true q ∙ sym q
     go false q = among t x [] false q ∙ sym q
 
-module _ {s : Bytes} {w : List ℕ} {from e : ℕ} (text : ℕ) {k : ℕ} (l : Walking aText s w from e (isOneOf (textAt s text)) (isOneOf (textAt s text)) k) (h : k < e) (at : ℕ) (p : at ≡ startAt w k) where
+module _ {s : Bytes} {w : List ℕ} {from e : ℕ} (text : ℕ) {k : ℕ}
+    (l : Walking aText s w from e (isOneOf (textAt s text)) (isOneOf (textAt s text)) k) (h : k < e) (at : ℕ) (p : at ≡ startAt w k) where
   pub on-element : OnText s at 0
   on-element = subst (λ (x : ℕ). OnText s x 0) (sym p) (text-given (next l h .here) .onText)
 
@@ -42,10 +43,13 @@ module _ {s : Bytes} {w : List ℕ} {from e : ℕ} (text : ℕ) {k : ℕ} (l : W
   pub found-here : true ≡ sameBytes (textAt s text) (textAt s at) → (ts : List Bytes) → EachGives aText s w from e ts → true ≡ isOneOf (textAt s text) ts
   found-here q = settled l h true (sym (among (textAt s text) (next l h .first) (next l h .others) true (ap (sameBytes (textAt s text)) first-is ∙ sym q)))
 
-  pub not-here : false ≡ sameBytes (textAt s text) (textAt s at) → (k′ : ℕ) → k′ ≡ afterAt w k → Walking aText s w from e (isOneOf (textAt s text)) (isOneOf (textAt s text)) k′
+  pub not-here : false ≡ sameBytes (textAt s text) (textAt s at) → (k′ : ℕ) → k′ ≡ afterAt w k →
+      Walking aText s w from e (isOneOf (textAt s text)) (isOneOf (textAt s text)) k′
   not-here q = goes-on l h (isOneOf (textAt s text)) (among (textAt s text) (next l h .first) (next l h .others) false (ap (sameBytes (textAt s text)) first-is ∙ sym q))
 
-pub none-left : {s : Bytes} {w : List ℕ} {from e : ℕ} (text : ℕ) {k : ℕ} → Walking aText s w from e (isOneOf (textAt s text)) (isOneOf (textAt s text)) k → e ≤ k → (ts : List Bytes) → EachGives aText s w from e ts → false ≡ isOneOf (textAt s text) ts
+pub none-left : {s : Bytes} {w : List ℕ} {from e : ℕ} (text : ℕ) {k : ℕ} →
+    Walking aText s w from e (isOneOf (textAt s text)) (isOneOf (textAt s text)) k → e ≤ k → (ts : List Bytes) →
+    EachGives aText s w from e ts → false ≡ isOneOf (textAt s text) ts
 unfolding isOneOf
 none-left at l h = ended l h
 

@@ -27,7 +27,9 @@ module _ (s : Bytes) (w : List ℕ) {from e : ℕ} {whole here : List (Outcome C
   unfolding PlacedAt
   none-placed h q os g = sym (ended l h os g) ∙ q
 
-  placed : (h : k < e) (i : ℕ) → some (record { place = i; outcome = next l h .first }) ≡ here (next l h .first ∷ next l h .others) → (os : List (Outcome Condition)) → EachGives (anOutcome condition) s w from e os → PlacedAt s w (whole os) (chosen.At (record { place = i; node = k }))
+  placed : (h : k < e) (i : ℕ) → some (record { place = i; outcome = next l h .first }) ≡ here (next l h .first ∷ next l h .others) →
+      (os : List (Outcome Condition)) → EachGives (anOutcome condition) s w from e os →
+      PlacedAt s w (whole os) (chosen.At (record { place = i; node = k }))
   unfolding PlacedAt
   placed h i q os g = (next l h .first, sym (settled l h (some (record { place = i; outcome = next l h .first })) q os g), next l h .here)
 
@@ -54,11 +56,17 @@ module _ {s : Bytes} {w : List ℕ} {from e place i k : ℕ} (l : Counting s w f
   past-all h = none-placed s w (l .walking) h (at-none i (place - i))
 
   module _ (h : k < e) where
-    pub at-place : i ≡ place → (os : List (Outcome Condition)) → EachGives (anOutcome condition) s w from e os → PlacedAt s w (at 0 place os) (chosen.At (record { place = i; node = k }))
+    pub at-place : i ≡ place → (os : List (Outcome Condition)) → EachGives (anOutcome condition) s w from e os →
+        PlacedAt s w (at 0 place os) (chosen.At (record { place = i; node = k }))
     at-place q = placed s w (l .walking) h i (sym (at-here i (place - i) (next (l .walking) h .first) (next (l .walking) h .others) (omega arith)))
 
     pub counts-on : (i ≡ place → ⊥) → (k′ : ℕ) → k′ ≡ afterAt w k → Counting s w from e place (i + 1) k′
-    counts-on q k′ p = record { upto = omega arith; walking = goes-on (l .walking) h (at (i + 1) (place - (i + 1))) (at-more i (place - i) (place - (i + 1)) (next (l .walking) h .first) (next (l .walking) h .others) (omega arith)) k′ p }
+    counts-on q k′ p =
+        record {
+          upto = omega arith;
+          walking = goes-on (l .walking) h (at (i + 1) (place - (i + 1)))
+              (at-more i (place - i) (place - (i + 1)) (next (l .walking) h .first) (next (l .walking) h .others) (omega arith)) k′ p;
+        }
 
 pub counting : {s : Bytes} {w : List ℕ} {from e : ℕ} (place : ℕ) → Known (EachGives (anOutcome condition) s w from e) → Counting s w from e place 0 from
 counting {s} {w} {from} {e} place g =
@@ -69,7 +77,8 @@ counting {s} {w} {from} {e} place g =
 abbrev pub firstWrong : ℕ → List (Outcome Condition) → Option Placed
 firstWrong i os = firstFrom (λ o. o .wrongState) i os
 
-first-of : (i : ℕ) (o : Outcome Condition) (os : List (Outcome Condition)) (b : Bool) → o .wrongState ≡ b → firstWrong i (o ∷ os) ≡ elim b [ true ↦ some (record { place = i; outcome = o }) | false ↦ firstWrong (i + 1) os ]
+first-of : (i : ℕ) (o : Outcome Condition) (os : List (Outcome Condition)) (b : Bool) → o .wrongState ≡ b →
+    firstWrong i (o ∷ os) ≡ elim b [ true ↦ some (record { place = i; outcome = o }) | false ↦ firstWrong (i + 1) os ]
 unfolding firstFrom
 first-of i o os b q = ap {B = Option Placed} (λ (c : Bool). elim c [ true ↦ some (record { place = i; outcome = o }) | false ↦ firstWrong (i + 1) os ]) q
 
@@ -91,12 +100,19 @@ module _ {s : Bytes} {w : List ℕ} {from e i k : ℕ} (l : Passing s w from e i
   pub none-wrong : e ≤ k → (os : List (Outcome Condition)) → EachGives (anOutcome condition) s w from e os → PlacedAt s w (firstWrong 0 os) chosen.Nothing
   none-wrong h = none-placed s w (l .walking) h (first-none i)
 
-  module _ (h : k < e) {e′ : ℕ} (p : e′ ≡ afterAt w k) {m : OutcomeMembers} (named : OutcomeNamed s w (membersAt s w (k + 1) e′) m) (b : Bool) (a : (t : Bytes) (f : Option Bool) → MayGive aBool t w (m .«wrong_state») f → b ≡ orFalse f) where
+  module _ (h : k < e) {e′ : ℕ} (p : e′ ≡ afterAt w k) {m : OutcomeMembers} (named : OutcomeNamed s w (membersAt s w (k + 1) e′) m)
+      (b : Bool) (a : (t : Bytes) (f : Option Bool) → MayGive aBool t w (m .«wrong_state») f → b ≡ orFalse f) where
     here-is : next (l .walking) h .first .wrongState ≡ b
     here-is = let g = outcome-members p named (next (l .walking) h .here) in g .isWrong ∙ sym (a s (g .wrong) (g .wrongState))
 
-    pub wrong-here : b ≡ true → (os : List (Outcome Condition)) → EachGives (anOutcome condition) s w from e os → PlacedAt s w (firstWrong 0 os) (chosen.At (record { place = i; node = k }))
+    pub wrong-here : b ≡ true → (os : List (Outcome Condition)) → EachGives (anOutcome condition) s w from e os →
+        PlacedAt s w (firstWrong 0 os) (chosen.At (record { place = i; node = k }))
     wrong-here q = placed s w (l .walking) h i (sym (first-of i (next (l .walking) h .first) (next (l .walking) h .others) true (here-is ∙ q)))
 
     pub wrong-later : b ≡ false → Passing s w from e (i + 1) e′
-    wrong-later q = record { low = omega (arith, next (l .walking) h .past, l .low); walking = goes-on (l .walking) h (firstWrong (i + 1)) (first-of i (next (l .walking) h .first) (next (l .walking) h .others) false (here-is ∙ q)) e′ p }
+    wrong-later q =
+        record {
+          low = omega (arith, next (l .walking) h .past, l .low);
+          walking = goes-on (l .walking) h (firstWrong (i + 1))
+              (first-of i (next (l .walking) h .first) (next (l .walking) h .others) false (here-is ∙ q)) e′ p;
+        }

@@ -38,7 +38,9 @@ walk-sorted (k ∷ ks) (bool b) t = refl
 walk-sorted (k ∷ ks) (number s) t = refl
 walk-sorted (k ∷ ks) (text s) t = refl
 walk-sorted (k ∷ ks) (array vs) t = refl
-walk-sorted (k ∷ ks) (object ms) t = ap (λ (o : Option Value). elim o [ none ↦ none | some w ↦ walk kernel ks w ]) (find-sorted k ms t) ∙ go (walk-sorted ks) (find k (entries ms)) refl
+walk-sorted (k ∷ ks) (object ms) t =
+    ap (λ (o : Option Value). elim o [ none ↦ none | some w ↦ walk kernel ks w ]) (find-sorted k ms t) ∙
+    go (walk-sorted ks) (find k (entries ms)) refl
   where
     go :
         ((w : Value) → tidy maxNumber w ≡ true → walk kernel ks (sorted w) ≡ mapped sorted (walk kernel ks w)) → (o : Option Value) →
@@ -210,7 +212,9 @@ comparable-texts s s′ ms ns old new j j′ q q′ a c c′ h = record { sameRu
     was r m = let k = known-gives kernel old (sheetReadings old) c r m in k .1 ∙ ap {B = Result (Option Value)} ok (gives-written ms old x (r .text) (k .0) (k .1))
 
     now : (r : Reading) → IsReading old r → gives kernel new [] (r .text) ≡ ok (mapped sorted (givenIn ns (parts (r .text))))
-    now r m = let k = known-gives kernel new (sheetReadings new) c′ r (rw (same-readings old new same) m) in k .1 ∙ ap {B = Result (Option Value)} ok (gives-written ns new y (r .text) (k .0) (k .1))
+    now r m =
+        let k = known-gives kernel new (sheetReadings new) c′ r (rw (same-readings old new same) m) in k .1 ∙
+        ap {B = Result (Option Value)} ok (gives-written ns new y (r .text) (k .0) (k .1))
 
     kept : (r : Reading) → IsReading old r → KeptInText ms ns r → Kept old new r
     kept r m (inl g) = inl (now r m ∙ ap {B = Result (Option Value)} ok (sym (given-alike ms (x .isTidy) (parts (r .text)) _ _ refl g)) ∙ sym (was r m))
@@ -242,7 +246,10 @@ same-gives old new h e = by (parts e)
     by [] = refl
     by (name ∷ []) = ap (λ (rs : List (Bytes × Result (Option Value))). elim (find name rs) [ none ↦ refused (unknownExpression (36 ∷ e)) | some r ↦ r ]) rooted
     by (name ∷ [] ∷ ps) = ap (λ (bs : List (Bytes × Members)). elim (find name bs) [ none ↦ refused (unknownExpression (36 ∷ e)) | some ms ↦ ok none ]) based
-    by (name ∷ (c ∷ p) ∷ ps) = ap (λ (bs : List (Bytes × Members)). elim (find name bs) [ none ↦ refused (unknownExpression (36 ∷ e)) | some ms ↦ ok (walk kernel ((c ∷ p) ∷ ps) (object ms)) ]) based
+    by (name ∷ (c ∷ p) ∷ ps) =
+        ap
+        (λ (bs : List (Bytes × Members)). elim (find name bs)
+        [ none ↦ refused (unknownExpression (36 ∷ e)) | some ms ↦ ok (walk kernel ((c ∷ p) ∷ ps) (object ms)) ]) based
 
 pub alike-readings :
     (s s′ : Bytes) (ms ns : Members) (old new : Sheet Condition) → json s ≡ ok (object ms) → json s′ ≡ ok (object ns) → readSheet s ≡ ok old →

@@ -49,7 +49,8 @@ module _ {ms ns : Members} (t : tidyOf maxNumber ms ≡ true) (u : tidyOf maxNum
       sym (ap (mapped sorted) f) ∙
       sym (find-sorted k ns u)
 
-  pub required-alike : {A : Type 0} (kind : Value → Result A) (a b : A) → AlikeMember k ms ns → required kind k (sortedOf ms) ≡ ok a → required kind k (sortedOf ns) ≡ ok b → b ≡ a
+  pub required-alike : {A : Type 0} (kind : Value → Result A) (a b : A) → AlikeMember k ms ns → required kind k (sortedOf ms) ≡ ok a →
+      required kind k (sortedOf ns) ≡ ok b → b ≡ a
   required-alike {A} kind a b h e f =
       let x : _≡_ {A = Result A} (ok b) (ok a) = sym f ∙ ap {B = Result A} (λ o. orElse o wrongSheet >>= kind) (sym (found-alike h)) ∙ e in
       let y : b ≡ a = cc in
@@ -59,7 +60,9 @@ module _ {ms ns : Members} (t : tidyOf maxNumber ms ≡ true) (u : tidyOf maxNum
       {A : Type 0} (kind : Value → Result A) (a b : Option A) → AlikeMember k ms ns → optional kind k (sortedOf ms) ≡ ok a →
       optional kind k (sortedOf ns) ≡ ok b → b ≡ a
   optional-alike {A} kind a b h e f =
-      let x : _≡_ {A = Result (Option A)} (ok b) (ok a) = sym f ∙ ap {B = Result (Option A)} (λ o. elim o [ none ↦ ok none | some v ↦ (kind v >>= (λ a. ok (some a))) ]) (sym (found-alike h)) ∙ e in
+      let x : _≡_ {A = Result (Option A)} (ok b) (ok a) = sym f ∙
+      ap {B = Result (Option A)} (λ o. elim o [ none ↦ ok none | some v ↦ (kind v >>= (λ a. ok (some a))) ]) (sym (found-alike h)) ∙
+      e in
       let y : b ≡ a = cc in
       y
 

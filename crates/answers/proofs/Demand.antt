@@ -48,7 +48,18 @@ fact-of old new c r m =
       isNow = now .1;
       change = change (c .oldValueOrNothing r m);
       exact = exact (c .oldValueOrNothing r m);
-      erased = λ v p n g. (r, refl, m, record { value = v; gave = was .1 ∙ ap {B = Result (Option Value)} ok p; notNull = not-null v n; gone = now .1 ∙ ap {B = Result (Option Value)} ok g });
+      erased =
+          λ v p n g. (
+            r,
+            refl,
+            m,
+            record {
+              value = v;
+              gave = was .1 ∙ ap {B = Result (Option Value)} ok p;
+              notNull = not-null v n;
+              gone = now .1 ∙ ap {B = Result (Option Value)} ok g;
+            },
+          );
     }
   where
     was : (g : Option Value) × (gives kernel old [] (r .text) ≡ ok g)

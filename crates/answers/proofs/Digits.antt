@@ -15,7 +15,9 @@ unfolding digitsOf
 digits-before zero n s = refl
 digits-before (suc f) n s = go (ltb n 10) refl (digits-before f (n / 10) ((48 + n % 10) ∷ s)) (digits-before f (n / 10) ((48 + n % 10) ∷ []))
   where
-    go : (b : Bool) → ltb n 10 ≡ b → digitsOf f (n / 10) ((48 + n % 10) ∷ s) ≡ digitsOf f (n / 10) [] ++ ((48 + n % 10) ∷ s) → digitsOf f (n / 10) ((48 + n % 10) ∷ []) ≡ digitsOf f (n / 10) [] ++ ((48 + n % 10) ∷ []) → digitsOf (suc f) n s ≡ digitsOf (suc f) n [] ++ s
+    go : (b : Bool) → ltb n 10 ≡ b → digitsOf f (n / 10) ((48 + n % 10) ∷ s) ≡ digitsOf f (n / 10) [] ++ ((48 + n % 10) ∷ s) →
+        digitsOf f (n / 10) ((48 + n % 10) ∷ []) ≡ digitsOf f (n / 10) [] ++ ((48 + n % 10) ∷ []) →
+        digitsOf (suc f) n s ≡ digitsOf (suc f) n [] ++ s
     go true e x y = rw (e, digitsOf)
     go false e x y = rw (e, digitsOf) (x ∙ rw (y, mathlib.Core.List.append-assoc))
 
@@ -29,7 +31,8 @@ unfolding digitsOf tens
 digits-enough zero n s h = rw (lt-ltb n 10 h, digitsOf)
 digits-enough (suc f) n s h = go (λ t. digits-enough f (n / 10) t (omega arith)) (ltb n 10) refl
   where
-    go : ((t : Bytes) → digitsOf (suc (suc f)) (n / 10) t ≡ digitsOf (suc f) (n / 10) t) → (b : Bool) → ltb n 10 ≡ b → digitsOf (suc (suc (suc f))) n s ≡ digitsOf (suc (suc f)) n s
+    go : ((t : Bytes) → digitsOf (suc (suc f)) (n / 10) t ≡ digitsOf (suc f) (n / 10) t) → (b : Bool) → ltb n 10 ≡ b →
+        digitsOf (suc (suc (suc f))) n s ≡ digitsOf (suc (suc f)) n s
     go below true e = rw (e, digitsOf)
     go below false e = rw (e, digitsOf) (below ((48 + n % 10) ∷ s))
 
@@ -49,7 +52,8 @@ unfolding digitsOf tens natural
 digits-spell zero n s h = rw (lt-ltb n 10 h, digitsOf) (ap (λ (k : ℕ). natural k s) (let e : 0 * 10 + (48 + n - 48) ≡ n = omega arith in e))
 digits-spell (suc f) n s h = go (digits-spell f (n / 10) ((48 + n % 10) ∷ s) (omega arith)) (ltb n 10) refl
   where
-    go : natural 0 (digitsOf (suc f) (n / 10) ((48 + n % 10) ∷ s)) ≡ natural (n / 10) ((48 + n % 10) ∷ s) → (b : Bool) → ltb n 10 ≡ b → natural 0 (digitsOf (suc (suc f)) n s) ≡ natural n s
+    go : natural 0 (digitsOf (suc f) (n / 10) ((48 + n % 10) ∷ s)) ≡ natural (n / 10) ((48 + n % 10) ∷ s) → (b : Bool) → ltb n 10 ≡ b →
+        natural 0 (digitsOf (suc (suc f)) n s) ≡ natural n s
     go below true e = rw (e, digitsOf) (ap (λ (k : ℕ). natural k s) (let e : 0 * 10 + (48 + n - 48) ≡ n = omega arith in e))
     go below false e = rw (e, digitsOf) (below ∙ ap (λ (k : ℕ). natural k s) (let e : n / 10 * 10 + (48 + n % 10 - 48) ≡ n = omega arith in e))
 

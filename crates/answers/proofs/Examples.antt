@@ -48,16 +48,25 @@ pub p-table : map (λ c. evaluate (sheetOf c) 16384 65536) cases ≡ map replyOf
 unfolding evaluate
 p-table = refl
 
-abbrev pub sheet : String
-sheet = "{\"entity\":\"pack\",\"version\":1,\"args\":{\"v\":[3.61,3.58]},\"fields\":{},\"old_fields\":{},\"to_state\":\"in\",\"state\":\"in\",\"states\":[\"in\",\"out\"],\"preconditions\":[],\"invariants\":[],\"outcomes\":[{\"name\":\"scrap\",\"when\":{\"for_any\":{\"in\":\"$args.v\",\"as\":\"c\",\"that\":{\"lt\":[\"$c\",2.5]}}}},{\"name\":\"rebuild\"}]}"
+-- the paper's sheet, over its arguments
+abbrev behindArgs : Bytes
+behindArgs =
+    ascii ",\"fields\":{},\"old_fields\":{},\"to_state\":\"in\",\"state\":\"in\",\"states\":[\"in\",\"out\"],\"preconditions\":[],\"invariants\":[],\"outcomes\":[" ++
+    ascii "{\"name\":\"scrap\",\"when\":{\"for_any\":{\"in\":\"$args.v\",\"as\":\"c\",\"that\":{\"lt\":[\"$c\",2.5]}}}},{\"name\":\"rebuild\"}]}"
 
-abbrev pub erased : String
-erased = "{\"entity\":\"pack\",\"version\":1,\"args\":{},\"fields\":{},\"old_fields\":{},\"to_state\":\"in\",\"state\":\"in\",\"states\":[\"in\",\"out\"],\"preconditions\":[],\"invariants\":[],\"outcomes\":[{\"name\":\"scrap\",\"when\":{\"for_any\":{\"in\":\"$args.v\",\"as\":\"c\",\"that\":{\"lt\":[\"$c\",2.5]}}}},{\"name\":\"rebuild\"}]}"
+abbrev withArgs : String → Bytes
+withArgs args = ascii "{\"entity\":\"pack\",\"version\":1,\"args\":" ++ (ascii args ++ behindArgs)
 
-pub example : decide (ascii sheet) 16384 65536 ≡ record { number = 0; line = some (ascii "(admitted 1 \"rebuild\")\n") }
+abbrev pub sheet : Bytes
+sheet = withArgs "{\"v\":[3.61,3.58]}"
+
+abbrev pub erased : Bytes
+erased = withArgs "{}"
+
+pub example : decide sheet 16384 65536 ≡ record { number = 0; line = some (ascii "(admitted 1 \"rebuild\")\n") }
 unfolding decide
 example = refl
 
-pub example-erased : decide (ascii erased) 16384 65536 ≡ record { number = 20; line = some (ascii "(refused 20 0 \"scrap\" (names \"$args.v\"))\n") }
+pub example-erased : decide erased 16384 65536 ≡ record { number = 20; line = some (ascii "(refused 20 0 \"scrap\" (names \"$args.v\"))\n") }
 unfolding decide
 example-erased = refl

@@ -60,7 +60,11 @@ guard-shape-down i x (stopped j n ns e h) = stopped j n ns e (le-trans (omega ar
 
 -- a guard at a place counts: the selection came later, or by that guard
 abbrev pub GuardTried : ℕ → Result Placed → Type 0
-GuardTried i x = GuardShape (i + 1) x ⊎ ((x ≡ refused noOutcome) ⊎ (((p : Placed) × (c : Condition) × (x ≡ ok p) × (p .outcome .when ≡ some c) × (i ≤ p .place)) ⊎ ((j : ℕ) × (n : Bytes) × (ns : Names) × (x ≡ refused (guardUnknown j n ns)) × (i ≤ j))))
+GuardTried i x =
+    GuardShape (i + 1) x ⊎
+    ((x ≡ refused noOutcome) ⊎
+    (((p : Placed) × (c : Condition) × (x ≡ ok p) × (p .outcome .when ≡ some c) × (i ≤ p .place)) ⊎
+    ((j : ℕ) × (n : Bytes) × (ns : Names) × (x ≡ refused (guardUnknown j n ns)) × (i ≤ j))))
 
 module _ (Erased : Bytes → Type 0) where
   pub record GuardRefused (x y : Result Placed) : Type 0 where
@@ -91,7 +95,9 @@ module _ (Erased : Bytes → Type 0) where
     later-guard (some c) h = record { answers = later-evaluate kernel Erased old new [] c h; has = λ e. (c, refl) }
 
     -- one outcome more, eligible on both sheets or on neither
-    pub later-outcome : (i : ℕ) (o : Outcome Condition) (os : List (Outcome Condition)) → eligible (new .state) o ≡ eligible (old .state) o → GuardLater old new (o .when) → GuardsLater (i + 1) (select old (i + 1) os) (select new (i + 1) os) → GuardsLater i (select old i (o ∷ os)) (select new i (o ∷ os))
+    pub later-outcome : (i : ℕ) (o : Outcome Condition) (os : List (Outcome Condition)) → eligible (new .state) o ≡ eligible (old .state) o →
+        GuardLater old new (o .when) → GuardsLater (i + 1) (select old (i + 1) os) (select new (i + 1) os) →
+        GuardsLater i (select old i (o ∷ os)) (select new i (o ∷ os))
     later-outcome i o os same g below = by (eligible (old .state) o) refl
       where
         k : Both (Later Erased) (Decide·guard old (o .when)) (Decide·guard new (o .when))
@@ -110,8 +116,13 @@ module _ (Erased : Bytes → Type 0) where
         triedOf e u False p = rw (select-false old i o os (k .was) e (k .isWas) p) (inl (below .shape))
         triedOf e u Unknown p = inr (inr (inr (i, _, _, select-unknown old i o os (k .was) e (k .isWas) p, le-refl i)))
 
-        go : eligible (old .state) o ≡ true → eligible (new .state) o ≡ true → Later Erased (k .was) (k .now) → (t : Truth) → k .was .truth ≡ t → GuardsLater i (select old i (o ∷ os)) (select new i (o ∷ os))
-        go e f (truthKept q) True p = record { shape = shapeOf e True p; later = inl (select-true new i o os (k .now) f (k .isNow) (q ∙ p) ∙ sym (select-true old i o os (k .was) e (k .isWas) p)) }
+        go : eligible (old .state) o ≡ true → eligible (new .state) o ≡ true → Later Erased (k .was) (k .now) → (t : Truth) →
+            k .was .truth ≡ t → GuardsLater i (select old i (o ∷ os)) (select new i (o ∷ os))
+        go e f (truthKept q) True p =
+            record {
+              shape = shapeOf e True p;
+              later = inl (select-true new i o os (k .now) f (k .isNow) (q ∙ p) ∙ sym (select-true old i o os (k .was) e (k .isWas) p));
+            }
         go e f (truthKept q) False p = passOn (select-false old i o os (k .was) e (k .isWas) p) (select-false new i o os (k .now) f (k .isNow) (q ∙ p))
         go e f (truthKept q) Unknown p =
             record {
@@ -146,7 +157,9 @@ module _ (Erased : Bytes → Type 0) where
         by false e = passOn (select-skip old i o os e) (select-skip new i o os (same ∙ e))
         by true e = go e (same ∙ e) (k .rel) (k .was .truth) refl
 
-    pub later-select : (i : ℕ) (os : List (Outcome Condition)) → ((o : Outcome Condition) → eligible (new .state) o ≡ eligible (old .state) o) → Every (Fact kernel Erased old new) (guardReadings os) → GuardsLater i (select old i os) (select new i os)
+    pub later-select :
+        (i : ℕ) (os : List (Outcome Condition)) → ((o : Outcome Condition) → eligible (new .state) o ≡ eligible (old .state) o) →
+        Every (Fact kernel Erased old new) (guardReadings os) → GuardsLater i (select old i os) (select new i os)
     unfolding guardReadings
     later-select i [] same h = record { shape = exhausted (select-none old i); later = inl (select-none new i ∙ sym (select-none old i)) }
     later-select i (o ∷ os) same h =
@@ -159,7 +172,9 @@ module _ (Erased : Bytes → Type 0) where
         (later-select (i + 1) os same (every-right (whenReadings (o .when)) (guardReadings os) h))
 
     -- a guard that could not be evaluated is that of an eligible outcome
-    pub guard-at : (i : ℕ) (os : List (Outcome Condition)) → Every (Fact kernel Erased old new) (guardReadings os) → (j : ℕ) (n : Bytes) (ns : Names) → select new i os ≡ refused (guardUnknown j n ns) → (k : ℕ) × (j ≡ i + k) × (isGuarded (new .state) (at i k os) ≡ true)
+    pub guard-at :
+        (i : ℕ) (os : List (Outcome Condition)) → Every (Fact kernel Erased old new) (guardReadings os) → (j : ℕ) (n : Bytes) (ns : Names) →
+        select new i os ≡ refused (guardUnknown j n ns) → (k : ℕ) × (j ≡ i + k) × (isGuarded (new .state) (at i k os) ≡ true)
     unfolding guardReadings at
     guard-at i [] h j n ns e =
         let q = sym (select-none new i) ∙ e in
@@ -170,13 +185,16 @@ module _ (Erased : Bytes → Type 0) where
         g : GuardLater old new (o .when)
         g = later-guard (o .when) (every-left (whenReadings (o .when)) (guardReadings os) h)
 
-        further : (k : ℕ) × (j ≡ i + 1 + k) × (isGuarded (new .state) (at (i + 1) k os) ≡ true) → (k : ℕ) × (j ≡ i + k) × (isGuarded (new .state) (at i k (o ∷ os)) ≡ true)
+        further : (k : ℕ) × (j ≡ i + 1 + k) × (isGuarded (new .state) (at (i + 1) k os) ≡ true) →
+            (k : ℕ) × (j ≡ i + k) × (isGuarded (new .state) (at i k (o ∷ os)) ≡ true)
         further f = (suc (f .0), omega (arith, f .1), f .2)
 
         guarded : eligible (new .state) o ≡ true → (c : Condition) → o .when ≡ some c → isGuarded (new .state) (some (record { place = i; outcome = o })) ≡ true
         guarded q c w = rw (q, w) refl
 
-        judged : (select new (i + 1) os ≡ refused (guardUnknown j n ns) → (k : ℕ) × (j ≡ i + k) × (isGuarded (new .state) (at i k (o ∷ os)) ≡ true)) → eligible (new .state) o ≡ true → (t : Truth) → g .answers .now .truth ≡ t → (k : ℕ) × (j ≡ i + k) × (isGuarded (new .state) (at i k (o ∷ os)) ≡ true)
+        judged : (select new (i + 1) os ≡ refused (guardUnknown j n ns) → (k : ℕ) × (j ≡ i + k) ×
+            (isGuarded (new .state) (at i k (o ∷ os)) ≡ true)) → eligible (new .state) o ≡ true → (t : Truth) → g .answers .now .truth ≡ t →
+            (k : ℕ) × (j ≡ i + k) × (isGuarded (new .state) (at i k (o ∷ os)) ≡ true)
         judged below q True p =
             let r = sym (select-true new i o os (g .answers .now) q (g .answers .isNow) p) ∙ e in
             let z : _≡_ {A = Bool} true false = cc in
@@ -188,6 +206,8 @@ module _ (Erased : Bytes → Type 0) where
             let c = g .has p in
             (0, omega (arith, f), guarded q (c .0) (c .1))
 
-        by : (select new (i + 1) os ≡ refused (guardUnknown j n ns) → (k : ℕ) × (j ≡ i + k) × (isGuarded (new .state) (at i k (o ∷ os)) ≡ true)) → (b : Bool) → eligible (new .state) o ≡ b → (k : ℕ) × (j ≡ i + k) × (isGuarded (new .state) (at i k (o ∷ os)) ≡ true)
+        by : (select new (i + 1) os ≡ refused (guardUnknown j n ns) → (k : ℕ) × (j ≡ i + k) ×
+            (isGuarded (new .state) (at i k (o ∷ os)) ≡ true)) → (b : Bool) → eligible (new .state) o ≡ b →
+            (k : ℕ) × (j ≡ i + k) × (isGuarded (new .state) (at i k (o ∷ os)) ≡ true)
         by below false q = below (sym (select-skip new i o os q) ∙ e)
         by below true q = judged below q (g .answers .now .truth) refl

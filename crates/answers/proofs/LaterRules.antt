@@ -79,7 +79,10 @@ module _ (Erased : Bytes → Type 0) where
 
   module _ (old new : Sheet Condition) where
     -- one rule more: the case of the rule itself, and of those behind it
-    pub later-rule : (i : ℕ) (r : Rule Condition) (rs : List (Rule Condition)) → (k : Both (Later Erased) (evaluate kernel old [] (r .assert)) (evaluate kernel new [] (r .assert))) → RulesLater (i + 1) (check old preconditions (i + 1) rs) (check new preconditions (i + 1) rs) → RulesLater i (check old preconditions i (r ∷ rs)) (check new preconditions i (r ∷ rs))
+    pub later-rule : (i : ℕ) (r : Rule Condition) (rs : List (Rule Condition)) →
+        (k : Both (Later Erased) (evaluate kernel old [] (r .assert)) (evaluate kernel new [] (r .assert))) →
+        RulesLater (i + 1) (check old preconditions (i + 1) rs) (check new preconditions (i + 1) rs) →
+        RulesLater i (check old preconditions i (r ∷ rs)) (check new preconditions i (r ∷ rs))
     later-rule i r rs k below = go (k .rel) (k .was .truth) refl
       where
         shapeHere : (q : Refusal) → check old preconditions i (r ∷ rs) ≡ refused q → settler q ≡ atPlace (rule i) → RuleShape i (check old preconditions i (r ∷ rs))
@@ -91,8 +94,16 @@ module _ (Erased : Bytes → Type 0) where
         shapeOf Unknown p = shapeHere _ (check-unknown old preconditions i r rs (k .was) (k .isWas) p) (settled-unknown i (r .name) (r .message) (ascending (k .was .names)))
 
         go : Later Erased (k .was) (k .now) → (t : Truth) → k .was .truth ≡ t → RulesLater i (check old preconditions i (r ∷ rs)) (check new preconditions i (r ∷ rs))
-        go (truthKept q) True p = rw (check-true old preconditions i r rs (k .was) (k .isWas) p, check-true new preconditions i r rs (k .now) (k .isNow) (q ∙ p)) (record { shape = shape-down i _ (below .shape); later = below .later })
-        go (truthKept q) False p = record { shape = shapeOf False p; later = inl (check-false new preconditions i r rs (k .now) (k .isNow) (q ∙ p) ∙ sym (check-false old preconditions i r rs (k .was) (k .isWas) p)) }
+        go (truthKept q) True p =
+            rw (check-true old preconditions i r rs (k .was) (k .isWas) p, check-true new preconditions i r rs (k .now) (k .isNow) (q ∙ p))
+            (record { shape = shape-down i _ (below .shape); later = below .later })
+        go (truthKept q) False p =
+            record {
+              shape = shapeOf False p;
+              later = inl
+                  (check-false new preconditions i r rs (k .now) (k .isNow) (q ∙ p) ∙
+                  sym (check-false old preconditions i r rs (k .was) (k .isWas) p));
+            }
         go (truthKept q) Unknown p =
             record {
               shape = shapeOf Unknown p;
@@ -124,7 +135,8 @@ module _ (Erased : Bytes → Type 0) where
                   });
             }
 
-    pub later-check : (i : ℕ) (rs : List (Rule Condition)) → Every (Fact kernel Erased old new) (ruleReadings rs) → RulesLater i (check old preconditions i rs) (check new preconditions i rs)
+    pub later-check : (i : ℕ) (rs : List (Rule Condition)) → Every (Fact kernel Erased old new) (ruleReadings rs) →
+        RulesLater i (check old preconditions i rs) (check new preconditions i rs)
     unfolding ruleReadings
     later-check i [] h = record { shape = inl (check-none old i); later = inl (check-none new i ∙ sym (check-none old i)) }
     later-check i (r ∷ rs) h =
@@ -136,7 +148,9 @@ module _ (Erased : Bytes → Type 0) where
         (later-check (i + 1) rs (every-right (readings [] (r .assert)) (ruleReadings rs) h))
 
     -- a rule that could not be evaluated is one of the rules
-    pub rule-at : (i : ℕ) (rs : List (Rule Condition)) → Every (Fact kernel Erased old new) (ruleReadings rs) → (j : ℕ) (n m : Option Bytes) (ns : Names) → check new preconditions i rs ≡ refused (ruleUnknown preconditions j n m ns) → (k : ℕ) × (j ≡ i + k) × (k < length rs)
+    pub rule-at : (i : ℕ) (rs : List (Rule Condition)) → Every (Fact kernel Erased old new) (ruleReadings rs) →
+        (j : ℕ) (n m : Option Bytes) (ns : Names) → check new preconditions i rs ≡ refused (ruleUnknown preconditions j n m ns) →
+        (k : ℕ) × (j ≡ i + k) × (k < length rs)
     unfolding ruleReadings
     rule-at i [] h j n m ns e = ok-not-refused passed _ (sym (check-none new i) ∙ e)
     rule-at i (r ∷ rs) h j n m ns e = by (λ f. rule-at (i + 1) rs (every-right (readings [] (r .assert)) (ruleReadings rs) h) j n m ns f) (a .now .truth) refl
@@ -144,7 +158,8 @@ module _ (Erased : Bytes → Type 0) where
         a : Both (Later Erased) (evaluate kernel old [] (r .assert)) (evaluate kernel new [] (r .assert))
         a = later-evaluate kernel Erased old new [] (r .assert) (every-left (readings [] (r .assert)) (ruleReadings rs) h)
 
-        by : (check new preconditions (i + 1) rs ≡ refused (ruleUnknown preconditions j n m ns) → (k : ℕ) × (j ≡ i + 1 + k) × (k < length rs)) → (t : Truth) → a .now .truth ≡ t → (k : ℕ) × (j ≡ i + k) × (k < length (r ∷ rs))
+        by : (check new preconditions (i + 1) rs ≡ refused (ruleUnknown preconditions j n m ns) → (k : ℕ) × (j ≡ i + 1 + k) ×
+            (k < length rs)) → (t : Truth) → a .now .truth ≡ t → (k : ℕ) × (j ≡ i + k) × (k < length (r ∷ rs))
         by below True p = let f = below (sym (check-true new preconditions i r rs (a .now) (a .isNow) p) ∙ e) in (f .0 + 1, omega (arith, f .1), omega (arith, f .2))
         by below False p =
             let q = sym (check-false new preconditions i r rs (a .now) (a .isNow) p) ∙ e in

@@ -38,9 +38,9 @@ gives s n = record { text = s; work = 16384; output = 65536; number = n }
 abbrev pub cases : List Case
 cases =
     -- 1: 16,384 words; 23: the line, 23 bytes long, exactly fills the output
-    record { text = ascii sheet; work = 16384; output = 23; number = 0 } ∷
-    record { text = ascii sheet; work = 16383; output = 23; number = 1 } ∷
-    record { text = ascii sheet; work = 16384; output = 22; number = 23 } ∷
+    record { text = sheet; work = 16384; output = 23; number = 0 } ∷
+    record { text = sheet; work = 16383; output = 23; number = 1 } ∷
+    record { text = sheet; work = 16384; output = 22; number = 23 } ∷
     -- 2 before 3: 32,768 bytes
     gives (replicate 32767 32 ++ ascii "1") 9 ∷
     gives (replicate 32768 32 ++ ascii "1") 2 ∷

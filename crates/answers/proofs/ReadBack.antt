@@ -20,7 +20,22 @@ use Rattle.semantics.proofs.Parts.{none-some}
 use Rattle.semantics.specs.Truth.{False, True, Truth, Unknown}
 use Rattle.json.specs.Bytes.{Bytes, ascii, sameBytes}
 use Rattle.json.specs.Refusal.{Refusal, Result, Rules, guardUnknown, invariants, lineTooLong, noId, noInput, noOutcome, notASource, notCarried, notJson, notUtf8, numberTooLong}
-use Rattle.json.specs.Refusal.{ok, preconditions, refused, repeatedName, ruleFalse, ruleUnknown, tooDeep, tooLong, tooManyNodes, unknownExpression, workTooSmall, wrongShape, wrongSheet, wrongState}
+use Rattle.json.specs.Refusal.{
+  ok,
+  preconditions,
+  refused,
+  repeatedName,
+  ruleFalse,
+  ruleUnknown,
+  tooDeep,
+  tooLong,
+  tooManyNodes,
+  unknownExpression,
+  workTooSmall,
+  wrongShape,
+  wrongSheet,
+  wrongState,
+}
 
 -- a hexadecimal digit, and each byte of a text
 digit-value : (d : ℕ) → d < 16 → hexValue (hexOf d) ≡ d
@@ -261,7 +276,10 @@ fitted-line : (output n : ℕ) (m : Option Bytes) (l : Bytes) → fitted output 
 fitted-line output n none l e = e
 fitted-line output n (some m) l e = go (leb (length m) output) e
   where
-    go : (b : Bool) → Reply.line (elim b [ true ↦ record { number = n; line = some m } | false ↦ record { number = refusalNumber lineTooLong; line = none } ]) ≡ some l → some m ≡ some l
+    go : (b : Bool) →
+        Reply.line
+        (elim b [ true ↦ record { number = n; line = some m } | false ↦ record { number = refusalNumber lineTooLong; line = none } ]) ≡
+        some l → some m ≡ some l
     go true q = q
     go false q = none-some l q
 

@@ -15,7 +15,32 @@ use Rattle.answers.proofs.LaterRules.{RuleRefused, RuleShape, RulesLate
 use Rattle.answers.specs.Decide.{asAdmitted, decideCall}
 use Rattle.answers.specs.Outcomes.{Placed, at, eligible, firstFrom, guard as Decide·guard, select}
 use Rattle.answers.specs.Rules.{check}
-use Rattle.answers.specs.Demand.{AcceptedAs, Demand, IsUnobservable, NamesVanished, RefusedAgain, Repeats, SameRules, Settler, Step, atGuard, atOrBefore, atPlace, atRule, countsFor, everything, guard, isGuarded, isTried, refusalReply, rule, selection, settler, upToOutcome, upToSettler}
+use Rattle.answers.specs.Demand.{
+  AcceptedAs,
+  Demand,
+  IsUnobservable,
+  NamesVanished,
+  RefusedAgain,
+  Repeats,
+  SameRules,
+  Settler,
+  Step,
+  atGuard,
+  atOrBefore,
+  atPlace,
+  atRule,
+  countsFor,
+  everything,
+  guard,
+  isGuarded,
+  isTried,
+  refusalReply,
+  rule,
+  selection,
+  settler,
+  upToOutcome,
+  upToSettler,
+}
 use Rattle.answers.specs.Entry.{Reply, call, decide, enough, fitted, reply, workWords}
 use Rattle.answers.specs.Line.{refusalLine, refusalNumber, verdictLine}
 use Rattle.answers.specs.Admission.{admit, isWrong}
@@ -75,15 +100,18 @@ admit-shape states os s p = by (p .outcome .effect)
     by (moves to from) = outer from (isOneOf s from)
 
 -- which steps count, by what the decision was
-counts-refused : (s : Sheet Condition) (q : Refusal) (t : Settler) (k : Step) → decideCall s ≡ refused q → settler q ≡ t → countsFor s k ≡ upToSettler (select s 0 (s .outcomes)) t k
+counts-refused : (s : Sheet Condition) (q : Refusal) (t : Settler) (k : Step) → decideCall s ≡ refused q → settler q ≡ t →
+    countsFor s k ≡ upToSettler (select s 0 (s .outcomes)) t k
 unfolding countsFor
 counts-refused s q t k p e = rw (p, countsFor, e) refl
 
-counts-ok : (s : Sheet Condition) (v : Verdict) (p : Placed) (k : Step) → decideCall s ≡ ok v → select s 0 (s .outcomes) ≡ ok p → countsFor s k ≡ upToOutcome (p .outcome .when) (p .place) k
+counts-ok : (s : Sheet Condition) (v : Verdict) (p : Placed) (k : Step) → decideCall s ≡ ok v → select s 0 (s .outcomes) ≡ ok p →
+    countsFor s k ≡ upToOutcome (p .outcome .when) (p .place) k
 unfolding countsFor
 counts-ok s v p k e f = rw (e, countsFor, f) refl
 
-counts-late : (s : Sheet Condition) (q : Refusal) (p : Placed) (k : Step) → decideCall s ≡ refused q → settler q ≡ selection → select s 0 (s .outcomes) ≡ ok p → countsFor s k ≡ upToOutcome (p .outcome .when) (p .place) k
+counts-late : (s : Sheet Condition) (q : Refusal) (p : Placed) (k : Step) → decideCall s ≡ refused q → settler q ≡ selection →
+    select s 0 (s .outcomes) ≡ ok p → countsFor s k ≡ upToOutcome (p .outcome .when) (p .place) k
 unfolding countsFor
 counts-late s q p k e n f = rw (e, countsFor, n, f) refl
 
@@ -141,7 +169,10 @@ module _ (s : Sheet Condition) (x : Bytes) (st : s .state ≡ some x) (pass : ch
   guard-counts k (inl (exhausted e)) = counts-exhausted (guard k) e
   guard-counts k (inl (stopped j n ns e h)) = counts-stopped j n ns (guard k) e ∙ leb-true k j (omega arith)
   guard-counts k (inr (inl e)) = counts-exhausted (guard k) e
-  guard-counts k (inr (inr (inl t))) = counts-chosen (t .0) (guard k) (t .2) ∙ ap (λ (w : Option Condition). upToOutcome w (t .0 .place) (guard k)) (t .3) ∙ leb-true k (t .0 .place) (t .4)
+  guard-counts k (inr (inr (inl t))) =
+      counts-chosen (t .0) (guard k) (t .2) ∙
+      ap (λ (w : Option Condition). upToOutcome w (t .0 .place) (guard k)) (t .3) ∙
+      leb-true k (t .0 .place) (t .4)
   guard-counts k (inr (inr (inr t))) = counts-stopped (t .0) (t .1) (t .2) (guard k) (t .3) ∙ leb-true k (t .0) (t .4)
 
 -- two sheets with the same rules and state
@@ -177,11 +208,14 @@ module _ (old new : Sheet Condition) (same : SameRules old new) where
   eligible-same o = ap (λ (st : Option Bytes). eligible st o) (same .state)
 
   -- a refused rule ends both
-  refused-rules : (s : Sheet Condition) (x : Bytes) (rs : List (Rule Condition)) (os : List (Outcome Condition)) (states : List Bytes) (q : Refusal) → check s preconditions 0 rs ≡ refused q → decideFrom s (some x) rs os states ≡ refused q
+  refused-rules :
+      (s : Sheet Condition) (x : Bytes) (rs : List (Rule Condition)) (os : List (Outcome Condition)) (states : List Bytes) (q : Refusal) →
+      check s preconditions 0 rs ≡ refused q → decideFrom s (some x) rs os states ≡ refused q
   unfolding decideFrom
   refused-rules s x rs os states q e = ap (λ (y : Result Verdict). y >>= λ _. (select s 0 os >>= λ p. (admit states os x p >>= λ z. ok (asAdmitted z)))) e
 
-  passed-rules : (s : Sheet Condition) (x : Bytes) (rs : List (Rule Condition)) (os : List (Outcome Condition)) (states : List Bytes) → check s preconditions 0 rs ≡ ok passed → decideFrom s (some x) rs os states ≡ (select s 0 os >>= admitted-from states os x)
+  passed-rules : (s : Sheet Condition) (x : Bytes) (rs : List (Rule Condition)) (os : List (Outcome Condition)) (states : List Bytes) →
+      check s preconditions 0 rs ≡ ok passed → decideFrom s (some x) rs os states ≡ (select s 0 os >>= admitted-from states os x)
   unfolding decideFrom admitted-from
   passed-rules s x rs os states e = bind-ok _ e
 
@@ -206,12 +240,20 @@ module _ (old new : Sheet Condition) (same : SameRules old new) where
             names = r .names;
             unobservable = atRule;
             isNew = newParts (some x) st ∙ refused-rules new x _ _ _ _ (r .isNew);
-            tried = rule-step (r .place) (rule-at (Erased old new) old new 0 (old .preconditions) (every-left (ruleReadings (old .preconditions)) (guardReadings (old .outcomes)) facts) (r .place) (r .name) (r .message) (r .names) (r .isNew));
+            tried =
+                rule-step (r .place)
+                (rule-at (Erased old new) old new 0 (old .preconditions)
+                (every-left (ruleReadings (old .preconditions)) (guardReadings (old .outcomes)) facts) (r .place) (r .name) (r .message)
+                (r .names) (r .isNew));
             counts = ruleTried (r .place) (r .tried);
             named = by (r .named);
           }
         where
-          by : Lost (Erased old new) (r .names) ⊎ ((ms : Names) × (check old preconditions 0 (old .preconditions) ≡ refused (ruleUnknown preconditions (r .place) (r .name) (r .message) ms))) → NamesVanished old new (r .names) ⊎ IsUnobservable old (rule (r .place))
+          by : Lost (Erased old new) (r .names) ⊎
+              ((ms : Names) ×
+              (check old preconditions 0 (old .preconditions) ≡
+              refused (ruleUnknown preconditions (r .place) (r .name) (r .message) ms))) →
+              NamesVanished old new (r .names) ⊎ IsUnobservable old (rule (r .place))
           by (inl l) = inl (vanished-named (r .names) l)
           by (inr l) = inr (_, l .0, oldParts (some x) st ∙ refused-rules old x _ _ _ _ (l .1), atRule)
 
@@ -230,20 +272,31 @@ module _ (old new : Sheet Condition) (same : SameRules old new) where
               names = r .names;
               unobservable = atGuard;
               isNew = newSelect ∙ ap (λ (y : Result Placed). y >>= admitted-from (old .states) (old .outcomes) x) (r .isNew);
-              tried = guard-step (r .place) (guard-at (Erased old new) old new 0 (old .outcomes) (every-right (ruleReadings (old .preconditions)) (guardReadings (old .outcomes)) facts) (r .place) (r .name) (r .names) (r .isNew));
+              tried =
+                  guard-step (r .place)
+                  (guard-at (Erased old new) old new 0 (old .outcomes)
+                  (every-right (ruleReadings (old .preconditions)) (guardReadings (old .outcomes)) facts) (r .place) (r .name) (r .names)
+                  (r .isNew));
               counts = guard-counts old x st pass (r .place) (r .tried);
               named = by (r .named);
             }
           where
-            by : Lost (Erased old new) (r .names) ⊎ ((ms : Names) × (select old 0 (old .outcomes) ≡ refused (guardUnknown (r .place) (r .name) ms))) → NamesVanished old new (r .names) ⊎ IsUnobservable old (guard (r .place))
+            by : Lost (Erased old new) (r .names) ⊎
+                ((ms : Names) × (select old 0 (old .outcomes) ≡ refused (guardUnknown (r .place) (r .name) ms))) →
+                NamesVanished old new (r .names) ⊎ IsUnobservable old (guard (r .place))
             by (inl l) = inl (vanished-named (r .names) l)
             by (inr l) = inr (_, l .0, oldSelect ∙ ap (λ (y : Result Placed). y >>= admitted-from (old .states) (old .outcomes) x) (l .1), atGuard)
 
-        by-guards : (select new 0 (old .outcomes) ≡ select old 0 (old .outcomes)) ⊎ GuardRefused (Erased old new) (select old 0 (old .outcomes)) (select new 0 (old .outcomes)) → (decideCall new ≡ decideCall old) ⊎ RefusedAgain old new
+        by-guards : (select new 0 (old .outcomes) ≡ select old 0 (old .outcomes)) ⊎
+            GuardRefused (Erased old new) (select old 0 (old .outcomes)) (select new 0 (old .outcomes)) →
+            (decideCall new ≡ decideCall old) ⊎ RefusedAgain old new
         by-guards (inl e) = inl (newSelect ∙ ap (λ (y : Result Placed). y >>= admitted-from (old .states) (old .outcomes) x) e ∙ sym oldSelect)
         by-guards (inr r) = inr (at-guard r)
 
-      by-rules : RuleShape 0 (check old preconditions 0 (old .preconditions)) → (check new preconditions 0 (old .preconditions) ≡ check old preconditions 0 (old .preconditions)) ⊎ RuleRefused (Erased old new) (check old preconditions 0 (old .preconditions)) (check new preconditions 0 (old .preconditions)) → (decideCall new ≡ decideCall old) ⊎ RefusedAgain old new
+      by-rules : RuleShape 0 (check old preconditions 0 (old .preconditions)) →
+          (check new preconditions 0 (old .preconditions) ≡ check old preconditions 0 (old .preconditions)) ⊎
+          RuleRefused (Erased old new) (check old preconditions 0 (old .preconditions)) (check new preconditions 0 (old .preconditions)) →
+          (decideCall new ≡ decideCall old) ⊎ RefusedAgain old new
       by-rules (inl p) (inl e) = by-guards p (e ∙ p) (G .later)
       by-rules (inr t) (inl e) = inl (newParts (some x) st ∙ refused-rules new x _ _ _ (t .0) (e ∙ t .2) ∙ sym (oldParts (some x) st ∙ refused-rules old x _ _ _ (t .0) (t .2)))
       by-rules p (inr r) = inr (at-rule r)
@@ -283,7 +336,8 @@ decide-plain s work output {sheet} a = whole ∙ reply-plain output (decideCall 
     whole = rw (leb-true workWords work (a .enoughWork), enough) (rw (a .reads) refl)
 
 -- where nothing changed, every rule and guard answers as before
-alike-check : (old new : Sheet Condition) (i : ℕ) (rs : List (Rule Condition)) → Every (Alike kernel old new) (ruleReadings rs) → check new preconditions i rs ≡ check old preconditions i rs
+alike-check : (old new : Sheet Condition) (i : ℕ) (rs : List (Rule Condition)) → Every (Alike kernel old new) (ruleReadings rs) →
+    check new preconditions i rs ≡ check old preconditions i rs
 unfolding check ruleReadings
 alike-check old new i [] h = refl
 alike-check old new i (r ∷ rs) h =
@@ -309,7 +363,8 @@ unfolding Decide·guard
 alike-guard old new none h = refl
 alike-guard old new (some c) h = alike-evaluate kernel old new [] c h
 
-alike-select : (old new : Sheet Condition) (i : ℕ) (os : List (Outcome Condition)) → new .state ≡ old .state → Every (Alike kernel old new) (guardReadings os) → select new i os ≡ select old i os
+alike-select : (old new : Sheet Condition) (i : ℕ) (os : List (Outcome Condition)) → new .state ≡ old .state →
+    Every (Alike kernel old new) (guardReadings os) → select new i os ≡ select old i os
 unfolding select guardReadings
 alike-select old new i [] st h = refl
 alike-select old new i (o ∷ os) st h =
@@ -354,7 +409,11 @@ decision-alike old new same h =
 
 pub demand : Demand
 unfolding Demand plain-reply
-demand s s′ work work′ output output′ old new h = record { sameOrRefused = by (decision-later old new same (fact-of old new (h .comparable))); sameWhereUnchanged = λ u. same-reply (decision-alike old new same u) }
+demand s s′ work work′ output output′ old new h =
+    record {
+      sameOrRefused = by (decision-later old new same (fact-of old new (h .comparable)));
+      sameWhereUnchanged = λ u. same-reply (decision-alike old new same u);
+    }
   where
     same : SameRules old new
     same = h .comparable .sameRules
@@ -368,12 +427,16 @@ demand s s′ work work′ output output′ old new h = record { sameOrRefused =
     same-reply : decideCall new ≡ decideCall old → decide s′ work′ output′ ≡ decide s work output
     same-reply p = newReply ∙ ap plain-reply p ∙ sym oldReply
 
-    by : (decideCall new ≡ decideCall old) ⊎ RefusedAgain old new → (decide s′ work′ output′ ≡ decide s work output) ⊎ ((r : RefusedAgain old new) × (decide s′ work′ output′ ≡ refusalReply (r .refusal)))
+    by : (decideCall new ≡ decideCall old) ⊎ RefusedAgain old new →
+        (decide s′ work′ output′ ≡ decide s work output) ⊎
+        ((r : RefusedAgain old new) × (decide s′ work′ output′ ≡ refusalReply (r .refusal)))
     by (inl p) = inl (same-reply p)
     by (inr r) = inr (r, newReply ∙ ap plain-reply (r .isNew))
 
 -- the same of whatever is seen of two calls, where that is their replies
-pub demand-seen : (s s′ : Bytes) (work work′ output output′ : ℕ) {was now : Reply} → was ≡ decide s work output → now ≡ decide s′ work′ output′ → Repeats s s′ work work′ was now
+pub demand-seen :
+    (s s′ : Bytes) (work work′ output output′ : ℕ) {was now : Reply} → was ≡ decide s work output → now ≡ decide s′ work′ output′ →
+    Repeats s s′ work work′ was now
 unfolding Demand
 demand-seen s s′ work work′ output output′ {was} {now} p q =
     subst
@@ -409,11 +472,15 @@ clean-decided s c = by (s .state) refl
     guards : (x : Bytes) (e : s .state ≡ some x) (pass : check s preconditions 0 (s .preconditions) ≡ ok passed) → GuardShape 0 (select s 0 (s .outcomes)) → Decided (decideCall s)
     guards x e pass (chosen p f h) = admitting x p (decide-select s x e pass ∙ bind-ok _ f) (admit-shape (s .states) (s .outcomes) x p)
     guards x e pass (exhausted f) = subst Decided (sym (decide-refused s x e pass noOutcome f)) (bySettler noOutcome everything settler-noOutcome allTried)
-    guards x e pass (stopped j n ns f h) = subst Decided (sym (decide-refused s x e pass (guardUnknown j n ns) f)) (bySettler (guardUnknown j n ns) (atPlace (guard j)) (settler-guard j n ns) (aStep (guard j)))
+    guards x e pass (stopped j n ns f h) =
+        subst Decided (sym (decide-refused s x e pass (guardUnknown j n ns) f))
+        (bySettler (guardUnknown j n ns) (atPlace (guard j)) (settler-guard j n ns) (aStep (guard j)))
 
     ruled : (x : Bytes) (e : s .state ≡ some x) → RuleShape 0 (check s preconditions 0 (s .preconditions)) → Decided (decideCall s)
     ruled x e (inl p) = guards x e p (G s s same facts .shape)
-    ruled x e (inr t) = subst Decided (sym (oldParts s s same (some x) e ∙ refused-rules s s same s x _ _ _ (t .0) (t .2))) (bySettler (t .0) (atPlace (rule (t .1))) (t .3) (aStep (rule (t .1))))
+    ruled x e (inr t) =
+        subst Decided (sym (oldParts s s same (some x) e ∙ refused-rules s s same s x _ _ _ (t .0) (t .2)))
+        (bySettler (t .0) (atPlace (rule (t .1))) (t .3) (aStep (rule (t .1))))
 
     by : (st : Option Bytes) → s .state ≡ st → Decided (decideCall s)
     by none e = subst Decided (sym (oldParts s s same none e)) noState

@@ -19,7 +19,8 @@ use Rattle.members.specs.Outcome.{Outcome}
 use Rattle.members.specs.Sheet.{Sheet}
 
 -- one outcome that was passed over
-passed-over : (s : Sheet Condition) (i : ℕ) (o : Outcome Condition) (os : List (Outcome Condition)) (p : Placed) → (eligible (s .state) o ≡ false) ⊎ Answers s (o .when) False → FirstTrue s (i + 1) os p → FirstTrue s i (o ∷ os) p
+passed-over : (s : Sheet Condition) (i : ℕ) (o : Outcome Condition) (os : List (Outcome Condition)) (p : Placed) →
+    (eligible (s .state) o ≡ false) ⊎ Answers s (o .when) False → FirstTrue s (i + 1) os p → FirstTrue s i (o ∷ os) p
 passed-over s i o os p why f =
     record {
       before = o ∷ f .before;
@@ -35,7 +36,9 @@ passed-over s i o os p why f =
     by x (inl e) = rw e why
     by x (inr m) = f .areFalse x m
 
-select-stopped : (s : Sheet Condition) (i : ℕ) (o : Outcome Condition) (os : List (Outcome Condition)) (r : Refusal) → eligible (s .state) o ≡ true → guard s (o .when) ≡ refused r → select s i (o ∷ os) ≡ refused r
+select-stopped :
+    (s : Sheet Condition) (i : ℕ) (o : Outcome Condition) (os : List (Outcome Condition)) (r : Refusal) → eligible (s .state) o ≡ true →
+    guard s (o .when) ≡ refused r → select s i (o ∷ os) ≡ refused r
 unfolding select
 select-stopped s i o os r e g = rw (e, select, g) refl
 
@@ -49,12 +52,16 @@ selected-is-first s i (o ∷ os) p e = by (λ h. selected-is-first s (i + 1) os 
     here : eligible (s .state) o ≡ true → (a : Answer) → guard s (o .when) ≡ ok a → a .truth ≡ True → FirstTrue s i (o ∷ os) (record { place = i; outcome = o })
     here b a g t = record { before = []; behind = os; parts = refl; place = omega arith; isEligible = b; isTrue = (a, g, t); areFalse = λ x m. elim m [ ] }
 
-    truly : (select s (i + 1) os ≡ ok p → FirstTrue s (i + 1) os p) → eligible (s .state) o ≡ true → (a : Answer) → guard s (o .when) ≡ ok a → (t : Truth) → a .truth ≡ t → FirstTrue s i (o ∷ os) p
+    truly :
+        (select s (i + 1) os ≡ ok p → FirstTrue s (i + 1) os p) → eligible (s .state) o ≡ true → (a : Answer) → guard s (o .when) ≡ ok a →
+        (t : Truth) → a .truth ≡ t → FirstTrue s i (o ∷ os) p
     truly below b a g True t = subst (λ (x : Placed). FirstTrue s i (o ∷ os) x) (ok-injective (sym (select-true s i o os a b g t) ∙ e)) (here b a g t)
     truly below b a g False t = passed-over s i o os p (inr (a, g, t)) (below (sym (select-false s i o os a b g t) ∙ e))
     truly below b a g Unknown t = never (select s i (o ∷ os)) p _ e (select-unknown s i o os a b g t)
 
-    guarded : (select s (i + 1) os ≡ ok p → FirstTrue s (i + 1) os p) → eligible (s .state) o ≡ true → (x : Result Answer) → guard s (o .when) ≡ x → FirstTrue s i (o ∷ os) p
+    guarded :
+        (select s (i + 1) os ≡ ok p → FirstTrue s (i + 1) os p) → eligible (s .state) o ≡ true → (x : Result Answer) → guard s (o .when) ≡ x →
+        FirstTrue s i (o ∷ os) p
     guarded below b (ok a) g = truly below b a g (a .truth) refl
     guarded below b (refused r) g = never (select s i (o ∷ os)) p r e (select-stopped s i o os r b g)
 
@@ -63,9 +70,14 @@ selected-is-first s i (o ∷ os) p e = by (λ h. selected-is-first s (i + 1) os 
     by below true q = guarded below q (guard s (o .when)) refl
 
 -- Conversely, that one is selected.
-first-of : (s : Sheet Condition) (i : ℕ) (before behind : List (Outcome Condition)) (o : Outcome Condition) → eligible (s .state) o ≡ true → Answers s (o .when) True → ((x : Outcome Condition) → List·Memᴰ x before → (eligible (s .state) x ≡ false) ⊎ Answers s (x .when) False) → select s i (before ++ (o ∷ behind)) ≡ ok (record { place = i + length before; outcome = o })
+first-of : (s : Sheet Condition) (i : ℕ) (before behind : List (Outcome Condition)) (o : Outcome Condition) → eligible (s .state) o ≡ true →
+    Answers s (o .when) True → ((x : Outcome Condition) → List·Memᴰ x before → (eligible (s .state) x ≡ false) ⊎ Answers s (x .when) False) →
+    select s i (before ++ (o ∷ behind)) ≡ ok (record { place = i + length before; outcome = o })
 first-of s i [] behind o e a h = select-true s i o behind (a .0) e (a .1) (a .2) ∙ ap (λ (k : ℕ). ok (record { place = k; outcome = o })) (omega arith)
-first-of s i (x ∷ before) behind o e a h = by (h x (List·Memᴰ·head refl)) ∙ first-of s (i + 1) before behind o e a (λ y m. h y (List·Memᴰ·tail m)) ∙ ap (λ (k : ℕ). ok (record { place = k; outcome = o })) (omega arith)
+first-of s i (x ∷ before) behind o e a h =
+    by (h x (List·Memᴰ·head refl)) ∙
+    first-of s (i + 1) before behind o e a (λ y m. h y (List·Memᴰ·tail m)) ∙
+    ap (λ (k : ℕ). ok (record { place = k; outcome = o })) (omega arith)
   where
     by : (eligible (s .state) x ≡ false) ⊎ Answers s (x .when) False → select s i (x ∷ (before ++ (o ∷ behind))) ≡ select s (i + 1) (before ++ (o ∷ behind))
     by (inl n) = select-skip s i x (before ++ (o ∷ behind)) n
@@ -76,4 +88,8 @@ first-of s i (x ∷ before) behind o e a h = by (h x (List·Memᴰ·head refl)) 
         over true q = select-false s i x (before ++ (o ∷ behind)) (f .0) q (f .1) (f .2)
 
 pub first-is-selected : (s : Sheet Condition) (i : ℕ) (os : List (Outcome Condition)) (p : Placed) → FirstTrue s i os p → select s i os ≡ ok p
-first-is-selected s i os p f = let q = f .parts in let r = f .place in let e = first-of s i (f .before) (f .behind) (p .outcome) (f .isEligible) (f .isTrue) (f .areFalse) in ap (select s i) q ∙ e ∙ ap (λ (k : ℕ). ok (record { place = k; outcome = p .outcome })) (sym r)
+first-is-selected s i os p f =
+    let q = f .parts in let r = f .place in let e = first-of s i (f .before) (f .behind) (p .outcome) (f .isEligible) (f .isTrue)
+    (f .areFalse) in ap (select s i) q ∙
+    e ∙
+    ap (λ (k : ℕ). ok (record { place = k; outcome = p .outcome })) (sym r)

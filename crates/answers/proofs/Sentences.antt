@@ -26,11 +26,16 @@ silent = none
 
 -- a sheet with these arguments and further members
 abbrev pub sheet : String → String → Bytes
-sheet args more = ascii "{\"entity\":\"e\",\"version\":1,\"args\":" ++ ascii args ++ ascii ",\"fields\":{},\"old_fields\":{},\"from_state\":\"f\",\"to_state\":\"t\",\"states\":[\"a\",\"b\"]," ++ ascii more ++ ascii "}"
+sheet args more =
+    ascii "{\"entity\":\"e\",\"version\":1,\"args\":" ++ ascii args ++
+    ascii ",\"fields\":{},\"old_fields\":{},\"from_state\":\"f\",\"to_state\":\"t\",\"states\":[\"a\",\"b\"]," ++ ascii more ++ ascii "}"
 
 -- one with a condition alone
 abbrev pub condition : String → String → Bytes
-condition args c = ascii "{\"condition\":" ++ ascii c ++ ascii ",\"preconditions\":[],\"invariants\":[],\"outcomes\":[],\"entity\":\"e\",\"version\":1,\"args\":" ++ ascii args ++ ascii ",\"fields\":{},\"old_fields\":{},\"from_state\":\"f\",\"to_state\":\"t\",\"states\":[]}"
+condition args c =
+    ascii "{\"condition\":" ++ ascii c ++
+    ascii ",\"preconditions\":[],\"invariants\":[],\"outcomes\":[],\"entity\":\"e\",\"version\":1,\"args\":" ++ ascii args ++
+    ascii ",\"fields\":{},\"old_fields\":{},\"from_state\":\"f\",\"to_state\":\"t\",\"states\":[]}"
 
 abbrev pub rows : List Row
 rows =
@@ -45,7 +50,10 @@ rows =
     row evaluate (condition "{}" "{\"ends_with\":[\"abc\",\"bc\"]}") 0 (says "(truth true (names))") ∷
     row evaluate (condition "{}" "{\"contains\":[\"abc\",\"bc\"]}") 0 (says "(truth true (names))") ∷
     row evaluate (condition "{}" "{\"in\":[{\"a\":1,\"b\":[2]},[{\"b\":[2.0],\"a\":1e0}]]}") 0 (says "(truth true (names))") ∷
-    row evaluate (condition "{\"m\":{\"b\":0,\"a\":1}}" "{\"for_any\":{\"in\":\"$args.m\",\"as\":\"x\",\"that\":{\"any\":[{\"eq\":[\"$x\",1]},{\"eq\":[\"$foo\",1]}]}}}") 13 (says "(refused 13 \"$foo\")") ∷
+    row evaluate
+    (condition "{\"m\":{\"b\":0,\"a\":1}}"
+    "{\"for_any\":{\"in\":\"$args.m\",\"as\":\"x\",\"that\":{\"any\":[{\"eq\":[\"$x\",1]},{\"eq\":[\"$foo\",1]}]}}}") 13
+    (says "(refused 13 \"$foo\")") ∷
     -- Operand and binder
     row evaluate (condition "{}" "{\"eq\":[[\"$state\",\"$to_state\"],[\"t\",\"t\"]]}") 0 (says "(truth true (names))") ∷
     row evaluate (condition "{\"\":1}" "{\"eq\":[\"$args.\",1]}") 0 (says "(truth unknown (names \"$args.\"))") ∷
@@ -56,18 +64,42 @@ rows =
     -- Names: each once, ascending, for any truth
     row evaluate (condition "{}" "{\"any\":[true,{\"eq\":[\"$args.b\",\"$args.a\"]},{\"eq\":[\"$args.b\",1]}]}") 0 (says "(truth true (names \"$args.a\" \"$args.b\"))") ∷
     -- Rules, their names and messages
-    row checkPreconditions (sheet "{}" "\"preconditions\":[{\"assert\":true},{\"assert\":false}],\"invariants\":[],\"outcomes\":[]") 15 (says "(refused 15 1 () \"condition evaluated to false\")") ∷
-    row checkPreconditions (sheet "{}" "\"preconditions\":[{\"assert\":{\"eq\":[\"$args.v\",1]},\"name\":\"\\u001f\\\"\"}],\"invariants\":[],\"outcomes\":[]") 16 (says "(refused 16 0 \"\\u001f\\\"\" \"condition could not be evaluated\" (names \"$args.v\"))") ∷
-    row checkPreconditions (sheet "{}" "\"preconditions\":[{\"assert\":{\"any\":[true,{\"eq\":[\"$args.a\",1]}]}},{\"assert\":{\"eq\":[\"$args.b\",1]}}],\"invariants\":[],\"outcomes\":[]") 16 (says "(refused 16 1 () \"condition could not be evaluated\" (names \"$args.b\"))") ∷
+    row checkPreconditions (sheet "{}" "\"preconditions\":[{\"assert\":true},{\"assert\":false}],\"invariants\":[],\"outcomes\":[]") 15
+    (says "(refused 15 1 () \"condition evaluated to false\")") ∷
+    row checkPreconditions
+    (sheet "{}" "\"preconditions\":[{\"assert\":{\"eq\":[\"$args.v\",1]},\"name\":\"\\u001f\\\"\"}],\"invariants\":[],\"outcomes\":[]")
+    16 (says "(refused 16 0 \"\\u001f\\\"\" \"condition could not be evaluated\" (names \"$args.v\"))") ∷
+    row checkPreconditions
+    (sheet "{}"
+    "\"preconditions\":[{\"assert\":{\"any\":[true,{\"eq\":[\"$args.a\",1]}]}},{\"assert\":{\"eq\":[\"$args.b\",1]}}],\"invariants\":[],\"outcomes\":[]")
+    16 (says "(refused 16 1 () \"condition could not be evaluated\" (names \"$args.b\"))") ∷
     row checkInvariants (sheet "{}" "\"preconditions\":[{\"assert\":false}],\"invariants\":[{\"assert\":false,\"message\":\"m\"}],\"outcomes\":[]") 17 (says "(refused 17 0 () \"m\")") ∷
-    row checkInvariants (sheet "{}" "\"preconditions\":[],\"invariants\":[{\"assert\":{\"not\":{\"eq\":[\"$fields.f\",1]}},\"name\":\"n\"}],\"outcomes\":[]") 18 (says "(refused 18 0 \"n\" \"condition could not be evaluated\" (names \"$fields.f\"))") ∷
+    row checkInvariants
+    (sheet "{}"
+    "\"preconditions\":[],\"invariants\":[{\"assert\":{\"not\":{\"eq\":[\"$fields.f\",1]}},\"name\":\"n\"}],\"outcomes\":[]") 18
+    (says "(refused 18 0 \"n\" \"condition could not be evaluated\" (names \"$fields.f\"))") ∷
     -- Outcomes and admission
-    row select (sheet "{}" "\"preconditions\":[],\"invariants\":[],\"outcomes\":[{\"name\":\"w\",\"wrong_state\":true},{\"name\":\"o\",\"in_state\":\"x\"}]") 0 (says "(selected 1 \"o\")") ∷
-    row select (sheet "{}" "\"preconditions\":[],\"invariants\":[],\"outcomes\":[{\"name\":\"o\",\"when\":false},{\"name\":\"p\",\"when\":{\"gt\":[\"$args.v\",1]}},{\"name\":\"q\"}]") 20 (says "(refused 20 1 \"p\" (names \"$args.v\"))") ∷
+    row select
+    (sheet "{}"
+    "\"preconditions\":[],\"invariants\":[],\"outcomes\":[{\"name\":\"w\",\"wrong_state\":true},{\"name\":\"o\",\"in_state\":\"x\"}]") 0
+    (says "(selected 1 \"o\")") ∷
+    row select
+    (sheet "{}"
+    "\"preconditions\":[],\"invariants\":[],\"outcomes\":[{\"name\":\"o\",\"when\":false},{\"name\":\"p\",\"when\":{\"gt\":[\"$args.v\",1]}},{\"name\":\"q\"}]")
+    20 (says "(refused 20 1 \"p\" (names \"$args.v\"))") ∷
     row select (sheet "{}" "\"state\":\"a\",\"preconditions\":[],\"invariants\":[],\"outcomes\":[{\"name\":\"o\",\"in_state\":\"x\"}]") 19 (says "(refused 19)") ∷
-    row decide (sheet "{}" "\"state\":\"z\",\"preconditions\":[],\"invariants\":[],\"outcomes\":[{\"name\":\"o\",\"effect\":{\"moves\":{\"to\":\"b\",\"from\":[\"a\",\"a\"]}}}]") 22 (says "(refused 22 0 \"o\" \"z\" (from \"a\" \"a\"))") ∷
-    row decide (sheet "{}" "\"state\":\"b\",\"preconditions\":[],\"invariants\":[],\"outcomes\":[{\"name\":\"o\",\"effect\":{\"moves\":{\"to\":\"b\",\"from\":\"a\"}}}]") 21 (says "(refused 21 \"b\")") ∷
-    row decide (sheet "{}" "\"state\":\"b\",\"preconditions\":[],\"invariants\":[],\"outcomes\":[{\"name\":\"o\",\"effect\":{\"moves\":{\"to\":\"b\",\"from\":\"a\"}}},{\"name\":\"w\",\"wrong_state\":true}]") 0 (says "(admitted 1 \"w\")") ∷
+    row decide
+    (sheet "{}"
+    "\"state\":\"z\",\"preconditions\":[],\"invariants\":[],\"outcomes\":[{\"name\":\"o\",\"effect\":{\"moves\":{\"to\":\"b\",\"from\":[\"a\",\"a\"]}}}]")
+    22 (says "(refused 22 0 \"o\" \"z\" (from \"a\" \"a\"))") ∷
+    row decide
+    (sheet "{}"
+    "\"state\":\"b\",\"preconditions\":[],\"invariants\":[],\"outcomes\":[{\"name\":\"o\",\"effect\":{\"moves\":{\"to\":\"b\",\"from\":\"a\"}}}]")
+    21 (says "(refused 21 \"b\")") ∷
+    row decide
+    (sheet "{}"
+    "\"state\":\"b\",\"preconditions\":[],\"invariants\":[],\"outcomes\":[{\"name\":\"o\",\"effect\":{\"moves\":{\"to\":\"b\",\"from\":\"a\"}}},{\"name\":\"w\",\"wrong_state\":true}]")
+    0 (says "(admitted 1 \"w\")") ∷
     row decide (sheet "{}" "\"preconditions\":[{\"assert\":false}],\"invariants\":[],\"outcomes\":[]") 12 silent ∷
     row (admit 1) (sheet "{}" "\"state\":\"a\",\"preconditions\":[],\"invariants\":[],\"outcomes\":[{\"name\":\"o\"}]") 12 silent ∷
     []

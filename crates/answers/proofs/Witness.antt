@@ -118,7 +118,10 @@ voltages =
       rulesText = "[]";
       rules = [];
       outcomesText = "[{\"name\":\"scrap\",\"when\":{\"for_any\":{\"in\":\"$args.v\",\"as\":\"c\",\"that\":{\"lt\":[\"$c\",2.5]}}}},{\"name\":\"rebuild\"}]";
-      outcomes = outcome "scrap" (some (quantified Mode.any (text (ascii "$args.v")) (ascii "c") (pair Form.lt (text (ascii "$c")) (number (ascii "2.5"))))) stays ∷ outcome "rebuild" none stays ∷ [];
+      outcomes =
+          outcome "scrap"
+          (some (quantified Mode.any (text (ascii "$args.v")) (ascii "c") (pair Form.lt (text (ascii "$c")) (number (ascii "2.5"))))) stays
+          ∷ outcome "rebuild" none stays ∷ [];
       oldText = "{\"v\":[3.61,3.58]}";
       oldArgs = member (ascii "v") (array (cons (number (ascii "3.61")) (cons (number (ascii "3.58")) nil))) empty;
       newText = "{}";
@@ -250,7 +253,8 @@ noSource =
     record {
       rulesText = "[]";
       rules = [];
-      outcomesText = "[{\"name\":\"n\",\"when\":{\"eq\":[\"$args.v\",1]},\"effect\":{\"moves\":{\"to\":\"a\",\"from\":\"b\"}}},{\"name\":\"m\",\"effect\":{\"moves\":{\"to\":\"a\",\"from\":\"in\"}}}]";
+      outcomesText =
+          "[{\"name\":\"n\",\"when\":{\"eq\":[\"$args.v\",1]},\"effect\":{\"moves\":{\"to\":\"a\",\"from\":\"b\"}}},{\"name\":\"m\",\"effect\":{\"moves\":{\"to\":\"a\",\"from\":\"in\"}}}]";
       outcomes = outcome "n" (some vIsOne) (moves (ascii "a") (ascii "b" ∷ [])) ∷ outcome "m" none (moves (ascii "a") (ascii "in" ∷ [])) ∷ [];
       oldText = "{\"v\":1}";
       oldArgs = member (ascii "v") (number (ascii "1")) empty;
@@ -324,5 +328,5 @@ pairs-met =
     done)))))))
 
 -- the first pair is the paper's
-pub first-is-paper's : (oldBytes voltages ≡ ascii sheet) × (newBytes voltages ≡ ascii erased)
+pub first-is-paper's : (oldBytes voltages ≡ sheet) × (newBytes voltages ≡ erased)
 first-is-paper's = (refl, refl)

@@ -9,7 +9,33 @@ use Rattle.answers.specs.Verdict.{Verdict, admitted, answered, passed, s
 use Rattle.semantics.specs.Names.{Names}
 use Rattle.semantics.specs.Truth.{False, True, Truth, Unknown}
 use Rattle.json.specs.Bytes.{Bytes, ascii, choose}
-use Rattle.json.specs.Refusal.{Refusal, Rules, guardUnknown, invariants, lineTooLong, noId, noInput, noOutcome, notASource, notCarried, notJson, notUtf8, numberTooLong, preconditions, repeatedName, ruleFalse, ruleUnknown, tooDeep, tooLong, tooManyNodes, unknownExpression, workTooSmall, wrongShape, wrongSheet, wrongState}
+use Rattle.json.specs.Refusal.{
+  Refusal,
+  Rules,
+  guardUnknown,
+  invariants,
+  lineTooLong,
+  noId,
+  noInput,
+  noOutcome,
+  notASource,
+  notCarried,
+  notJson,
+  notUtf8,
+  numberTooLong,
+  preconditions,
+  repeatedName,
+  ruleFalse,
+  ruleUnknown,
+  tooDeep,
+  tooLong,
+  tooManyNodes,
+  unknownExpression,
+  workTooSmall,
+  wrongShape,
+  wrongSheet,
+  wrongState,
+}
 
 -- the numbers of a rule that is False, and of one that is Unknown
 abbrev pub falseNumber : Rules → ℕ

@@ -13,7 +13,22 @@ use Rattle.semantics.specs.Names.{Names}
 use Rattle.semantics.specs.Truth.{False, True, Truth, Unknown}
 use Rattle.json.specs.Bytes.{Bytes, ascii, choose, natural, sameBytes}
 use Rattle.json.specs.Refusal.{Refusal, Result, Rules, guardUnknown, invariants, lineTooLong, noId, noInput, noOutcome, notASource, notCarried, notJson, notUtf8, numberTooLong}
-use Rattle.json.specs.Refusal.{ok, preconditions, refused, repeatedName, ruleFalse, ruleUnknown, tooDeep, tooLong, tooManyNodes, unknownExpression, workTooSmall, wrongShape, wrongSheet, wrongState}
+use Rattle.json.specs.Refusal.{
+  ok,
+  preconditions,
+  refused,
+  repeatedName,
+  ruleFalse,
+  ruleUnknown,
+  tooDeep,
+  tooLong,
+  tooManyNodes,
+  unknownExpression,
+  workTooSmall,
+  wrongShape,
+  wrongSheet,
+  wrongState,
+}
 
 -- an opening bracket, a word or number, a text without quotes and escapes
 pub data Token : Type 0 where
@@ -150,7 +165,8 @@ readLine s = said (tokens s)
 pub data Printed : Result Verdict → Result Verdict → Type 0 where
   asItIs : {a : Result Verdict} → Printed a a
   ofFalse : {k : Rules} {i : ℕ} {n : Option Bytes} → Printed (refused (ruleFalse k i n none)) (refused (ruleFalse k i n (some (ascii "condition evaluated to false"))))
-  ofUnknown : {k : Rules} {i : ℕ} {n : Option Bytes} {ns : Names} → Printed (refused (ruleUnknown k i n none ns)) (refused (ruleUnknown k i n (some (ascii "condition could not be evaluated")) ns))
+  ofUnknown : {k : Rules} {i : ℕ} {n : Option Bytes} {ns : Names} →
+      Printed (refused (ruleUnknown k i n none ns)) (refused (ruleUnknown k i n (some (ascii "condition could not be evaluated")) ns))
 
 -- the answer or refusal, as printed, is read back from a line
 pub record Recovered (a : Result Verdict) (line : Bytes) : Type 0 where

@@ -58,7 +58,9 @@ module _ (s : Bytes) (w : List ℕ) (m : Members) (sheet : Sheet Condition) (a :
   module _ (place : ℕ) (c : Chosen) (g : PlacedAt s w (at 0 place (sheet .outcomes)) c) where
     pub told-unplaced : c ≡ chosen.Nothing → Told s w (admitCall sheet place) answers.NoInput
     unfolding PlacedAt
-    told-unplaced q = subst (λ (y : Result Verdict). Told s w y answers.NoInput) (sym (by-parts sheet place none (sheet .state) (subst (PlacedAt s w (at 0 place (sheet .outcomes))) q g) refl)) (told-no-input s w)
+    told-unplaced q =
+        subst (λ (y : Result Verdict). Told s w y answers.NoInput)
+        (sym (by-parts sheet place none (sheet .state) (subst (PlacedAt s w (at 0 place (sheet .outcomes))) q g) refl)) (told-no-input s w)
 
     module _ (p : Spot) (q : c ≡ chosen.At p) where
       its : (o : Outcome Condition) × (at 0 place (sheet .outcomes) ≡ some (record { place = p .place; outcome = o })) × Gives (anOutcome condition) s w (p .node) o
@@ -66,7 +68,11 @@ module _ (s : Bytes) (w : List ℕ) (m : Members) (sheet : Sheet Condition) (a :
       its = subst (PlacedAt s w (at 0 place (sheet .outcomes))) q g
 
       pub told-stateless : m .state ≡ founds.Nothing → Told s w (admitCall sheet place) answers.NoInput
-      told-stateless f = subst (λ (y : Result Verdict). Told s w y answers.NoInput) (sym (by-parts sheet place (some (record { place = p .place; outcome = its .0 })) none (its .1) (missing aText s w f (a .state)))) (told-no-input s w)
+      told-stateless f =
+          subst (λ (y : Result Verdict). Told s w y answers.NoInput)
+          (sym
+          (by-parts sheet place (some (record { place = p .place; outcome = its .0 })) none (its .1) (missing aText s w f (a .state))))
+          (told-no-input s w)
 
       module _ (n : ℕ) (f : m .state ≡ founds.At n) where
         state-here : (t : Bytes) × (sheet .state ≡ some t) × Gives aText s w n t
@@ -76,11 +82,25 @@ module _ (s : Bytes) (w : List ℕ) (m : Members) (sheet : Sheet Condition) (a :
         state-room = room (state-here .2 .node)
 
         module _ (x : ℕ) (e : x ≡ startAt w n) where
-          pub admits : Known (Gives (anArrayOf aText) s w (m .states)) × Known (Gives (anArrayOf (anOutcome condition)) s w (m .outcomes)) × OnText s x 0 × Known (Gives (anOutcome condition) s w (p .node))
-          admits = (record { given = sheet .states; known = a .states }, record { given = sheet .outcomes; known = a .outcomes }, subst (λ (z : ℕ). OnText s z 0) (sym e) (text-given (state-here .2) .onText), record { given = its .0; known = its .2 })
+          pub admits : Known (Gives (anArrayOf aText) s w (m .states)) ×
+              Known (Gives (anArrayOf (anOutcome condition)) s w (m .outcomes)) × OnText s x 0 ×
+              Known (Gives (anOutcome condition) s w (p .node))
+          admits = (
+            record { given = sheet .states; known = a .states },
+            record { given = sheet .outcomes; known = a .outcomes },
+            subst
+                (λ (z : ℕ). OnText s z 0) (sym e) (text-given (state-here .2) .onText),
+            record { given = its .0; known = its .2 },
+          )
 
           state-is : sheet .state ≡ some (textAt s x)
           state-is = state-here .1 ∙ ap {B = Option Bytes} (λ (z : Bytes). some z) (text-given (state-here .2) .bytes ∙ ap (textAt s) (sym e))
 
-          pub told-admission : {r : Answer} → ((ts : List Bytes) (os : List (Outcome Condition)) (o : Outcome Condition) → Gives (anArrayOf aText) s w (m .states) ts → Gives (anArrayOf (anOutcome condition)) s w (m .outcomes) os → Gives (anOutcome condition) s w (p .node) o → Told s w (admission (admit ts os (textAt s x) (record { place = p .place; outcome = o }))) r) → Told s w (admitCall sheet place) r
-          told-admission {r} h = subst (λ (y : Result Verdict). Told s w y r) (sym (by-parts sheet place (some (record { place = p .place; outcome = its .0 })) (some (textAt s x)) (its .1) state-is)) (h (sheet .states) (sheet .outcomes) (its .0) (a .states) (a .outcomes) (its .2))
+          pub told-admission : {r : Answer} →
+              ((ts : List Bytes) (os : List (Outcome Condition)) (o : Outcome Condition) → Gives (anArrayOf aText) s w (m .states) ts →
+              Gives (anArrayOf (anOutcome condition)) s w (m .outcomes) os → Gives (anOutcome condition) s w (p .node) o → Told s w
+              (admission (admit ts os (textAt s x) (record { place = p .place; outcome = o }))) r) → Told s w (admitCall sheet place) r
+          told-admission {r} h =
+              subst (λ (y : Result Verdict). Told s w y r)
+              (sym (by-parts sheet place (some (record { place = p .place; outcome = its .0 })) (some (textAt s x)) (its .1) state-is))
+              (h (sheet .states) (sheet .outcomes) (its .0) (a .states) (a .outcomes) (its .2))

@@ -76,27 +76,37 @@ module _ {s : Bytes} {w w′ : List ℕ} (sheet : Sheet Condition) {r : Selected
     pub selected-node : Known (Gives (anOutcome condition) s w′ (p .node))
     selected-node = record { given = its .0; known = its .2 }
 
-    chosen-on : (f : Placed → Result Verdict) (a : Answer) → Told s w′ (f (record { place = p .place; outcome = its .0 })) a → Answered s w w′ (select sheet 0 (sheet .outcomes) >>= f) a
+    chosen-on : (f : Placed → Result Verdict) (a : Answer) → Told s w′ (f (record { place = p .place; outcome = its .0 })) a →
+        Answered s w w′ (select sheet 0 (sheet .outcomes) >>= f) a
     chosen-on f a t = answered-over (h .only) (subst (λ (y : Result Verdict). Told s w′ y a) (sym (bind-ok f (its .1))) t)
 
-    pub select-chosen : {e : Entry} → ((o : Outcome Condition) → Gives (anOutcome condition) s w′ (p .node) o → Entered s (p .place) (o .name) e) → Answered s w w′ (selectCall sheet) (answers.Selected e)
+    pub select-chosen :
+        {e : Entry} → ((o : Outcome Condition) → Gives (anOutcome condition) s w′ (p .node) o → Entered s (p .place) (o .name) e) →
+        Answered s w w′ (selectCall sheet) (answers.Selected e)
     unfolding selectCall
     select-chosen {e} g = chosen-on (λ (x : Placed). ok (asSelected x)) (answers.Selected e) (told-selected s w′ (p .place) (its .0) (g (its .0) (its .2)))
 
     module _ {m : Members} (a : Accepted s w m sheet) where
-      pub admits-selected : {x : ℕ} → OnText s x 0 → Known (Gives (anArrayOf aText) s w′ (m .states)) × Known (Gives (anArrayOf (anOutcome condition)) s w′ (m .outcomes)) × OnText s x 0 × Known (Gives (anOutcome condition) s w′ (p .node))
+      pub admits-selected : {x : ℕ} → OnText s x 0 →
+          Known (Gives (anArrayOf aText) s w′ (m .states)) × Known (Gives (anArrayOf (anOutcome condition)) s w′ (m .outcomes)) ×
+          OnText s x 0 × Known (Gives (anOutcome condition) s w′ (p .node))
       admits-selected t =
           let b = accepted-rows (h .only .rows) a in
           (record { given = sheet .states; known = b .states }, record { given = sheet .outcomes; known = b .outcomes }, t, selected-node)
 
-      pub admission-of : (x : ℕ) {v : Answer} → ((ts : List Bytes) (os : List (Outcome Condition)) (o : Outcome Condition) → Gives (anArrayOf aText) s w′ (m .states) ts → Gives (anArrayOf (anOutcome condition)) s w′ (m .outcomes) os → Gives (anOutcome condition) s w′ (p .node) o → Told s w′ (admission (admit ts os (textAt s x) (record { place = p .place; outcome = o }))) v) → Answered s w w′ (admitSelected sheet (textAt s x)) v
+      pub admission-of : (x : ℕ) {v : Answer} →
+          ((ts : List Bytes) (os : List (Outcome Condition)) (o : Outcome Condition) → Gives (anArrayOf aText) s w′ (m .states) ts → Gives
+          (anArrayOf (anOutcome condition)) s w′ (m .outcomes) os → Gives (anOutcome condition) s w′ (p .node) o → Told s w′
+          (admission (admit ts os (textAt s x) (record { place = p .place; outcome = o }))) v) →
+          Answered s w w′ (admitSelected sheet (textAt s x)) v
       unfolding admitSelected
       admission-of x {v} g =
           let b = accepted-rows (h .only .rows) a in
           chosen-on (λ (y : Placed). admission (admit (sheet .states) (sheet .outcomes) (textAt s x) y)) v (g (sheet .states) (sheet .outcomes) (its .0) (b .states) (b .outcomes) (its .2))
 
 -- ---- the preconditions
-module _ (sheet : Sheet Condition) (kind : Rules) (i : ℕ) (r : Rule Condition) (rs : List (Rule Condition)) (v : Verdict) (below : check sheet kind (i + 1) rs ≡ ok v → v ≡ passed) where
+module _ (sheet : Sheet Condition) (kind : Rules) (i : ℕ) (r : Rule Condition) (rs : List (Rule Condition)) (v : Verdict)
+    (below : check sheet kind (i + 1) rs ≡ ok v → v ≡ passed) where
   passed-after : (t : Truth) (ns : Names) → behind sheet kind i r rs (record { truth = t; names = ns }) ≡ ok v → v ≡ passed
   passed-after True ns e = below e
   passed-after False ns e = never (ruleFalse kind i (r .name) (r .message)) v e
@@ -144,18 +154,26 @@ by-state sheet t q = ap {B = Result Verdict} (inState sheet) q
 
 module _ (s : Bytes) (w : List ℕ) (m : Members) (sheet : Sheet Condition) (a : Accepted s w m sheet) where
   pub decides-stateless : m .state ≡ founds.Nothing → Answered s w w (decideCall sheet) answers.NoInput
-  decides-stateless f = answered-over (marks-none w) (subst (λ (y : Result Verdict). Told s w y answers.NoInput) (sym (by-state sheet none (missing aText s w f (a .state)))) (told-no-input s w))
+  decides-stateless f =
+      answered-over (marks-none w)
+      (subst (λ (y : Result Verdict). Told s w y answers.NoInput) (sym (by-state sheet none (missing aText s w f (a .state))))
+      (told-no-input s w))
 
-  module _ (n : ℕ) (f : m .state ≡ founds.At n) {x : ℕ} (e : x ≡ startAt w n) {w₁ : List ℕ} {v : Answer} (h : Answered s w w₁ (check sheet preconditions 0 (sheet .preconditions)) v) where
+  module _ (n : ℕ) (f : m .state ≡ founds.At n) {x : ℕ} (e : x ≡ startAt w n) {w₁ : List ℕ} {v : Answer}
+      (h : Answered s w w₁ (check sheet preconditions 0 (sheet .preconditions)) v) where
     by-check : decideCall sheet ≡ (check sheet preconditions 0 (sheet .preconditions) >>= (λ _. admitSelected sheet (textAt s x)))
     by-check = by-state sheet (some (textAt s x)) (state-text s w n f (a .state) e)
 
-    pub decides-on : v ≡ answers.Passed → {w′ : List ℕ} {r : Answer} → ((sheet′ : Sheet Condition) → Accepted s w₁ m sheet′ → Answered s w₁ w′ (admitSelected sheet′ (textAt s x)) r) → Answered s w w′ (decideCall sheet) r
+    pub decides-on : v ≡ answers.Passed → {w′ : List ℕ} {r : Answer} →
+        ((sheet′ : Sheet Condition) → Accepted s w₁ m sheet′ → Answered s w₁ w′ (admitSelected sheet′ (textAt s x)) r) →
+        Answered s w w′ (decideCall sheet) r
     unfolding meaning
     decides-on q {w′} {r} g =
         let passes : check sheet preconditions 0 (sheet .preconditions) ≡ ok passed = sym (h .told .means) ∙ ap (meaning s w₁) q in
         let b = g sheet (accepted-rows (h .rows) a) in
-        answered-over (marks-then (only-marks h) (only-marks b)) (subst (λ (y : Result Verdict). Told s w′ y r) (sym (by-check ∙ bind-ok (λ _. admitSelected sheet (textAt s x)) passes)) (b .told))
+        answered-over (marks-then (only-marks h) (only-marks b))
+        (subst (λ (y : Result Verdict). Told s w′ y r) (sym (by-check ∙ bind-ok (λ _. admitSelected sheet (textAt s x)) passes))
+        (b .told))
 
     pub decides-refused : OneOf notPassed (tagOf AnswerT.the-type v) → Answered s w w₁ (decideCall sheet) v
     decides-refused o = answered-over (only-marks h) (go (check sheet preconditions 0 (sheet .preconditions)) refl)

@@ -38,13 +38,22 @@ use Rattle.rules.proofs.Unmarking.{marks-none}
 abbrev pub ofCondition : Answer → Result Verdict
 ofCondition x = ok (answered (x .truth) (ascending (x .names)))
 
-by-condition : (sheet : Sheet Condition) (c : Option Condition) → sheet .condition ≡ c → evaluateCall sheet ≡ (orElse c noInput >>= (λ x. evaluate kernel sheet [] x >>= ofCondition))
+by-condition : (sheet : Sheet Condition) (c : Option Condition) → sheet .condition ≡ c →
+    evaluateCall sheet ≡ (orElse c noInput >>= (λ x. evaluate kernel sheet [] x >>= ofCondition))
 unfolding evaluateCall
 by-condition sheet c q = ap {B = Result Verdict} (λ (y : Option Condition). orElse y noInput >>= (λ x. evaluate kernel sheet [] x >>= ofCondition)) q
 
-pub told-truth : {s : Bytes} {w w′ : List ℕ} {r : Outcome} {m : Result Answer} (a : Alone s w w′ r m) (t : Truth) → r ≡ outcomes.Judged t → {y : Reply} → y ≡ answerOf t → Told s w′ (m >>= ofCondition) y
+pub told-truth :
+    {s : Bytes} {w w′ : List ℕ} {r : Outcome} {m : Result Answer} (a : Alone s w w′ r m) (t : Truth) → r ≡ outcomes.Judged t → {y : Reply} →
+    y ≡ answerOf t → Told s w′ (m >>= ofCondition) y
 unfolding meaning Held
-told-truth {s} {w} {w′} {m = m} a t q e = subst (Told s w′ (m >>= ofCondition)) (sym e) (record { means = meant t (a .names) (own-names a t q .1) ∙ sym (ap {B = Result Verdict} (λ (y : Result Answer). y >>= ofCondition) (judged a t q)); held = holds t (own-names a t q .0) })
+told-truth {s} {w} {w′} {m = m} a t q e =
+    subst (Told s w′ (m >>= ofCondition)) (sym e)
+    (record {
+      means = meant t (a .names) (own-names a t q .1) ∙
+          sym (ap {B = Result Verdict} (λ (y : Result Answer). y >>= ofCondition) (judged a t q));
+      held = holds t (own-names a t q .0);
+    })
   where
     meant : (x : Truth) (ns : Names) → namesIn s w′ ≡ ascending ns → meaning s w′ (answerOf x) ≡ ofCondition (record { truth = truthOf x; names = ns })
     meant truths.True ns i = ap {B = Result Verdict} (λ (y : Names). ok (answered True y)) i
@@ -58,7 +67,10 @@ told-truth {s} {w} {w′} {m = m} a t q e = subst (Told s w′ (m >>= ofConditio
 
 module _ {s : Bytes} {w : List ℕ} {m : Members} {sheet : Sheet Condition} (a : Accepted s w m sheet) where
   pub answered-no-condition : m .condition ≡ founds.Nothing → Answered s w w (evaluateCall sheet) answers.NoInput
-  answered-no-condition q = answered-over (marks-none w) (subst (λ (y : Result Verdict). Told s w y answers.NoInput) (sym (by-condition sheet none (missing condition s w q (a .itsCondition)))) (told-no-input s w))
+  answered-no-condition q =
+      answered-over (marks-none w)
+      (subst (λ (y : Result Verdict). Told s w y answers.NoInput)
+      (sym (by-condition sheet none (missing condition s w q (a .itsCondition)))) (told-no-input s w))
 
   module _ (n : ℕ) (q : m .condition ≡ founds.At n) where
     pub its-condition : (c : Condition) × (sheet .condition ≡ some c) × Gives condition s w n c
@@ -67,7 +79,9 @@ module _ {s : Bytes} {w : List ℕ} {m : Members} {sheet : Sheet Condition} (a :
     pub condition-known : Known (Gives condition s w n)
     condition-known = record { given = its-condition .0; known = its-condition .2 }
 
-    module _ {w′ : List ℕ} {r : Outcome} (h : (sheet : Sheet Condition) (c : Condition) → Accepted s w m sheet → Gives condition s w n c → Alone s w w′ r (evaluate kernel sheet [] c)) where
+    module _ {w′ : List ℕ} {r : Outcome}
+        (h : (sheet : Sheet Condition) (c : Condition) → Accepted s w m sheet → Gives condition s w n c → Alone s w w′ r
+        (evaluate kernel sheet [] c)) where
       pub its-truth : Alone s w w′ r (evaluate kernel sheet [] (its-condition .0))
       its-truth = h sheet (its-condition .0) a (its-condition .2)
 

@@ -78,7 +78,13 @@ module _ (s : Bytes) (w₁ : List ℕ) {w : List ℕ} {t : code·Truth} {x : Res
   unfolding TriedAs byGuard meaning Held
   guard-stops q h =
       let names = own-names a truths.Unknown (ap outcomes.Judged q) in
-      stops-as (by-truth truths.Unknown q) (λ f. record { means = entered-as (λ (i : ℕ) (n : Bytes). refused (guardUnknown i n (namesIn s w₁))) h ∙ ap {B = Result Verdict} (λ (ns : Names). refused (guardUnknown place name ns)) (names .1); held = (h .onText, names .0) })
+      stops-as (by-truth truths.Unknown q)
+      (λ f.
+      record {
+        means = entered-as (λ (i : ℕ) (n : Bytes). refused (guardUnknown i n (namesIn s w₁))) h ∙
+            ap {B = Result Verdict} (λ (ns : Names). refused (guardUnknown place name ns)) (names .1);
+        held = (h .onText, names .0);
+      })
 
 -- ---- a guard that may be missing
 module _ (s : Bytes) (w : List ℕ) {f : Found} where
@@ -90,7 +96,8 @@ module _ (s : Bytes) (w : List ℕ) {f : Found} where
     unfolding TriedAs byGuard guard
     no-guard q = record { is = ap (λ (d : Option Condition). byGuard place (o .name) (guard sheet d)) (missing condition s w q g); only = marks-none w }
 
-    module _ (n : ℕ) (q : f ≡ founds.At n) {w′ : List ℕ} {r : Judgement} (answer : (d : Condition) → Gives condition s w n d → Alone s w w′ r (evaluate kernel sheet [] d)) where
+    module _ (n : ℕ) (q : f ≡ founds.At n) {w′ : List ℕ} {r : Judgement}
+        (answer : (d : Condition) → Gives condition s w n d → Alone s w w′ r (evaluate kernel sheet [] d)) where
       its-answer : Alone s w w′ r (guard sheet c)
       unfolding guard
       its-answer =
@@ -104,10 +111,13 @@ module _ (s : Bytes) (w : List ℕ) {f : Found} where
       unfolding TriedAs byGuard
       stops-guard h = stops-through (guard sheet c) _ h
 
-      pub by-judged : {k : ℕ} → Gives (anOutcome condition) s w k o → (t : code·Truth) → r ≡ outcomes.Judged t → {v : Tried} → ((o′ : Outcome Condition) (w₁ : List ℕ) (x : Result Answer) → Gives (anOutcome condition) s w′ k o′ → Alone s w₁ w′ (outcomes.Judged t) x → TriedAs s w′ (byGuard place (o′ .name) x) v) → Tries s w w′ (byGuard place (o .name) (guard sheet c)) v
+      pub by-judged : {k : ℕ} → Gives (anOutcome condition) s w k o → (t : code·Truth) → r ≡ outcomes.Judged t → {v : Tried} →
+          ((o′ : Outcome Condition) (w₁ : List ℕ) (x : Result Answer) → Gives (anOutcome condition) s w′ k o′ → Alone s w₁ w′
+          (outcomes.Judged t) x → TriedAs s w′ (byGuard place (o′ .name) x) v) → Tries s w w′ (byGuard place (o .name) (guard sheet c)) v
       by-judged h t i {v} by = guarded v (by o w (guard sheet c) (gives-rows (its-answer .only .rows) h) (subst (λ (j : Judgement). Alone s w w′ j (guard sheet c)) i its-answer))
 
-      pub stops-expression : (e : ℕ) → r ≡ outcomes.Unknown e → {p : ℕ} → p ≡ startAt (table w′) e → Tries s w w′ (byGuard place (o .name) (guard sheet c)) (tried.Refused (answers.UnknownExpression p))
+      pub stops-expression : (e : ℕ) → r ≡ outcomes.Unknown e → {p : ℕ} → p ≡ startAt (table w′) e →
+          Tries s w w′ (byGuard place (o .name) (guard sheet c)) (tried.Refused (answers.UnknownExpression p))
       stops-expression e i {p} j = guarded (tried.Refused (answers.UnknownExpression p)) (stops-guard (told-unknown its-answer e i j))
 
       pub stops-no-id : r ≡ outcomes.NoId → Tries s w w′ (byGuard place (o .name) (guard sheet c)) (tried.Refused answers.NoId)
@@ -136,7 +146,13 @@ module _ (sheet : Sheet Condition) (i : ℕ) (o : Outcome Condition) where
               select sheet (i + 1) os
           | true ↦
               x
-              >>= (λ (a : Answer). elim (a .truth) [ True ↦ ok (record { place = i; outcome = o }) | False ↦ select sheet (i + 1) os | Unknown ↦ refused (guardUnknown i (o .name) (ascending (a .names))) ])
+              >>=
+              (λ (a : Answer). elim (a .truth) [
+                | True ↦ ok (record { place = i; outcome = o })
+                | False ↦ select sheet (i + 1) os
+                | Unknown ↦ refused
+                    (guardUnknown i (o .name) (ascending (a .names)))
+              ])
         ]
 
     abbrev taking : Bool → Result Answer → Result Bool
@@ -166,7 +182,9 @@ module _ (s : Bytes) (w : List ℕ) (sheet : Sheet Condition) (place : ℕ) (o :
   by-its-guard q {w′} {v} h = subst (λ (x : Result Bool). Tries s w w′ x v) (sym (taken-by sheet place o (sym q ∙ e))) h
 
 -- ---- the outcomes in turn
-walking-rows : {A B : Type 0} {kind : Value → Result A} {s : Bytes} {w w′ : List ℕ} {from e : ℕ} {whole here : List A → B} {k : ℕ} → table w′ ≡ table w → Walking kind s w from e whole here k → Walking kind s w′ from e whole here k
+walking-rows :
+    {A B : Type 0} {kind : Value → Result A} {s : Bytes} {w w′ : List ℕ} {from e : ℕ} {whole here : List A → B} {k : ℕ} → table w′ ≡ table w →
+    Walking kind s w from e whole here k → Walking kind s w′ from e whole here k
 walking-rows q l = record { rest = l .rest; gives = each-gives-rows q (l .gives); same = λ xs g. l .same xs (each-gives-rows (sym q) g) }
 
 -- the outcomes before the node k are passed over
@@ -182,11 +200,20 @@ pub record Trying (s : Bytes) (m : Members) (w₀ : List ℕ) (e : ℕ) (w : Lis
 pub trying : {s : Bytes} {w : List ℕ} {m : Members} {e : ℕ} → 16384 ≤ length w → Known (Accepted s w m) → e ≡ afterAt w (m .outcomes) → Trying s m w e w 0 (m .outcomes + 1)
 trying {w = w} long g q =
     let every = behind-array (anOutcome condition) (g .known .outcomes) q in
-    record { sheet = g .given; accepted = g .known; every = every; only = marks-none w; enough = long; low = omega arith; walking = starts (select (g .given) 0) (record { given = g .given .outcomes; known = every }) }
+    record {
+      sheet = g .given;
+      accepted = g .known;
+      every = every;
+      only = marks-none w;
+      enough = long;
+      low = omega arith;
+      walking = starts (select (g .given) 0) (record { given = g .given .outcomes; known = every });
+    }
 
 module _ {s : Bytes} {m : Members} {w₀ : List ℕ} {e : ℕ} {w : List ℕ} {i k : ℕ} (l : Trying s m w₀ e w i k) where
   -- what holds of the sheet in hand holds of every sheet accepted at the start
-  of-every : {w′ : List ℕ} {r : Selected} → Selects s w₀ w′ (select (l .sheet) 0 (l .sheet .outcomes)) r → (sheet : Sheet Condition) → Accepted s w₀ m sheet → Selects s w₀ w′ (select sheet 0 (sheet .outcomes)) r
+  of-every : {w′ : List ℕ} {r : Selected} → Selects s w₀ w′ (select (l .sheet) 0 (l .sheet .outcomes)) r → (sheet : Sheet Condition) →
+      Accepted s w₀ m sheet → Selects s w₀ w′ (select sheet 0 (sheet .outcomes)) r
   of-every {w′} {r} h sheet a = subst (λ (x : Sheet Condition). Selects s w₀ w′ (select x 0 (x .outcomes)) r) (one-sheet (l .accepted) a) h
 
   pub none-left : e ≤ k → (sheet : Sheet Condition) → Accepted s w₀ m sheet → Selects s w₀ w (select sheet 0 (sheet .outcomes)) (selected.Refused answers.NoOutcome)
@@ -197,7 +224,9 @@ module _ {s : Bytes} {m : Members} {w₀ : List ℕ} {e : ℕ} {w : List ℕ} {i
     pub outcome-known : (16384 ≤ length w) × Known (Accepted s w m) × Known (Gives (anOutcome condition) s w k)
     outcome-known = (l .enough, record { given = l .sheet; known = l .accepted }, record { given = next (l .walking) h .first; known = next (l .walking) h .here })
 
-    module _ {w′ : List ℕ} {r : Tried} (tries : (sheet : Sheet Condition) (o : Outcome Condition) → Accepted s w m sheet → Gives (anOutcome condition) s w k o → Tries s w w′ (taken sheet i o) r) where
+    module _ {w′ : List ℕ} {r : Tried}
+        (tries : (sheet : Sheet Condition) (o : Outcome Condition) → Accepted s w m sheet → Gives (anOutcome condition) s w k o → Tries s
+        w w′ (taken sheet i o) r) where
       now-only : OnlyMarks w w′
       now-only = tries (l .sheet) (next (l .walking) h .first) (l .accepted) (next (l .walking) h .here) .only
 
@@ -213,13 +242,32 @@ module _ {s : Bytes} {m : Members} {w₀ : List ℕ} {e : ℕ} {w : List ℕ} {i
       chooses : select (l .sheet) 0 (l .sheet .outcomes) ≡ (taken (l .sheet) i first >>= onward (l .sheet) i first (next on h .others))
       chooses = sym (settled on h _ (sym (select-by (l .sheet) i first (next on h .others))) (l .sheet .outcomes) (each-gives-rows (now-only .rows) (l .every)))
 
-      pub takes : r ≡ tried.Taken → (sheet : Sheet Condition) → Accepted s w₀ m sheet → Selects s w₀ w′ (select sheet 0 (sheet .outcomes)) (selected.At (record { place = i; node = k }))
+      pub takes : r ≡ tried.Taken → (sheet : Sheet Condition) → Accepted s w₀ m sheet →
+          Selects s w₀ w′ (select sheet 0 (sheet .outcomes)) (selected.At (record { place = i; node = k }))
       unfolding TriedAs SelectedAs
-      takes q = of-every (record { is = (first, chooses ∙ bind-ok (onward (l .sheet) i first (next on h .others)) (subst (TriedAs s w′ (taken (l .sheet) i first)) q said), next on h .here); only = marks-then (l .only) now-only })
+      takes q =
+          of-every
+          (record {
+            is = (
+              first,
+              chooses ∙
+                  bind-ok (onward (l .sheet) i first (next on h .others)) (subst (TriedAs s w′ (taken (l .sheet) i first)) q said),
+              next on h .here,
+            );
+            only = marks-then (l .only) now-only;
+          })
 
-      pub refuses : (a : code.Answer) → r ≡ tried.Refused a → (sheet : Sheet Condition) → Accepted s w₀ m sheet → Selects s w₀ w′ (select sheet 0 (sheet .outcomes)) (selected.Refused a)
+      pub refuses : (a : code.Answer) → r ≡ tried.Refused a → (sheet : Sheet Condition) → Accepted s w₀ m sheet →
+          Selects s w₀ w′ (select sheet 0 (sheet .outcomes)) (selected.Refused a)
       unfolding TriedAs SelectedAs
-      refuses a q = of-every (record { is = stops-as chooses (stops-through (taken (l .sheet) i first) (onward (l .sheet) i first (next on h .others)) (subst (TriedAs s w′ (taken (l .sheet) i first)) q said)); only = marks-then (l .only) now-only })
+      refuses a q =
+          of-every
+          (record {
+            is = stops-as chooses
+                (stops-through (taken (l .sheet) i first) (onward (l .sheet) i first (next on h .others))
+                (subst (TriedAs s w′ (taken (l .sheet) i first)) q said));
+            only = marks-then (l .only) now-only;
+          })
 
       pub tries-on : r ≡ tried.Passed → (k′ : ℕ) → k′ ≡ afterAt w′ k → Trying s m w₀ e w′ (i + 1) k′
       unfolding TriedAs

@@ -42,14 +42,19 @@ unfolding depthOf seconds
 turns-of n noField h = done
 turns-of n (oneField {v = v} {ms = ms} r k) h = turn r (omega arith) (turns-of n k (omega arith))
 
-each-agrees : {R : Operand → Value → Type 0} (n : ℕ) (m : Mode) (f : Operand → Result Answer) (g : Value → Result Answer) → ((o : Operand) (v : Value) → R o v → depth v ≤ n → f o ≡ g v) → {xs : List Operand} {vs : List Value} → Turns R n xs vs → inTurn m f xs ≡ each m g vs
+each-agrees : {R : Operand → Value → Type 0} (n : ℕ) (m : Mode) (f : Operand → Result Answer) (g : Value → Result Answer) →
+    ((o : Operand) (v : Value) → R o v → depth v ≤ n → f o ≡ g v) → {xs : List Operand} {vs : List Value} → Turns R n xs vs →
+    inTurn m f xs ≡ each m g vs
 unfolding inTurn each
 each-agrees n m f g h done = refl
 each-agrees n m f g h (turn {o = o} {v = v} {xs = xs} {vs = vs} r l k) =
     ap (λ (x : Result Answer). x >>= λ a. elim (settles m (a .truth)) as (λ _. Result Answer) [ true ↦ ok a | false ↦ (inTurn m f xs >>= λ b. ok (joined m a b)) ]) (h o v r l) ∙
     ap (λ (y : Result Answer). g v >>= λ a. elim (settles m (a .truth)) as (λ _. Result Answer) [ true ↦ ok a | false ↦ (y >>= λ b. ok (joined m a b)) ]) (each-agrees n m f g h k)
 
-collected-agrees : {R : Operand → Value → Type 0} (n : ℕ) (m : Mode) (f : Operand → Result Answer) (g : Value → Result Answer) → ((o : Operand) (v : Value) → R o v → depth v ≤ n → f o ≡ g v) → {s : Shape Operand} {v : Value} → Fits R s v → depth v ≤ n → _≡_ {A = Result Answer} (elim (collected s) [ none ↦ ok (unknown []) | some xs ↦ inTurn m f xs ]) (elim (collection v) [ none ↦ ok (unknown []) | some vs ↦ each m g vs ])
+collected-agrees : {R : Operand → Value → Type 0} (n : ℕ) (m : Mode) (f : Operand → Result Answer) (g : Value → Result Answer) →
+    ((o : Operand) (v : Value) → R o v → depth v ≤ n → f o ≡ g v) → {s : Shape Operand} {v : Value} → Fits R s v → depth v ≤ n → _≡_
+    {A = Result Answer} (elim (collected s) [ none ↦ ok (unknown []) | some xs ↦ inTurn m f xs ])
+    (elim (collection v) [ none ↦ ok (unknown []) | some vs ↦ each m g vs ])
 unfolding depth
 collected-agrees n m f g h isNothing l = refl
 collected-agrees n m f g h isTruth l = refl
@@ -59,12 +64,18 @@ collected-agrees n m f g h (isItems k) l = each-agrees n m f g h (turns-in n k (
 collected-agrees n m f g h (isFields k) l = each-agrees n m f g h (turns-of n k (omega arith))
 
 module _ {C : Type 0} (sheet : Sheet C) (low : LowSheet sheet) where
-  exists-agrees : {R : Operand → Value → Type 0} {x : Result (Resolved Operand)} {y : Result (Resolved Value)} → Agree R x y → (x >>= λ r. ok (certain (isPresent r))) ≡ (y >>= λ r. ok (certain (isPresent r)))
+  exists-agrees : {R : Operand → Value → Type 0} {x : Result (Resolved Operand)} {y : Result (Resolved Value)} → Agree R x y →
+      (x >>= λ r. ok (certain (isPresent r))) ≡ (y >>= λ r. ok (certain (isPresent r)))
   exists-agrees refusing = refl
   exists-agrees lacking = refl
   exists-agrees (standing k) = refl
 
-  pair-agrees : {fs : Frames} {env : Env} (f : Form) {x p : Result (Resolved Operand)} {y q : Result (Resolved Value)} → Standing sheet fs env → ((v : Value) → y ≡ ok (present v) → depth v < nesting (length fs)) → ((w : Value) → q ≡ ok (present w) → depth w < nesting (length fs)) → Agree (Stands sheet env (length env)) x y → Agree (Stands sheet env (length env)) p q → (x >>= λ r. p >>= λ t. ok (comparedOf sheet fs f r t)) ≡ (y >>= λ r. q >>= λ t. ok (compared kernel f r t))
+  pair-agrees :
+      {fs : Frames} {env : Env} (f : Form) {x p : Result (Resolved Operand)} {y q : Result (Resolved Value)} → Standing sheet fs env →
+      ((v : Value) → y ≡ ok (present v) → depth v < nesting (length fs)) →
+      ((w : Value) → q ≡ ok (present w) → depth w < nesting (length fs)) → Agree (Stands sheet env (length env)) x y →
+      Agree (Stands sheet env (length env)) p q →
+      (x >>= λ r. p >>= λ t. ok (comparedOf sheet fs f r t)) ≡ (y >>= λ r. q >>= λ t. ok (compared kernel f r t))
   unfolding comparedOf
   pair-agrees f s h l refusing k = refl
   pair-agrees f s h l lacking refusing = refl
@@ -74,13 +85,18 @@ module _ {C : Type 0} (sheet : Sheet C) (low : LowSheet sheet) where
   pair-agrees f s h l (standing j) lacking = refl
   pair-agrees f s h l (standing {a = o} {b = v} j) (standing {a = p} {b = w} k) = ap (λ (b : Bool). ok (certain b)) (holds-agrees sheet f o p v w s j k (h v refl) (l w refl))
 
-  over-agrees : {fs : Frames} {env : Env} (n : ℕ) (m : Mode) (f : Operand → Result Answer) (g : Value → Result Answer) {x : Result (Resolved Operand)} {y : Result (Resolved Value)} → Standing sheet fs env → ((v : Value) → y ≡ ok (present v) → depth v ≤ n) → ((o : Operand) (v : Value) → Stands sheet env (length env) o v → depth v ≤ n → f o ≡ g v) → Agree (Stands sheet env (length env)) x y → (x >>= λ r. overOf sheet fs m f r) ≡ (y >>= λ r. over m g r)
+  over-agrees :
+      {fs : Frames} {env : Env} (n : ℕ) (m : Mode) (f : Operand → Result Answer) (g : Value → Result Answer) {x : Result (Resolved Operand)}
+      {y : Result (Resolved Value)} → Standing sheet fs env → ((v : Value) → y ≡ ok (present v) → depth v ≤ n) →
+      ((o : Operand) (v : Value) → Stands sheet env (length env) o v → depth v ≤ n → f o ≡ g v) → Agree (Stands sheet env (length env)) x y →
+      (x >>= λ r. overOf sheet fs m f r) ≡ (y >>= λ r. over m g r)
   unfolding overOf
   over-agrees n m f g s l h refusing = refl
   over-agrees n m f g s l h lacking = refl
   over-agrees n m f g s l h (standing {b = v} k) = collected-agrees n m f g h (shape-fits sheet s (omega arith) k) (l v refl)
 
-  written-low : {fs : Frames} {env : Env} (v : Value) → Standing sheet fs env → LowEnv env → depth v ≤ 64 → (w : Value) → resolve kernel sheet env v ≡ ok (present w) → depth w < nesting (length fs)
+  written-low : {fs : Frames} {env : Env} (v : Value) → Standing sheet fs env → LowEnv env → depth v ≤ 64 → (w : Value) →
+      resolve kernel sheet env v ≡ ok (present w) → depth w < nesting (length fs)
   written-low {fs} {env} v s l h w e = let a = standing-length sheet s in let b = resolve-low sheet low env v l e in omega arith
 
   mutual
@@ -98,7 +114,8 @@ module _ {C : Type 0} (sheet : Sheet C) (low : LowSheet sheet) where
         (λ o w k d. judge-evaluates c (frame k s) (d, l) (h .1))
         (operand-agrees sheet v s)
 
-    pub judgeAll-evaluates : (cs : Conditions) (m : Mode) {fs : Frames} {env : Env} → Standing sheet fs env → LowEnv env → LowAll cs → judgeAll sheet fs m cs ≡ evaluateAll kernel sheet env m cs
+    pub judgeAll-evaluates : (cs : Conditions) (m : Mode) {fs : Frames} {env : Env} → Standing sheet fs env → LowEnv env → LowAll cs →
+        judgeAll sheet fs m cs ≡ evaluateAll kernel sheet env m cs
     judgeAll-evaluates noMore m s l h = refl
     judgeAll-evaluates (also c cs) m s l h = rw (judge-evaluates c s l (h .0), judgeAll-evaluates cs m s l (h .1)) refl
 

@@ -38,7 +38,14 @@ module _ {quiet : Bool} {s : Bytes} {w w′ : List ℕ} {r : code.Resolved} {m :
 
   -- a refusal comes before all that follows
   pub unknown-first : {M : Result Answer} (n : ℕ) → r ≡ answers.Unknown n → ((f : Refusal) → m ≡ refused f → M ≡ refused f) → EvaluatedAs s w w′ (outcomes.Unknown n) M
-  unknown-first n e k = record { names = []; met = a .met; means = sym (k _ (sym (a .means) ∙ ap (resolvedOf s (table w) (a .names)) e)); left = a .left; marks = subst (Heard quiet s (table w) (a .names) (a .met)) e (a .hears) }
+  unknown-first n e k =
+      record {
+        names = [];
+        met = a .met;
+        means = sym (k _ (sym (a .means) ∙ ap (resolvedOf s (table w) (a .names)) e));
+        left = a .left;
+        marks = subst (Heard quiet s (table w) (a .names) (a .met)) e (a .hears);
+      }
 
   pub no-id-first : {M : Result Answer} → r ≡ answers.NoId → ((f : Refusal) → m ≡ refused f → M ≡ refused f) → EvaluatedAs s w w′ outcomes.NoId M
   no-id-first e k = record { names = []; met = a .met; means = sym (k _ (sym (a .means) ∙ ap (resolvedOf s (table w) (a .names)) e)); left = a .left; marks = tt }
@@ -86,14 +93,22 @@ module _ (sheet : Sheet Condition) (fs : lazy.Frames) (f : Form) (u v : Value) w
       second-unknown : (n : ℕ) → q ≡ answers.Unknown n → EvaluatedAs s w₀ w′ (outcomes.Unknown n) (judge sheet fs (pair f u v))
       second-unknown n z =
           let k = unknown-first b n z (then-refused x e) in
-          record { names = []; met = a .met ++ b .met; means = ap (λ (t : List ℕ). outcomeOf s t [] (outcomes.Unknown n)) (sym (a .left .rows)) ∙ k .means; left = left-then (a .left) (b .left); marks = subst (λ (t : List ℕ). HasKind s t n 4) (a .left .rows) (k .marks) }
+          record {
+            names = [];
+            met = a .met ++ b .met;
+            means = ap (λ (t : List ℕ). outcomeOf s t [] (outcomes.Unknown n)) (sym (a .left .rows)) ∙ k .means;
+            left = left-then (a .left) (b .left);
+            marks = subst (λ (t : List ℕ). HasKind s t n 4) (a .left .rows) (k .marks);
+          }
 
       second-no-id : q ≡ answers.NoId → EvaluatedAs s w₀ w′ outcomes.NoId (judge sheet fs (pair f u v))
       second-no-id z =
           let k = no-id-first b z (then-refused x e) in
           record { names = []; met = a .met ++ b .met; means = k .means; left = left-then (a .left) (b .left); marks = tt }
 
-    judged-as : (x : Outcome) (ns : Names) → outcomeOf s (table w₀) ns x ≡ judge sheet fs (pair f u v) → Marks s (table w₀) ns (a .met ++ b .met) x → EvaluatedAs s w₀ w′ x (judge sheet fs (pair f u v))
+    judged-as :
+        (x : Outcome) (ns : Names) → outcomeOf s (table w₀) ns x ≡ judge sheet fs (pair f u v) → Marks s (table w₀) ns (a .met ++ b .met) x →
+        EvaluatedAs s w₀ w′ x (judge sheet fs (pair f u v))
     judged-as x ns e m = record { names = ns; met = a .met ++ b .met; means = e; left = left-then (a .left) (b .left); marks = m }
 
     module _ (o : Operand) (e : r ≡ answers.Present o) where
@@ -110,14 +125,19 @@ module _ (sheet : Sheet Condition) (fs : lazy.Frames) (f : Form) (u v : Value) w
           let m = is-missing b z in
           judged-as (outcomes.Judged truths.Unknown) (b .names) (sym (then-is _ _ (p .0) (m .0))) (ap (λ (l : Names). l ++ b .met) (p .2) ∙ m .1)
 
-      pub both-present : (o′ : Operand) → q ≡ answers.Present o′ → {x : Outcome} → outcomeOf s (table w₀) [] x ≡ ok (certain (holdsOf sheet fs f (operandOf s (table w₀) o) (operandOf s (table w₀) o′))) → EvaluatedAs s w₀ w′ x (judge sheet fs (pair f u v))
+      pub both-present : (o′ : Operand) → q ≡ answers.Present o′ → {x : Outcome} →
+          outcomeOf s (table w₀) [] x ≡ ok (certain (holdsOf sheet fs f (operandOf s (table w₀) o) (operandOf s (table w₀) o′))) →
+          EvaluatedAs s w₀ w′ x (judge sheet fs (pair f u v))
       unfolding comparedOf
       both-present o′ z {x} h =
           let p = is-present a o e in
           let m = is-present b o′ z in
           go x h (sym (then-is _ _ (p .0) (m .0 ∙ ap (λ (t : List ℕ). ok (present (operandOf s t o′))) (a .left .rows)))) (ap (λ (l : Names). l ++ b .met) (p .2) ∙ m .2)
         where
-          go : (y : Outcome) → outcomeOf s (table w₀) [] y ≡ ok (certain (holdsOf sheet fs f (operandOf s (table w₀) o) (operandOf s (table w₀) o′))) → ok (certain (holdsOf sheet fs f (operandOf s (table w₀) o) (operandOf s (table w₀) o′))) ≡ judge sheet fs (pair f u v) → a .met ++ b .met ≡ [] → EvaluatedAs s w₀ w′ y (judge sheet fs (pair f u v))
+          go : (y : Outcome) →
+              outcomeOf s (table w₀) [] y ≡ ok (certain (holdsOf sheet fs f (operandOf s (table w₀) o) (operandOf s (table w₀) o′))) →
+              ok (certain (holdsOf sheet fs f (operandOf s (table w₀) o) (operandOf s (table w₀) o′))) ≡ judge sheet fs (pair f u v) →
+              a .met ++ b .met ≡ [] → EvaluatedAs s w₀ w′ y (judge sheet fs (pair f u v))
           go (outcomes.Judged y) k j n = judged-as (outcomes.Judged y) [] (k ∙ j) n
           go (outcomes.Unknown y) k j n = absurd (impossible (cc))
           go outcomes.NoId k j n = absurd (impossible (cc))
@@ -141,4 +161,5 @@ module _ (sheet : Sheet Condition) (fs : lazy.Frames) (f : Form) (u v : Value) w
       both-missing z =
           let p = is-missing a e in
           let m = is-missing b z in
-          judged-as (outcomes.Judged truths.Unknown) (a .names ++ b .names) (sym (then-is _ _ (p .0) (m .0))) (ap (λ (l : Names). l ++ b .met) (p .1) ∙ ap (λ (l : Names). a .names ++ l) (m .1))
+          judged-as (outcomes.Judged truths.Unknown) (a .names ++ b .names) (sym (then-is _ _ (p .0) (m .0)))
+          (ap (λ (l : Names). l ++ b .met) (p .1) ∙ ap (λ (l : Names). a .names ++ l) (m .1))

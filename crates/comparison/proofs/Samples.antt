@@ -31,7 +31,9 @@ sheetOne = record {
 }
 
 abbrev deep : Condition
-deep = quantified Mode.any (array (cons (object (member (ascii "k") (text (ascii "$args")) empty)) nil)) (ascii "c") (quantified Mode.any (text (ascii "$c.k.v")) (ascii "d") (pair eq (text (ascii "$d")) (number (50 ∷ []))))
+deep =
+    quantified Mode.any (array (cons (object (member (ascii "k") (text (ascii "$args")) empty)) nil)) (ascii "c")
+    (quantified Mode.any (text (ascii "$c.k.v")) (ascii "d") (pair eq (text (ascii "$d")) (number (50 ∷ []))))
 
 walked-on : judge sheetOne [] deep ≡ ok (record { truth = True; names = [] })
 unfolding judge

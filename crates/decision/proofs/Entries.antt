@@ -69,12 +69,22 @@ call-of-opened : (x : Call) (s : Bytes) (words size : ℕ) → callOf x s words 
 call-of-opened x s words size = of-verdict x s words size ∙ call-opened (verdictOf x) s words size
 
 module _ {s : Bytes} {w w₁ : List ℕ} {r : Opened} (t : Opening s w w₁ r) (size : length w₁ ≡ length w) where
-  pub called-refused : (x : Call) {w′ : List ℕ} → w′ ≡ workAfter w₁ → (n : ℕ) → r ≡ opened.Refused n → (o : Bytes) → Called (callOf x s (length w) (length o)) w w′ o o (record { number = n; size = 0 })
+  pub called-refused : (x : Call) {w′ : List ℕ} → w′ ≡ workAfter w₁ → (n : ℕ) → r ≡ opened.Refused n → (o : Bytes) →
+      Called (callOf x s (length w) (length o)) w w′ o o (record { number = n; size = 0 })
   unfolding OpenedAs
   called-refused x z n q o =
       let h : Stopped (opening (length w) s) n = subst (OpenedAs (length w) s w₁) q (t .is) in
-      let e : callOf x s (length w) (length o) ≡ record { number = refusalNumber (h .why); line = none } = call-of-opened x s (length w) (length o) ∙ ap {B = Reply} (λ (y : Result (Sheet Condition)). reply (length o) (y >>= verdictOf x)) (h .is) ∙ unlined (length o) (h .why) (h .noLine) in
-      record { isNumber = h .isNumber ∙ ap (λ (y : Reply). y .number) (sym e); isSize = ap lineSize (sym e); short = omega arith; output = ap (λ (y : Reply). outputAfter y o) (sym e); work = z ∙ same-left w w₁ size (t .small) (t .past) }
+      let e : callOf x s (length w) (length o) ≡
+      record { number = refusalNumber (h .why); line = none } = call-of-opened x s (length w) (length o) ∙
+      ap {B = Reply} (λ (y : Result (Sheet Condition)). reply (length o) (y >>= verdictOf x)) (h .is) ∙
+      unlined (length o) (h .why) (h .noLine) in
+      record {
+        isNumber = h .isNumber ∙ ap (λ (y : Reply). y .number) (sym e);
+        isSize = ap lineSize (sym e);
+        short = omega arith;
+        output = ap (λ (y : Reply). outputAfter y o) (sym e);
+        work = z ∙ same-left w w₁ size (t .small) (t .past);
+      }
 
   module _ (m : Members) (q : r ≡ opened.Sheet m) where
     ready : Ready (length w) s w₁ m
@@ -95,13 +105,22 @@ module _ {s : Bytes} {w w₁ : List ℕ} {r : Opened} (t : Opening s w w₁ r) (
       -- the rows stay, and with them where they end
       pub still-bounded : (16384 ≤ length w₂) × Bounded w₂
       still-bounded =
-          let e : afterAt w₂ 0 ≡ afterAt w₁ 0 = same-row-word w₁ w₂ (its .rows) 2 (omega arith) in
-          (omega (arith, its .long, size, ready .long), record { few = omega (arith, e, ready .bounded .few); behind = λ i p q. same-row-word w₁ w₂ (its .rows) i q ∙ ready .bounded .behind i (omega (arith, e, p)) q })
+          let e : afterAt w₂ 0 ≡ afterAt w₁ 0 = same-row-word w₁ w₂ (its .rows) 2 (omega arith) in (
+            omega (arith, its .long, size, ready .long),
+            record {
+              few = omega (arith, e, ready .bounded .few);
+              behind = λ i p q. same-row-word w₁ w₂ (its .rows) i q ∙ ready .bounded .behind i (omega (arith, e, p)) q;
+            },
+          )
 
-      pub called-sheet : {o o′ : Bytes} {n : Sent} → Emitted s w₂ a o o′ n → {w′ : List ℕ} → w′ ≡ workAfter w₂ → Called (callOf x s (length w) (length o)) w w′ o o′ n
+      pub called-sheet : {o o′ : Bytes} {n : Sent} → Emitted s w₂ a o o′ n → {w′ : List ℕ} → w′ ≡ workAfter w₂ →
+          Called (callOf x s (length w) (length o)) w w′ o o′ n
       called-sheet {o} {o′} {n} g z =
           let i : opening (length w) s ≡ ok (ready .sheet) = sheet-opened (length w) s (ready .long) ∙ ready .accepted .reads in
-          let e : reply (length o) (meaning s w₂ a) ≡ callOf x s (length w) (length o) = ap (reply (length o)) (its .told .means) ∙ sym (call-of-opened x s (length w) (length o) ∙ ap {B = Reply} (λ (y : Result (Sheet Condition)). reply (length o) (y >>= verdictOf x)) i) in
+          let e : reply (length o) (meaning s w₂ a) ≡ callOf x s (length w) (length o) = ap (reply (length o)) (its .told .means) ∙
+          sym
+          (call-of-opened x s (length w) (length o) ∙
+          ap {B = Reply} (λ (y : Result (Sheet Condition)). reply (length o) (y >>= verdictOf x)) i) in
           record {
             isNumber = g .number ∙ ap (λ (y : Reply). y .number) e;
             isSize = g .size ∙ ap lineSize e;

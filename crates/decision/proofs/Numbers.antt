@@ -15,7 +15,35 @@ use Rattle.answers.specs.Verdict.{Verdict}
 use Rattle.writer.specs.declared.answer.Sent.{Sent}
 use Rattle.json.specs.Bytes.{Bytes}
 use Rattle.json.specs.Refusal as refusals
-use Rattle.json.specs.Refusal.{Refusal, Result, guardUnknown, invariants, noId, noInput, noOutcome, notASource, notCarried, notJson, notUtf8, numberTooLong, ok, preconditions, refused, repeatedName, ruleFalse, ruleUnknown, tooDeep, tooLong, tooManyNodes, unknownExpression, workTooSmall, wrongShape, wrongSheet, wrongState, _>>=_}
+use Rattle.json.specs.Refusal.{
+  Refusal,
+  Result,
+  guardUnknown,
+  invariants,
+  noId,
+  noInput,
+  noOutcome,
+  notASource,
+  notCarried,
+  notJson,
+  notUtf8,
+  numberTooLong,
+  ok,
+  preconditions,
+  refused,
+  repeatedName,
+  ruleFalse,
+  ruleUnknown,
+  tooDeep,
+  tooLong,
+  tooManyNodes,
+  unknownExpression,
+  workTooSmall,
+  wrongShape,
+  wrongSheet,
+  wrongState,
+  _>>=_,
+}
 use Rattle.members.specs.Condition.{Condition}
 use Rattle.members.specs.Sheet.{Sheet, readSheet}
 use Rattle.decision.specs.Called.{Called}

@@ -44,16 +44,36 @@ begins-rows w w′ i vs e h b = begins-prefix w w′ 12288 (same-rows w w′ e) 
 
 -- ---- nodes
 pub node-rows : {s : Bytes} {w w′ : List ℕ} {left n : ℕ} → table w′ ≡ table w → IsNode s w left n → IsNode s w′ left n × (valueAt s w′ n ≡ valueAt s w n)
-node-rows {s} {w} {w′} {left} {n} e h = (record { tree = h .tree; held = held; depth = h .depth; most = h .most }, value-is s w′ (h .depth) held ∙ sym (value-is s w (h .depth) (h .held)))
+node-rows {s} {w} {w′} {left} {n} e h = (
+  record { tree = h .tree; held = held; depth = h .depth; most = h .most },
+  value-is s w′ (h .depth) held ∙
+      sym (value-is s w (h .depth) (h .held)),
+)
   where
     held : NodeAt s w′ left n (h .tree)
-    held = record { words = begins-rows w w′ (3 * n) (rows (h .tree) n) e (omega (arith, length-rows (h .tree) n, h .most)) (h .held .words); shallow = h .held .shallow; fits = h .held .fits }
+    held =
+        record {
+          words = begins-rows w w′ (3 * n) (rows (h .tree) n) e (omega (arith, length-rows (h .tree) n, h .most)) (h .held .words);
+          shallow = h .held .shallow;
+          fits = h .held .fits;
+        }
 
 nodes-rows : {s : Bytes} {w w′ : List ℕ} {left k e : ℕ} → table w′ ≡ table w → AreNodes s w left k e → AreNodes s w′ left k e × (valuesAt s w′ k e ≡ valuesAt s w k e)
-nodes-rows {s} {w} {w′} {left} {k} {e} q h = (record { tree = h .tree; held = held; depth = h .depth; most = h .most }, values-are s w′ (h .depth) held ∙ sym (values-are s w (h .depth) (h .held)))
+nodes-rows {s} {w} {w′} {left} {k} {e} q h = (
+  record { tree = h .tree; held = held; depth = h .depth; most = h .most },
+  values-are s w′ (h .depth) held ∙
+      sym (values-are s w (h .depth) (h .held)),
+)
   where
     held : NodesAt s w′ left k e (h .tree)
-    held = record { words = begins-rows w w′ (3 * k) (rowsIn (h .tree) k) q (omega (arith, length-rowsIn (h .tree) k, h .held .upto, h .most)) (h .held .words); upto = h .held .upto; shallow = h .held .shallow; fits = h .held .fits }
+    held =
+        record {
+          words = begins-rows w w′ (3 * k) (rowsIn (h .tree) k) q (omega (arith, length-rowsIn (h .tree) k, h .held .upto, h .most))
+              (h .held .words);
+          upto = h .held .upto;
+          shallow = h .held .shallow;
+          fits = h .held .fits;
+        }
 
 -- ---- links
 module _ (s : Bytes) (w w′ : List ℕ) (same : table w′ ≡ table w) where
@@ -62,7 +82,8 @@ module _ (s : Bytes) (w w′ : List ℕ) (same : table w′ ≡ table w) where
   names-rows zero h = refl
   names-rows (suc m) {left} {k} {e} h = go (λ i. names-rows m i) (ltb k e) refl
     where
-      go : (AreMembers s w left (afterAt w (k + 1)) e → namesBy s w′ m (afterAt w (k + 1)) e ≡ namesBy s w m (afterAt w (k + 1)) e) → (b : Bool) → ltb k e ≡ b → namesBy s w′ (suc m) k e ≡ namesBy s w (suc m) k e
+      go : (AreMembers s w left (afterAt w (k + 1)) e → namesBy s w′ m (afterAt w (k + 1)) e ≡ namesBy s w m (afterAt w (k + 1)) e) →
+          (b : Bool) → ltb k e ≡ b → namesBy s w′ (suc m) k e ≡ namesBy s w (suc m) k e
       go below false q = rw (q, namesBy)
       go below true q =
           let x = members-more s w h (ltb-true k e q) in
@@ -103,15 +124,25 @@ linked-rows {s} {w} {w′} e l = record { links = λ n h k. go n h k }
 
 -- ---- what they give
 pub gives-rows : {A : Type 0} {kind : Value → Result A} {s : Bytes} {w w′ : List ℕ} {n : ℕ} {a : A} → table w′ ≡ table w → Gives kind s w n a → Gives kind s w′ n a
-gives-rows {kind = kind} e g = let x = node-rows e (g .node) in record { node = x .0; isTidy = ap (tidy maxNumber) (x .1) ∙ g .isTidy; is = ap (λ (v : Value). kind (sorted v)) (x .1) ∙ g .is }
+gives-rows {kind = kind} e g =
+    let x = node-rows e (g .node) in
+    record { node = x .0; isTidy = ap (tidy maxNumber) (x .1) ∙ g .isTidy; is = ap (λ (v : Value). kind (sorted v)) (x .1) ∙ g .is }
 
-pub may-give-rows : {A : Type 0} (kind : Value → Result A) (s : Bytes) (w w′ : List ℕ) (f : Found) (o : Option A) → table w′ ≡ table w → MayGive kind s w f o → MayGive kind s w′ f o
+pub may-give-rows : {A : Type 0} (kind : Value → Result A) (s : Bytes) (w w′ : List ℕ) (f : Found) (o : Option A) → table w′ ≡ table w →
+    MayGive kind s w f o → MayGive kind s w′ f o
 unfolding MayGive
 may-give-rows kind s w w′ founds.Nothing o e g = g
 may-give-rows kind s w w′ (founds.At n) o e (a, i, g) = (a, i, gives-rows e g)
 
-pub each-gives-rows : {A : Type 0} {kind : Value → Result A} {s : Bytes} {w w′ : List ℕ} {k e : ℕ} {xs : List A} → table w′ ≡ table w → EachGives kind s w k e xs → EachGives kind s w′ k e xs
-each-gives-rows {kind = kind} q g = let x = nodes-rows q (g .nodes) in record { nodes = x .0; isTidy = ap (tidyIn maxNumber) (x .1) ∙ g .isTidy; is = ap (λ (v : Values). eachOf kind (elements (sortedIn v))) (x .1) ∙ g .is }
+pub each-gives-rows : {A : Type 0} {kind : Value → Result A} {s : Bytes} {w w′ : List ℕ} {k e : ℕ} {xs : List A} → table w′ ≡ table w →
+    EachGives kind s w k e xs → EachGives kind s w′ k e xs
+each-gives-rows {kind = kind} q g =
+    let x = nodes-rows q (g .nodes) in
+    record {
+      nodes = x .0;
+      isTidy = ap (tidyIn maxNumber) (x .1) ∙ g .isTidy;
+      is = ap (λ (v : Values). eachOf kind (elements (sortedIn v))) (x .1) ∙ g .is;
+    }
 
 stored-rows : {s : Bytes} {w w′ : List ℕ} → table w′ ≡ table w → Stored s w → Stored s w′
 stored-rows e g = let x = node-rows e (g .node) in record { reads = g .reads ∙ ap {B = Result Value} (λ v. ok v) (sym (x .1)); node = x .0; linked = linked-rows e (g .linked) }
@@ -155,7 +186,15 @@ module _ (s : Bytes) (w : List ℕ) (x : Bytes) where
   from-marked (suc m) k h n = go (λ j. from-marked m (k + 1) (omega arith) j) (isMarked w k) refl n
     where
       go : (Named x (markedFrom s w m (k + 1)) → Marked s w x) → (b : Bool) → isMarked w k ≡ b → Named x (markedFrom s w (suc m) k) → Marked s w x
-      go below true q j = ⊎-elim (λ e. record { node = k; small = omega arith; mark = eqb-true (getD w (12288 + k) 0 % 2) 1 q; text = sym (same-text k (omega arith)) ∙ sym e }) below (List·Memᴰ·cases-cons (rw (q, markedFrom) at j))
+      go below true q j =
+          ⊎-elim
+          (λ e.
+          record {
+            node = k;
+            small = omega arith;
+            mark = eqb-true (getD w (12288 + k) 0 % 2) 1 q;
+            text = sym (same-text k (omega arith)) ∙ sym e;
+          }) below (List·Memᴰ·cases-cons (rw (q, markedFrom) at j))
       go below false q j = below (rw (q, markedFrom) at j)
 
   to-marked : (m k : ℕ) (y : Marked s w x) → k ≤ y .node → y .node < k + m → Named x (markedFrom s w m k)
@@ -164,15 +203,23 @@ module _ (s : Bytes) (w : List ℕ) (x : Bytes) where
   to-marked (suc m) k y l h = go (λ i. to-marked m (k + 1) y i (omega arith)) (isMarked w k) refl (eqb k (y .node)) refl
     where
       go : (k + 1 ≤ y .node → Named x (markedFrom s w m (k + 1))) → (b : Bool) → isMarked w k ≡ b → (d : Bool) → eqb k (y .node) ≡ d → Named x (markedFrom s w (suc m) k)
-      go below true q true r = let e = eqb-true k (y .node) r in rw (q, markedFrom) (List·Memᴰ·head (sym (y .text) ∙ sym (same-text (y .node) (y .small)) ∙ ap (λ (n : ℕ). textAt s (startAt w n)) (sym e)))
+      go below true q true r =
+          let e = eqb-true k (y .node) r in rw (q, markedFrom)
+          (List·Memᴰ·head (sym (y .text) ∙ sym (same-text (y .node) (y .small)) ∙ ap (λ (n : ℕ). textAt s (startAt w n)) (sym e)))
       go below true q false r = let e = eqb-false k (y .node) r in rw (q, markedFrom) (List·Memᴰ·tail (below (omega arith)))
       go below false q true r = let e = eqb-true k (y .node) r in absurd (eqb-false (getD w (12288 + k) 0 % 2) 1 q (ap (λ (n : ℕ). getD w (12288 + n) 0 % 2) e ∙ y .mark))
       go below false q false r = let e = eqb-false k (y .node) r in rw (q, markedFrom) (below (omega arith))
 
 -- over a table without marks, what is marked after are the names met
-pub names-marked : {s : Bytes} {w w′ : List ℕ} {ns : Names} → ((i : ℕ) → 12288 ≤ i → i < 16384 → getD w i 0 % 2 ≡ 0) → Left s w w′ ns → ascending (marked s w′) ≡ ascending ns
+pub names-marked : {s : Bytes} {w w′ : List ℕ} {ns : Names} → ((i : ℕ) → 12288 ≤ i → i < 16384 → getD w i 0 % 2 ≡ 0) → Left s w w′ ns →
+    ascending (marked s w′) ≡ ascending ns
 unfolding marked
-names-marked {s} {w} {w′} {ns} z l = ascending-set (marked s w′) ns λ x. (λ n. ⊎-elim (λ m. none x m) (λ m. m) (l .only x (from-marked s w′ x 4096 0 (omega arith) n)), λ n. let y = l .added x n in to-marked s w′ x 4096 0 y (omega arith) (omega (arith, y .small)))
+names-marked {s} {w} {w′} {ns} z l =
+    ascending-set (marked s w′) ns λ x. (
+      λ n. ⊎-elim (λ m. none x m) (λ m. m) (l .only x (from-marked s w′ x 4096 0 (omega arith) n)),
+      λ n. let y = l .added x n in to-marked
+          s w′ x 4096 0 y (omega arith) (omega (arith, y .small)),
+    )
   where
     none : (x : Bytes) → Marked s w x → Named x ns
     none x y = absurd (omega (arith, z (12288 + y .node) (omega arith) (omega (arith, y .small)), y .mark))

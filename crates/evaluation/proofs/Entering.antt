@@ -15,7 +15,30 @@ use Rattle.json.specs.Limits.{depth, depthIn, depthOf}
 use Rattle.json.specs.Reader.{json}
 use Rattle.json.specs.Refusal.{Result, ok, wrongSheet, _>>=_}
 use Rattle.json.specs.Sorted.{sorted}
-use Rattle.json.specs.Spans.{Fields, Node, Nodes, Plain, arr, deep, deepIn, deepOf, erase, eraseIn, eraseOf, field, isFalse, isNull, isNumber, isText, isTrue, leaf, noField, noNode, node, obj}
+use Rattle.json.specs.Spans.{
+  Fields,
+  Node,
+  Nodes,
+  Plain,
+  arr,
+  deep,
+  deepIn,
+  deepOf,
+  erase,
+  eraseIn,
+  eraseOf,
+  field,
+  isFalse,
+  isNull,
+  isNumber,
+  isText,
+  isTrue,
+  leaf,
+  noField,
+  noNode,
+  node,
+  obj,
+}
 use Rattle.json.specs.Table.{valueAt}
 use Rattle.strings.specs.declared.rows.Found.{Found}
 use Rattle.strings.specs.declared.rows.Found.the-variants as founds
@@ -127,20 +150,40 @@ module _ {s : Bytes} {w : List ℕ} {m : Places} {sheet : Sheet Condition} (a : 
         short = read-exactly s (valueAt s w 0) .0 (a .stored .reads) .bytes;
         rooted = rw e rooted;
         linked = linked-table (a .stored .linked);
-        bound = record { within = omega arith; names = subst (λ (d : ℕ). Named s (top d (f .slots))) (sym z) tt; operands = subst (λ (d : ℕ). Bound s (table w) (top d (f .slots))) (sym z) tt };
+        bound =
+            record {
+              within = omega arith;
+              names = subst (λ (d : ℕ). Named s (top d (f .slots))) (sym z) tt;
+              operands = subst (λ (d : ℕ). Bound s (table w) (top d (f .slots))) (sym z) tt;
+            };
       }
 
   -- judged is what is defined
-  pub judged-as : {w′ : List ℕ} (f : Frames) {n : ℕ} {c : Condition} {r : Outcome} → f .depth ≡ 0 → Gives condition s w n c → EvaluatedAs s w w′ r (judge (sheetIn s) (framesOf s (table w) f) c) → EvaluatedAs s w w′ r (evaluate kernel sheet [] c)
+  pub judged-as : {w′ : List ℕ} (f : Frames) {n : ℕ} {c : Condition} {r : Outcome} → f .depth ≡ 0 → Gives condition s w n c →
+      EvaluatedAs s w w′ r (judge (sheetIn s) (framesOf s (table w) f) c) → EvaluatedAs s w w′ r (evaluate kernel sheet [] c)
   unfolding top framed tree
   judged-as {w′} f {n} {c} {r} z g h =
       let low = condition-low (sorted (valueAt s w n)) c (tree-depth (g .node)) (g .is) in
-      subst (EvaluatedAs s w w′ r) (ap (λ (x : Sheet Condition). judge x (framesOf s (table w) f) c) sheet-is ∙ ap (λ (d : ℕ). judge sheet (framed s (table w) (top d (f .slots))) c) z ∙ judge-read s sheet (a .reads) c low) h
+      subst (EvaluatedAs s w w′ r)
+      (ap (λ (x : Sheet Condition). judge x (framesOf s (table w) f) c) sheet-is ∙
+      ap (λ (d : ℕ). judge sheet (framed s (table w) (top d (f .slots))) c) z ∙
+      judge-read s sheet (a .reads) c low) h
 
 pub given-here : {s : Bytes} {w : List ℕ} {n : ℕ} → (k : Known (Gives condition s w n)) → Known (Gives condition s (table w) n) × (depth (tree s (table w) n) ≤ 64)
 given-here k = let g = gives-table (k .known) in (record { given = k .given; known = g }, tree-depth (g .node))
 
 -- ---- the roots, as code puts them together
-pub same-roots : (m : Places) (x y : ℕ) → x ≡ nodeOf (m .id) → y ≡ nodeOf (m .«from_state») → record { id = x; entity = m .entity; version = m .version; from = y; to = m .«to_state»; args = m .args; fields = m .fields; old = m .«old_fields» } ≡ rootsOf m
+pub same-roots : (m : Places) (x y : ℕ) → x ≡ nodeOf (m .id) → y ≡
+    nodeOf (m .«from_state») →
+    record {
+      id = x;
+      entity = m .entity;
+      version = m .version;
+      from = y;
+      to = m .«to_state»;
+      args = m .args;
+      fields = m .fields;
+      old = m .«old_fields»;
+    } ≡ rootsOf m
 unfolding rootsOf
 same-roots m x y e f = rw (e, f)

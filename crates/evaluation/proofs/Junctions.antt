@@ -26,7 +26,19 @@ use Rattle.semantics.specs.declared.truth.Truth as code
 use Rattle.semantics.specs.declared.truth.Truth.the-variants as truths
 use Rattle.sheet.proofs.Given.{ObjectHere, object-here}
 use Rattle.sheet.specs.Accepted.{ConditionsGive, Gives, Known}
-use Rattle.sheet.proofs.GivenConditions.{NextCondition, OneMember, conditions-done, conditions-next, given-exists, given-junction, given-negation, given-pair, literal-false, literal-true, one-member}
+use Rattle.sheet.proofs.GivenConditions.{
+  NextCondition,
+  OneMember,
+  conditions-done,
+  conditions-next,
+  given-exists,
+  given-junction,
+  given-negation,
+  given-pair,
+  literal-false,
+  literal-true,
+  one-member,
+}
 use Rattle.members.proofs.Shapes.{object-at}
 use Rattle.members.proofs.Verdicts.{never}
 use Rattle.members.specs.Answers.{formOf, modeOf, operatorOf}
@@ -50,7 +62,8 @@ use Rattle.comparison.proofs.Joined.{Joining, joining-last, joining-none, joini
 use Rattle.evaluation.proofs.Shallow.{array-depth, member-shallow, pair-shallow}
 
 -- ---- a condition by its kind
-module _ (sheet : Sheet Condition) (fs : lazy.Frames) {s : Bytes} {w : List ℕ} {n : ℕ} {c : Condition} (g : Gives condition s (table w) n c) {k : ℕ} (q : k ≡ kindAt (table w) n) where
+module _ (sheet : Sheet Condition) (fs : lazy.Frames) {s : Bytes} {w : List ℕ} {n : ℕ} {c : Condition}
+    (g : Gives condition s (table w) n c) {k : ℕ} (q : k ≡ kindAt (table w) n) where
   pub judged-true : k ≡ 1 → EvaluatedAs s w w (outcomes.Judged truths.True) (judge sheet fs c)
   unfolding judge
   judged-true e = rw (literal-true g (sym q ∙ e)) record { names = []; met = []; means = refl; left = left-none s w; marks = refl }
@@ -90,23 +103,38 @@ module _ {s : Bytes} {t : List ℕ} {n : ℕ} {c : Condition} (g : Gives conditi
 
   -- by the operator that its name asks for
   module _ {a : ℕ} (p : a ≡ startAt t (n + 1)) {r : CodeOperator} (f : find (textAt s a) operators ≡ operatorOf r) where
-    made : (x : CodeOperator) → r ≡ x → formed (sorted (valueAt s t (n + 1 + 1))) (condition (sorted (valueAt s t (n + 1 + 1)))) (conditionArray (sorted (valueAt s t (n + 1 + 1)))) (conditionObject (sorted (valueAt s t (n + 1 + 1)))) (operatorOf x) ≡ ok c
-    made x e = sym (ap (formed (sorted (valueAt s t (n + 1 + 1))) (condition (sorted (valueAt s t (n + 1 + 1)))) (conditionArray (sorted (valueAt s t (n + 1 + 1)))) (conditionObject (sorted (valueAt s t (n + 1 + 1))))) (ap (λ (z : ℕ). find (textAt s z) operators) (sym p) ∙ f ∙ ap operatorOf e)) ∙ the-member .isFormed
+    made : (x : CodeOperator) → r ≡ x →
+        formed (sorted (valueAt s t (n + 1 + 1))) (condition (sorted (valueAt s t (n + 1 + 1))))
+        (conditionArray (sorted (valueAt s t (n + 1 + 1)))) (conditionObject (sorted (valueAt s t (n + 1 + 1)))) (operatorOf x) ≡ ok c
+    made x e =
+        sym
+        (ap
+        (formed (sorted (valueAt s t (n + 1 + 1))) (condition (sorted (valueAt s t (n + 1 + 1))))
+        (conditionArray (sorted (valueAt s t (n + 1 + 1)))) (conditionObject (sorted (valueAt s t (n + 1 + 1)))))
+        (ap (λ (z : ℕ). find (textAt s z) operators) (sym p) ∙ f ∙ ap operatorOf e)) ∙
+        the-member .isFormed
 
     pub a-junction : (m : CodeMode) → r ≡ ops.Junction m → HasKind s t (n + 2) 5 × Known (ConditionsGive s t (n + 2 + 1) (afterAt t (n + 2)))
-    a-junction m e = let x = given-junction the-member a p r f m e in subst (λ (i : ℕ). HasKind s t i 5 × Known (ConditionsGive s t (i + 1) (afterAt t i))) two-on (record { node = record { left = 64; isNode = the-member .inner }; kind = x .2 }, record { given = x .0; known = x .3 })
+    a-junction m e =
+        let x = given-junction the-member a p r f m e in subst
+        (λ (i : ℕ). HasKind s t i 5 × Known (ConditionsGive s t (i + 1) (afterAt t i))) two-on
+        (record { node = record { left = 64; isNode = the-member .inner }; kind = x .2 }, record { given = x .0; known = x .3 })
 
     pub a-negation : r ≡ ops.Negation → Known (Gives condition s t (n + 2))
     a-negation e = let x = given-negation the-member a p r f e in record { given = x .0; known = subst (λ (i : ℕ). Gives condition s t i (x .0)) two-on (x .2) }
 
     pub a-pair : (m : CodeForm) → r ≡ ops.Pair m → HasNode s t (n + 2 + 1) × HasNode s t (afterAt t (n + 2 + 1))
-    a-pair m e = let x = given-pair the-member a p r f m e in subst (λ (i : ℕ). HasNode s t (i + 1) × HasNode s t (afterAt t (i + 1))) two-on (record { left = 64; isNode = x .left }, record { left = 64; isNode = x .right })
+    a-pair m e =
+        let x = given-pair the-member a p r f m e in subst (λ (i : ℕ). HasNode s t (i + 1) × HasNode s t (afterAt t (i + 1))) two-on
+        (record { left = 64; isNode = x .left }, record { left = 64; isNode = x .right })
 
-    pub operands-shallow : (m : CodeForm) → r ≡ ops.Pair m → {l : ℕ} → depth (tree s t n) ≤ l → (depth (tree s t (n + 2 + 1)) ≤ l - 1) × (depth (tree s t (afterAt t (n + 2 + 1))) ≤ l - 1)
+    pub operands-shallow : (m : CodeForm) → r ≡ ops.Pair m → {l : ℕ} → depth (tree s t n) ≤ l →
+        (depth (tree s t (n + 2 + 1)) ≤ l - 1) × (depth (tree s t (afterAt t (n + 2 + 1))) ≤ l - 1)
     unfolding operatorOf tree
     operands-shallow m e {l} h =
         let x = given-pair the-member a p r f m e in
-        let d = pair-shallow (formOf m) (sorted (valueAt s t (n + 1 + 1))) (sorted (valueAt s t (n + 1 + 1 + 1))) (sorted (valueAt s t (afterAt t (n + 1 + 1 + 1)))) c (made (ops.Pair m) e) (x .is) in
+        let d = pair-shallow (formOf m) (sorted (valueAt s t (n + 1 + 1))) (sorted (valueAt s t (n + 1 + 1 + 1)))
+        (sorted (valueAt s t (afterAt t (n + 1 + 1 + 1)))) c (made (ops.Pair m) e) (x .is) in
         let b = less-deep in
         subst (λ (i : ℕ). (depth (tree s t (i + 1)) ≤ l - 1) × (depth (tree s t (afterAt t (i + 1))) ≤ l - 1)) two-on (omega arith, omega arith)
 
@@ -118,18 +146,31 @@ module _ {s : Bytes} {t : List ℕ} {n : ℕ} {c : Condition} (g : Gives conditi
     known-quantifier m e = record { given = c; known = a-quantifier m e }
 
     module _ (sheet : Sheet Condition) (fs : lazy.Frames) {w w′ : List ℕ} {x : Outcome} where
-      pub judged-junction : (m : CodeMode) → r ≡ ops.Junction m → ((cs : Conditions) → ConditionsGive s t (n + 2 + 1) (afterAt t (n + 2)) cs → EvaluatedAs s w w′ x (judgeAll sheet fs (modeOf m) cs)) → EvaluatedAs s w w′ x (judge sheet fs c)
+      pub judged-junction : (m : CodeMode) → r ≡ ops.Junction m →
+          ((cs : Conditions) → ConditionsGive s t (n + 2 + 1) (afterAt t (n + 2)) cs → EvaluatedAs s w w′ x
+          (judgeAll sheet fs (modeOf m) cs)) → EvaluatedAs s w w′ x (judge sheet fs c)
       unfolding judge
       judged-junction m e h = let y = given-junction the-member a p r f m e in rw (y .1) (h (y .0) (subst (λ (i : ℕ). ConditionsGive s t (i + 1) (afterAt t i) (y .0)) two-on (y .3)))
 
-      pub judged-negation : r ≡ ops.Negation → ((d : Condition) → Gives condition s t (n + 2) d → EvaluatedAs s w w′ x (judge sheet fs d)) → {y : Outcome} → Negated x y → EvaluatedAs s w w′ y (judge sheet fs c)
+      pub judged-negation :
+          r ≡ ops.Negation → ((d : Condition) → Gives condition s t (n + 2) d → EvaluatedAs s w w′ x (judge sheet fs d)) → {y : Outcome} →
+          Negated x y → EvaluatedAs s w w′ y (judge sheet fs c)
       unfolding judge
       judged-negation e h {y} o =
           let z = given-negation the-member a p r f e in
           rw (z .1) (go (z .0) x (h (z .0) (subst (λ (i : ℕ). Gives condition s t i (z .0)) two-on (z .2))) o)
         where
           go : (d : Condition) (v : Outcome) → EvaluatedAs s w w′ v (judge sheet fs d) → Negated v y → EvaluatedAs s w w′ y (judge sheet fs (negation d))
-          go d (outcomes.Judged u) b (v, i, j) = rw i record { names = b .names; met = b .met; means = ap {B = Result Answer} (λ (z : Truth). ok (record { truth = z; names = b .names })) j ∙ sym (bind-ok _ (sym (b .means))); left = b .left; marks = b .marks }
+          go d (outcomes.Judged u) b (v, i, j) =
+              rw i
+              record {
+                names = b .names;
+                met = b .met;
+                means = ap {B = Result Answer} (λ (z : Truth). ok (record { truth = z; names = b .names })) j ∙
+                    sym (bind-ok _ (sym (b .means)));
+                left = b .left;
+                marks = b .marks;
+              }
           go d (outcomes.Unknown u) b i = rw i record { names = b .names; met = b .met; means = sym (bind-refused _ (sym (b .means))); left = b .left; marks = b .marks }
           go d outcomes.NoId b i = rw i record { names = b .names; met = b .met; means = sym (bind-refused _ (sym (b .means))); left = b .left; marks = tt }
 
@@ -137,11 +178,15 @@ module _ {s : Bytes} {t : List ℕ} {n : ℕ} {c : Condition} (g : Gives conditi
       unfolding tree
       judged-exists e h = rw (given-exists the-member a p r f e, two-on) h
 
-      pub judged-pair : (m : CodeForm) → r ≡ ops.Pair m → EvaluatedAs s w w′ x (judge sheet fs (pair (formOf m) (tree s t (n + 2 + 1)) (tree s t (afterAt t (n + 2 + 1))))) → EvaluatedAs s w w′ x (judge sheet fs c)
+      pub judged-pair : (m : CodeForm) → r ≡ ops.Pair m →
+          EvaluatedAs s w w′ x (judge sheet fs (pair (formOf m) (tree s t (n + 2 + 1)) (tree s t (afterAt t (n + 2 + 1))))) →
+          EvaluatedAs s w w′ x (judge sheet fs c)
       unfolding tree
       judged-pair m e h = rw (given-pair the-member a p r f m e .is, two-on) h
 
-      pub judged-quantifier : (m : CodeMode) → r ≡ ops.Quantified m → ((d : Condition) → QuantifierAt s t (modeOf m) (n + 2) d → EvaluatedAs s w w′ x (judge sheet fs d)) → EvaluatedAs s w w′ x (judge sheet fs c)
+      pub judged-quantifier : (m : CodeMode) → r ≡ ops.Quantified m →
+          ((d : Condition) → QuantifierAt s t (modeOf m) (n + 2) d → EvaluatedAs s w w′ x (judge sheet fs d)) →
+          EvaluatedAs s w w′ x (judge sheet fs c)
       judged-quantifier m e h = h c (a-quantifier m e)
 
 -- ---- a junction's children, one after the other: w₀ the words at entry, w now, and the answer so far
@@ -152,7 +197,8 @@ pub record Collecting (s : Bytes) (w₀ : List ℕ) (sheet : Sheet Condition) (f
   pub others : Conditions
   pub rest : ConditionsGive s (table w₀) k e others
   pub shallow : depthIn (sortedIn (valuesAt s (table w₀) k e)) ≤ l
-  pub whole : (cs : Conditions) → ConditionsGive s (table w₀) (n + 1) (afterAt (table w₀) n) cs → judgeAll sheet fs m cs ≡ Joining m (record { truth = truthOf truth; names = names }) (judgeAll sheet fs m others)
+  pub whole : (cs : Conditions) → ConditionsGive s (table w₀) (n + 1) (afterAt (table w₀) n) cs →
+      judgeAll sheet fs m cs ≡ Joining m (record { truth = truthOf truth; names = names }) (judgeAll sheet fs m others)
 
 -- whichever conditions the nodes give
 abbrev pub AllAs : Bytes → List ℕ → List ℕ → Sheet Condition → lazy.Frames → Mode → ℕ → Outcome → Type 0
@@ -164,7 +210,9 @@ same-conditions a b = ok-injective (sym (a .is) ∙ b .is)
 pub collect-one : {s : Bytes} {t : List ℕ} {n : ℕ} → HasKind s t n 5 → {l : ℕ} → depth (tree s t n) ≤ l → 1 ≤ l
 collect-one h d = omega (arith, array-depth h)
 
-pub collect-begin : (s : Bytes) (w : List ℕ) (sheet : Sheet Condition) (fs : lazy.Frames) (m : Mode) {n l e : ℕ} {truth : code.Truth} → HasKind s (table w) n 5 → Known (ConditionsGive s (table w) (n + 1) (afterAt (table w) n)) → depth (tree s (table w) n) ≤ l → e ≡ afterAt (table w) n → truthOf truth ≡ start m → Collecting s w sheet fs m n (l - 1) e w truth (n + 1)
+pub collect-begin : (s : Bytes) (w : List ℕ) (sheet : Sheet Condition) (fs : lazy.Frames) (m : Mode) {n l e : ℕ} {truth : code.Truth} →
+    HasKind s (table w) n 5 → Known (ConditionsGive s (table w) (n + 1) (afterAt (table w) n)) → depth (tree s (table w) n) ≤ l →
+    e ≡ afterAt (table w) n → truthOf truth ≡ start m → Collecting s w sheet fs m n (l - 1) e w truth (n + 1)
 collect-begin s w sheet fs m {n} {l} {e} {truth} h c d q i = record {
   ends = q;
   names = [];
@@ -175,7 +223,8 @@ collect-begin s w sheet fs m {n} {l} {e} {truth} h c d q i = record {
   whole = λ cs g. rw (same-conditions g (c .known), i) (sym (joining-none m (judgeAll sheet fs m (c .given))));
 }
 
-module _ {s : Bytes} {w₀ : List ℕ} {sheet : Sheet Condition} {fs : lazy.Frames} {m : Mode} {n l e : ℕ} {w : List ℕ} {truth : code.Truth} {k : ℕ} (g : Collecting s w₀ sheet fs m n l e w truth k) where
+module _ {s : Bytes} {w₀ : List ℕ} {sheet : Sheet Condition} {fs : lazy.Frames} {m : Mode} {n l e : ℕ} {w : List ℕ} {truth : code.Truth}
+    {k : ℕ} (g : Collecting s w₀ sheet fs m n l e w truth k) where
   abbrev soFar : Answer
   soFar = record { truth = truthOf truth; names = g .names }
 
@@ -199,9 +248,14 @@ module _ {s : Bytes} {w₀ : List ℕ} {sheet : Sheet Condition} {fs : lazy.Fram
     pub child-below : k < 4096
     child-below = node-below s (table w₀) (record { left = 64; isNode = child .here .node })
 
-    turn : {x : Result Answer} → judge sheet fs (child .first) ≡ x → (cs : Conditions) → ConditionsGive s (table w₀) (n + 1) (afterAt (table w₀) n) cs → judgeAll sheet fs m cs ≡ Joining m soFar (x >>= λ a. Joining m a (judgeAll sheet fs m (child .others)))
+    turn : {x : Result Answer} → judge sheet fs (child .first) ≡ x → (cs : Conditions) →
+        ConditionsGive s (table w₀) (n + 1) (afterAt (table w₀) n) cs →
+        judgeAll sheet fs m cs ≡ Joining m soFar (x >>= λ a. Joining m a (judgeAll sheet fs m (child .others)))
     unfolding judge
-    turn e cs c = g .whole cs c ∙ ap (λ (ds : Conditions). Joining m soFar (judgeAll sheet fs m ds)) (child .isAlso) ∙ ap (λ (y : Result Answer). Joining m soFar (y >>= λ a. Joining m a (judgeAll sheet fs m (child .others)))) e
+    turn e cs c =
+        g .whole cs c ∙
+        ap (λ (ds : Conditions). Joining m soFar (judgeAll sheet fs m ds)) (child .isAlso) ∙
+        ap (λ (y : Result Answer). Joining m soFar (y >>= λ a. Joining m a (judgeAll sheet fs m (child .others)))) e
 
     module _ {w′ : List ℕ} {r : Outcome} (judged : (c : Condition) → Gives condition s (table w₀) k c → EvaluatedAs s w w′ r (judge sheet fs c)) where
       a : EvaluatedAs s w w′ r (judge sheet fs (child .first))
@@ -225,7 +279,8 @@ module _ {s : Bytes} {w₀ : List ℕ} {sheet : Sheet Condition} {fs : lazy.Fram
       pub collect-no-id : r ≡ outcomes.NoId → AllAs s w₀ w′ sheet fs m n outcomes.NoId
       collect-no-id e cs c = record { names = []; met = g .names ++ a .met; means = sym (turn (answered e) cs c); left = left-then (g .left) (a .left); marks = tt }
 
-      pub collect-on : {t truth′ : code.Truth} → r ≡ outcomes.Judged t → truthOf truth′ ≡ join m (truthOf truth) (truthOf t) → {k′ : ℕ} → k′ ≡ afterAt (table w′) k → Collecting s w₀ sheet fs m n l e w′ truth′ k′
+      pub collect-on : {t truth′ : code.Truth} → r ≡ outcomes.Judged t → truthOf truth′ ≡ join m (truthOf truth) (truthOf t) → {k′ : ℕ} →
+          k′ ≡ afterAt (table w′) k → Collecting s w₀ sheet fs m n l e w′ truth′ k′
       collect-on {t} {truth′} i j q = rw (q, a .left .rows, g .left .rows) record {
         ends = g .ends;
         names = g .names ++ a .names;

@@ -29,7 +29,8 @@ unfolding orderBytes depthOf
 insert-depth k v empty = omega arith
 insert-depth k v (member l w ms) = go (insert-depth k v ms) (orderBytes k l) refl
   where
-    go : depthOf (insert k v ms) ≤ max (depth v) (depthOf ms) → (o : Ordering) → orderBytes k l ≡ o → depthOf (insert k v (member l w ms)) ≤ max (depth v) (max (depth w) (depthOf ms))
+    go : depthOf (insert k v ms) ≤ max (depth v) (depthOf ms) → (o : Ordering) → orderBytes k l ≡ o →
+        depthOf (insert k v (member l w ms)) ≤ max (depth v) (max (depth w) (depthOf ms))
     go h Ordering·lt q = rw (q, insert) (omega arith)
     go h Ordering·eq q = rw (q, insert) (omega arith)
     go h Ordering·gt q = rw (q, insert) (omega arith)

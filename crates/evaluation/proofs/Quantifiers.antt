@@ -91,7 +91,9 @@ module _ (s : Bytes) (w : List ℕ) where
       go (founds.At n) a b = let z = to-rows (b .isNode) in record { answers = a ∙ ap {B = Option Value} (λ v. some v) (sym (z .1)); bounds = record { left = b .left; isNode = z .0 } }
 
   -- the members of an object
-  members-rows : {n : ℕ} → n < 4096 → ObjectHere s (table w) n → IsNode s (table w) 64 n → AreMembers s w 64 (n + 1) (afterAt (table w) n) × (membersAt s w (n + 1) (afterAt (table w) n) ≡ membersAt s (table w) (n + 1) (afterAt (table w) n))
+  members-rows : {n : ℕ} → n < 4096 → ObjectHere s (table w) n → IsNode s (table w) 64 n →
+      AreMembers s w 64 (n + 1) (afterAt (table w) n) ×
+      (membersAt s w (n + 1) (afterAt (table w) n) ≡ membersAt s (table w) (n + 1) (afterAt (table w) n))
   members-rows {n} small x h =
       let z = to-words h in
       let k : kindAt w n ≡ 6 = ap (λ (y : ℕ). y % 8) (row-word w (3 * n) (omega arith)) ∙ x .isKind in
@@ -101,7 +103,8 @@ module _ (s : Bytes) (w : List ℕ) where
       let p : membersAt s w (n + 1) (afterAt w n) ≡ membersAt s (table w) (n + 1) (afterAt (table w) n) = cc (q) in
       (subst (AreMembers s w 64 (n + 1)) e (full-members (o .1)), ap (membersAt s w (n + 1)) (sym e) ∙ p)
 
-found-shallow : {s : Bytes} {t : List ℕ} {n : ℕ} → ObjectHere s t n → (k : Bytes) (j : ℕ) {r : Found} → FoundTold s t (find k (entries (membersAt s t (n + 1) (afterAt t n)))) r → r ≡ founds.At j → depth (tree s t j) < depth (tree s t n)
+found-shallow : {s : Bytes} {t : List ℕ} {n : ℕ} → ObjectHere s t n → (k : Bytes) (j : ℕ) {r : Found} →
+    FoundTold s t (find k (entries (membersAt s t (n + 1) (afterAt t n)))) r → r ≡ founds.At j → depth (tree s t j) < depth (tree s t n)
 unfolding foundOf
 found-shallow {s} {t} x k j f e = member-shallow x k j (f .answers ∙ ap (foundOf s t) e)
 
@@ -121,12 +124,17 @@ module _ {s : Bytes} (w : List ℕ) {m : Mode} {n : ℕ} {c : Condition} (g : Qu
   quantifier-members = rw isEnd (rows .0)
 
   -- and what it finds
-  member-found : (k : Bytes) {r : Found} → Located s w (n + 1) e (find k (entries (membersAt s w (n + 1) e))) r → FoundTold s (table w) (find k (entries (membersAt s (table w) (n + 1) (afterAt (table w) n)))) r
+  member-found : (k : Bytes) {r : Found} → Located s w (n + 1) e (find k (entries (membersAt s w (n + 1) e))) r →
+      FoundTold s (table w) (find k (entries (membersAt s (table w) (n + 1) (afterAt (table w) n)))) r
   member-found k {r} l =
       let f = told-rows s w (l .told) in
       record { answers = sym (ap (λ (ms : Members). find k (entries ms)) (ap (membersAt s w (n + 1)) isEnd ∙ rows .1)) ∙ f .answers; bounds = f .bounds }
 
-  pub quantifier-parts : (q : Quantifier) {rIn rAs rThat : Found} → Located s w (n + 1) e (find (ascii "in") (entries (membersAt s w (n + 1) e))) rIn → Located s w (n + 1) e (find (ascii "as") (entries (membersAt s w (n + 1) e))) rAs → Located s w (n + 1) e (find (ascii "that") (entries (membersAt s w (n + 1) e))) rThat → q .over ≡ nodeOf rIn → q .bind ≡ nodeOf rAs → q .body ≡ nodeOf rThat → QuantifierParts s (table w) m n q c
+  pub quantifier-parts :
+      (q : Quantifier) {rIn rAs rThat : Found} → Located s w (n + 1) e (find (ascii "in") (entries (membersAt s w (n + 1) e))) rIn →
+      Located s w (n + 1) e (find (ascii "as") (entries (membersAt s w (n + 1) e))) rAs →
+      Located s w (n + 1) e (find (ascii "that") (entries (membersAt s w (n + 1) e))) rThat → q .over ≡ nodeOf rIn → q .bind ≡ nodeOf rAs →
+      q .body ≡ nodeOf rThat → QuantifierParts s (table w) m n q c
   unfolding tree
   quantifier-parts q {rIn} {rAs} {rThat} lIn lAs lThat eIn eAs eThat =
       let fIn = member-found (ascii "in") lIn in
@@ -142,7 +150,11 @@ module _ {s : Bytes} (w : List ℕ) {m : Mode} {n : ℕ} {c : Condition} (g : Qu
         bind = subst (λ (j : ℕ). HasKind s (table w) j 4) (sym isBind) (record { node = record { left = 64; isNode = x .binder .node }; kind = b .isKind });
         body = x .that;
         gives = subst (λ (j : ℕ). Gives condition s (table w) j (x .that)) (sym isBody) (x .inside);
-        is = x .is ∙ ap (λ (y : Bytes). quantified m (tree s (table w) (x .over)) y (x .that)) (b .bytes) ∙ ap (λ (j : ℕ). quantified m (tree s (table w) (x .over)) (textAt s (startAt (table w) j)) (x .that)) (sym isBind) ∙ ap (λ (j : ℕ). quantified m (tree s (table w) j) (textAt s (startAt (table w) (q .bind))) (x .that)) (sym isOver);
+        is =
+            x .is ∙
+            ap (λ (y : Bytes). quantified m (tree s (table w) (x .over)) y (x .that)) (b .bytes) ∙
+            ap (λ (j : ℕ). quantified m (tree s (table w) (x .over)) (textAt s (startAt (table w) j)) (x .that)) (sym isBind) ∙
+            ap (λ (j : ℕ). quantified m (tree s (table w) j) (textAt s (startAt (table w) (q .bind))) (x .that)) (sym isOver);
         overDepth = subst (λ (j : ℕ). depth (tree s (table w) j) < depth (tree s (table w) n)) (sym isOver) (found-shallow here (ascii "in") (x .over) fIn (x .isIn));
         bodyDepth = subst (λ (j : ℕ). depth (tree s (table w) j) < depth (tree s (table w) n)) (sym isBody) (found-shallow here (ascii "that") (x .body) fThat (x .isThat));
       }
@@ -201,7 +213,8 @@ module _ (sheet : Sheet Condition) (s : Bytes) (t : List ℕ) (fs : lazy.Frames)
   unfolding eachOf overOf
   opened = go (collected (shape sheet fs (operandOf s t o))) refl ∙ ap (λ (p : Shape lazy.Operand). Over m answer (collected p)) (shape-kind sheet s t fs (o .node) (o .depth) (o .kind))
     where
-      go : (p : Option (List lazy.Operand)) → collected (shape sheet fs (operandOf s t o)) ≡ p → eachOf sheet fs m x that (operandOf s t o) ≡ Over m answer (collected (shape sheet fs (operandOf s t o)))
+      go : (p : Option (List lazy.Operand)) → collected (shape sheet fs (operandOf s t o)) ≡ p →
+          eachOf sheet fs m x that (operandOf s t o) ≡ Over m answer (collected (shape sheet fs (operandOf s t o)))
       go none q = rw (q, overOf)
       go (some xs) q = rw (q, overOf)
 
@@ -212,8 +225,14 @@ module _ (sheet : Sheet Condition) (s : Bytes) (t : List ℕ) (fs : lazy.Frames)
   each-parts h = opened ∙ go (eqb k 6) refl
     where
       go : (b : Bool) → eqb k 6 ≡ b → Over m answer (collected (shapeOf sheet s t fs o)) ≡ inTurn m answer (eachPart (partAt sheet s t fs o) b (kids s t (o .node) b))
-      go true q = ap (λ (p : Shape lazy.Operand). Over m answer (collected p)) (object-is sheet s t fs (o .node) (o .depth) (o .kind) (is-object s t o isClass h q)) ∙ ap (inTurn m answer) (parts-fields s t (partAt sheet s t fs o) (kids s t (o .node) true))
-      go false q = ap (λ (p : Shape lazy.Operand). Over m answer (collected p)) (array-is sheet s t fs (o .node) (o .depth) (o .kind) (is-array s t o isClass h q)) ∙ ap (inTurn m answer) (parts-items (partAt sheet s t fs o) (kids s t (o .node) false))
+      go true q =
+          ap (λ (p : Shape lazy.Operand). Over m answer (collected p))
+          (object-is sheet s t fs (o .node) (o .depth) (o .kind) (is-object s t o isClass h q)) ∙
+          ap (inTurn m answer) (parts-fields s t (partAt sheet s t fs o) (kids s t (o .node) true))
+      go false q =
+          ap (λ (p : Shape lazy.Operand). Over m answer (collected p))
+          (array-is sheet s t fs (o .node) (o .depth) (o .kind) (is-array s t o isClass h q)) ∙
+          ap (inTurn m answer) (parts-items (partAt sheet s t fs o) (kids s t (o .node) false))
 
 -- a body's answer for the first part
 module _ (m : Mode) (body : lazy.Operand → Result Answer) (p : lazy.Operand) (ps : List lazy.Operand) where
@@ -234,28 +253,35 @@ same-given : {A : Type 0} {kind : Value → Result A} {s : Bytes} {t : List ℕ}
 same-given {A} {a = a} {b = b} g h = let z : _≡_ {A = Result A} (ok a) (ok b) = sym (g .is) ∙ h .is in cc (z)
 
 -- ---- the walk over its parts: w₀ the words at entry, w now
-pub record Turning (s : Bytes) (w₀ : List ℕ) (sheet : Sheet Condition) (f : Frames) (m : Mode) (name node : ℕ) (o : Operand) (named : Bool) (w : List ℕ) (t : code.Truth) (c : Children) : Type 0 where
+pub record Turning (s : Bytes) (w₀ : List ℕ) (sheet : Sheet Condition) (f : Frames) (m : Mode) (name node : ℕ) (o : Operand)
+    (named : Bool) (w : List ℕ) (t : code.Truth) (c : Children) : Type 0 where
   pub that : Condition
   pub gives : Gives condition s (table w₀) node that
   pub names : Names
   pub left : Left s w₀ w names
   pub walk : ChildrenAt s (table w₀) c
   pub over : c .named ≡ named
-  pub rest : eachOf sheet (framesOf s (table w₀) f) m (textAt s name) that (operandOf s (table w₀) o) ≡ Joining m (record { truth = truthOf t; names = names }) (inTurn m (λ p. judge sheet ((textAt s name, p) ∷ framesOf s (table w₀) f) that) (eachPart (partAt sheet s (table w₀) (framesOf s (table w₀) f) o) named (childrenOf (table w₀) c)))
+  pub rest : eachOf sheet (framesOf s (table w₀) f) m (textAt s name) that (operandOf s (table w₀) o) ≡
+      Joining m (record { truth = truthOf t; names = names })
+      (inTurn m (λ p. judge sheet ((textAt s name, p) ∷ framesOf s (table w₀) f) that)
+      (eachPart (partAt sheet s (table w₀) (framesOf s (table w₀) f) o) named (childrenOf (table w₀) c)))
 
 -- whichever condition the body's node gives: under these frames, and over all parts
 abbrev pub BodyAs : Bytes → List ℕ → List ℕ → Sheet Condition → lazy.Frames → ℕ → Outcome → Type 0
 BodyAs s w w′ sheet fs node r = (d : Condition) → Gives condition s (table w) node d → EvaluatedAs s w w′ r (judge sheet fs d)
 
 abbrev pub EachAs : Bytes → List ℕ → List ℕ → Sheet Condition → Frames → Mode → ℕ → ℕ → Operand → Outcome → Type 0
-EachAs s w w′ sheet f m name node o r = (d : Condition) → Gives condition s (table w) node d → EvaluatedAs s w w′ r (eachOf sheet (framesOf s (table w) f) m (textAt s name) d (operandOf s (table w) o))
+EachAs s w w′ sheet f m name node o r =
+    (d : Condition) → Gives condition s (table w) node d → EvaluatedAs s w w′ r
+    (eachOf sheet (framesOf s (table w) f) m (textAt s name) d (operandOf s (table w) o))
 
 module _ (s : Bytes) (w : List ℕ) (sheet : Sheet Condition) (f : Frames) (m : Mode) (name node : ℕ) (o : Operand) {k : ℕ} (isClass : k ≡ classOf (o .kind)) where
   -- what is no collection
   pub each-unknown : k < 5 → EachAs s w w sheet f m name node o (outcomes.Judged truths.Unknown)
   each-unknown h d g = record { names = []; met = []; means = sym (each-none sheet s (table w) (framesOf s (table w) f) m (textAt s name) d o isClass h); left = left-none s w; marks = refl }
 
-  pub turn-begin : 5 ≤ k → OperandAt s (table w) o → Linked s (table w) → Known (Gives condition s (table w) node) → {t : code.Truth} → truthOf t ≡ start m → {c : Children} → c ≡ begun (table w) (o .node) (eqb k 6) → Turning s w sheet f m name node o (eqb k 6) w t c
+  pub turn-begin : 5 ≤ k → OperandAt s (table w) o → Linked s (table w) → Known (Gives condition s (table w) node) → {t : code.Truth} →
+      truthOf t ≡ start m → {c : Children} → c ≡ begun (table w) (o .node) (eqb k 6) → Turning s w sheet f m name node o (eqb k 6) w t c
   turn-begin big fits linked known e {c} q =
       let body : lazy.Operand → Result Answer = λ p. judge sheet ((textAt s name, p) ∷ framesOf s (table w) f) (known .given) in
       let over : List ℕ → Result Answer = λ ks. inTurn m body (eachPart (partAt sheet s (table w) (framesOf s (table w) f) o) (eqb k 6) ks) in
@@ -267,10 +293,15 @@ module _ (s : Bytes) (w : List ℕ) (sheet : Sheet Condition) (f : Frames) (m : 
         left = left-none s w;
         walk = walk-begins (eqb k 6) h linked q;
         over = walk-named (eqb k 6) h linked q;
-        rest = each-parts sheet s (table w) (framesOf s (table w) f) m (textAt s name) (known .given) o isClass big ∙ ap over (sym (walk-kids (eqb k 6) h linked q)) ∙ sym (joining-none m (over (childrenOf (table w) c))) ∙ ap (λ (y : Truth). Joining m (record { truth = y; names = [] }) (over (childrenOf (table w) c))) (sym e);
+        rest =
+            each-parts sheet s (table w) (framesOf s (table w) f) m (textAt s name) (known .given) o isClass big ∙
+            ap over (sym (walk-kids (eqb k 6) h linked q)) ∙
+            sym (joining-none m (over (childrenOf (table w) c))) ∙
+            ap (λ (y : Truth). Joining m (record { truth = y; names = [] }) (over (childrenOf (table w) c))) (sym e);
       }
 
-module _ {s : Bytes} {w₀ : List ℕ} {sheet : Sheet Condition} {f : Frames} {m : Mode} {name node : ℕ} {o : Operand} {named : Bool} {w : List ℕ} {t : code.Truth} {c : Children} (g : Turning s w₀ sheet f m name node o named w t c) where
+module _ {s : Bytes} {w₀ : List ℕ} {sheet : Sheet Condition} {f : Frames} {m : Mode} {name node : ℕ} {o : Operand} {named : Bool}
+    {w : List ℕ} {t : code.Truth} {c : Children} (g : Turning s w₀ sheet f m name node o named w t c) where
   abbrev fs : lazy.Frames
   fs = framesOf s (table w₀) f
 
@@ -283,7 +314,9 @@ module _ {s : Bytes} {w₀ : List ℕ} {sheet : Sheet Condition} {f : Frames} {m
   abbrev part : ℕ → lazy.Operand
   part k = partAt sheet s (table w₀) fs o (valueNode named k)
 
-  for-each : {w′ : List ℕ} {r : Outcome} → EvaluatedAs s w₀ w′ r (eachOf sheet (framesOf s (table w₀) f) m (textAt s name) (g .that) (operandOf s (table w₀) o)) → EachAs s w₀ w′ sheet f m name node o r
+  for-each : {w′ : List ℕ} {r : Outcome} →
+      EvaluatedAs s w₀ w′ r (eachOf sheet (framesOf s (table w₀) f) m (textAt s name) (g .that) (operandOf s (table w₀) o)) →
+      EachAs s w₀ w′ sheet f m name node o r
   for-each {w′} {r} a d h = subst (λ (x : Condition). EvaluatedAs s w₀ w′ r (eachOf sheet fs m (textAt s name) x (operandOf s (table w₀) o))) (same-given (g .gives) h) a
 
   gives-now : Gives condition s (table w) node (g .that)
@@ -292,7 +325,9 @@ module _ {s : Bytes} {w₀ : List ℕ} {sheet : Sheet Condition} {f : Frames} {m
   pub turn-gives : Known (Gives condition s (table w) node)
   turn-gives = record { given = g .that; known = gives-now }
 
-  none-left : childrenOf (table w₀) c ≡ [] → inTurn m body (eachPart (partAt sheet s (table w₀) fs o) named (childrenOf (table w₀) c)) ≡ ok (record { truth = start m; names = [] })
+  none-left : childrenOf (table w₀) c ≡ [] →
+      inTurn m body (eachPart (partAt sheet s (table w₀) fs o) named (childrenOf (table w₀) c)) ≡
+      ok (record { truth = start m; names = [] })
   unfolding inTurn eachPart
   none-left e = rw e
 
@@ -310,7 +345,8 @@ module _ {s : Bytes} {w₀ : List ℕ} {sheet : Sheet Condition} {f : Frames} {m
   pub turn-given : {r : Child} → r ≡ nextOf (table w) c → (x : Next) → r ≡ child.Is x → Given s (table w₀) c (x .node) (x .rest)
   turn-given h x i = child-given (g .walk) (told h) x i
 
-  pub turn-long : {w′ : List ℕ} {r : Outcome} {y : Condition → Result Answer} → ((d : Condition) → Gives condition s (table w) node d → EvaluatedAs s w w′ r (y d)) → length w′ ≡ length w₀
+  pub turn-long : {w′ : List ℕ} {r : Outcome} {y : Condition → Result Answer} →
+      ((d : Condition) → Gives condition s (table w) node d → EvaluatedAs s w w′ r (y d)) → length w′ ≡ length w₀
   turn-long h = h (g .that) gives-now .left .long ∙ g .left .long
 
   -- one part more
@@ -327,17 +363,22 @@ module _ {s : Bytes} {w₀ : List ℕ} {sheet : Sheet Condition} {f : Frames} {m
     abbrev others : Result Answer
     others = inTurn m body (eachPart (partAt sheet s (table w₀) fs o) named (childrenOf (table w₀) c′))
 
-    turn : {y : Result Answer} → inTurn m body (part k ∷ eachPart (partAt sheet s (table w₀) fs o) named (childrenOf (table w₀) c′)) ≡ y → eachOf sheet fs m (textAt s name) (g .that) (operandOf s (table w₀) o) ≡ Joining m soFar y
+    turn : {y : Result Answer} → inTurn m body (part k ∷ eachPart (partAt sheet s (table w₀) fs o) named (childrenOf (table w₀) c′)) ≡ y →
+        eachOf sheet fs m (textAt s name) (g .that) (operandOf s (table w₀) o) ≡ Joining m soFar y
     unfolding eachPart
     turn e = g .rest ∙ ap (λ (ks : List ℕ). Joining m soFar (inTurn m body (eachPart (partAt sheet s (table w₀) fs o) named ks))) (x .children) ∙ ap (Joining m soFar) e
 
     -- the body, under the part's frame
-    module _ {v : ℕ} (isNode : v ≡ valueNode named k) {w′ : List ℕ} {r : Outcome} (evaluated : BodyAs s w w′ sheet ((textAt s name, partAt sheet s (table w) (framesOf s (table w) f) o v) ∷ framesOf s (table w) f) node r) where
+    module _ {v : ℕ} (isNode : v ≡ valueNode named k) {w′ : List ℕ} {r : Outcome}
+        (evaluated : BodyAs s w w′ sheet ((textAt s name, partAt sheet s (table w) (framesOf s (table w) f) o v) ∷ framesOf s (table w) f)
+        node r) where
       a : EvaluatedAs s w w′ r (judge sheet ((textAt s name, partAt sheet s (table w) (framesOf s (table w) f) o v) ∷ framesOf s (table w) f) (g .that))
       a = evaluated (g .that) gives-now
 
       frames-are : (textAt s name, partAt sheet s (table w) (framesOf s (table w) f) o v) ∷ framesOf s (table w) f ≡ (textAt s name, part k) ∷ fs
-      frames-are = ap (λ (y : List ℕ). (textAt s name, partAt sheet s y (framesOf s y f) o v) ∷ framesOf s y f) (g .left .rows) ∙ ap (λ (j : ℕ). (textAt s name, partAt sheet s (table w₀) fs o j) ∷ fs) isNode
+      frames-are =
+          ap (λ (y : List ℕ). (textAt s name, partAt sheet s y (framesOf s y f) o v) ∷ framesOf s y f) (g .left .rows) ∙
+          ap (λ (j : ℕ). (textAt s name, partAt sheet s (table w₀) fs o j) ∷ fs) isNode
 
       answered : outcomeOf s (table w₀) (a .names) r ≡ body (part k)
       answered = ap (λ (y : List ℕ). outcomeOf s y (a .names) r) (sym (g .left .rows)) ∙ a .means ∙ ap (λ (y : lazy.Frames). judge sheet y (g .that)) frames-are
@@ -346,12 +387,29 @@ module _ {s : Bytes} {w₀ : List ℕ} {sheet : Sheet Condition} {f : Frames} {m
       marked = subst (λ (y : List ℕ). Marks s y (a .names) (a .met) r) (g .left .rows) (a .marks)
 
       pub turn-unknown : (n : ℕ) → r ≡ outcomes.Unknown n → EachAs s w₀ w′ sheet f m name node o (outcomes.Unknown n)
-      turn-unknown n e = for-each (record { names = []; met = g .names ++ a .met; means = sym (turn (first-refused m body (part k) _ _ (sym (ap (outcomeOf s (table w₀) (a .names)) (sym e) ∙ answered)))); left = left-then (g .left) (a .left); marks = subst (Marks s (table w₀) (a .names) (a .met)) e marked })
+      turn-unknown n e =
+          for-each
+          (record {
+            names = [];
+            met = g .names ++ a .met;
+            means = sym (turn (first-refused m body (part k) _ _ (sym (ap (outcomeOf s (table w₀) (a .names)) (sym e) ∙ answered))));
+            left = left-then (g .left) (a .left);
+            marks = subst (Marks s (table w₀) (a .names) (a .met)) e marked;
+          })
 
       pub turn-no-id : r ≡ outcomes.NoId → EachAs s w₀ w′ sheet f m name node o outcomes.NoId
-      turn-no-id e = for-each (record { names = []; met = g .names ++ a .met; means = sym (turn (first-refused m body (part k) _ _ (sym (ap (outcomeOf s (table w₀) (a .names)) (sym e) ∙ answered)))); left = left-then (g .left) (a .left); marks = tt })
+      turn-no-id e =
+          for-each
+          (record {
+            names = [];
+            met = g .names ++ a .met;
+            means = sym (turn (first-refused m body (part k) _ _ (sym (ap (outcomeOf s (table w₀) (a .names)) (sym e) ∙ answered))));
+            left = left-then (g .left) (a .left);
+            marks = tt;
+          })
 
-      module _ (u : code.Truth) (e : r ≡ outcomes.Judged u) (t′ : code.Truth) (isJoin : truthOf t′ ≡ join m (truthOf t) (truthOf u)) {b : Bool} (isSettled : b ≡ settles m (truthOf u)) where
+      module _ (u : code.Truth) (e : r ≡ outcomes.Judged u) (t′ : code.Truth) (isJoin : truthOf t′ ≡ join m (truthOf t) (truthOf u))
+          {b : Bool} (isSettled : b ≡ settles m (truthOf u)) where
         abbrev now : Answer
         now = record { truth = truthOf u; names = a .names }
 
@@ -365,7 +423,16 @@ module _ {s : Bytes} {w₀ : List ℕ} {sheet : Sheet Condition} {f : Frames} {m
         answer-is = ap (λ (y : Truth). record { truth = y; names = g .names ++ a .names }) (sym isJoin)
 
         pub turn-settled : b ≡ true → EachAs s w₀ w′ sheet f m name node o (outcomes.Judged t′)
-        turn-settled q = for-each (record { names = g .names ++ a .names; met = g .names ++ a .names; means = sym (turn (first-settles m body (part k) _ now first (sym isSettled ∙ q)) ∙ ap {B = Result Answer} (λ y. ok y) answer-is); left = left-now; marks = refl })
+        turn-settled q =
+            for-each
+            (record {
+              names = g .names ++ a .names;
+              met = g .names ++ a .names;
+              means = sym
+                  (turn (first-settles m body (part k) _ now first (sym isSettled ∙ q)) ∙ ap {B = Result Answer} (λ y. ok y) answer-is);
+              left = left-now;
+              marks = refl;
+            })
 
         pub turn-on : b ≡ false → Turning s w₀ sheet f m name node o named w′ t′ c′
         turn-on q = record {
@@ -393,7 +460,9 @@ pub part-small : {s : Bytes} {t : List ℕ} {name : ℕ} {p : Operand} → lengt
 part-small short n p = record { name = omega (arith, n .text .order, n .text .upto); node = omega arith; depth = omega arith }
 
 -- frames with one more
-pub pushed : {s : Bytes} {w : List ℕ} {roots : Roots} {f g : Frames} {name : ℕ} {p : Operand} → Ready s w roots f → f .depth + 1 ≤ 32 → OnText s name 0 → OperandAt s (table w) p → g .depth ≡ f .depth + 1 → held g ≡ record { name = name; operand = p } ∷ held f → Ready s w roots g
+pub pushed : {s : Bytes} {w : List ℕ} {roots : Roots} {f g : Frames} {name : ℕ} {p : Operand} → Ready s w roots f → f .depth + 1 ≤ 32
+    → OnText s name 0 → OperandAt s (table w) p → g .depth ≡ f .depth + 1 → held g ≡
+    record { name = name; operand = p } ∷ held f → Ready s w roots g
 unfolding Named Bound
 pushed r l n p d h = record {
   rows = r .rows;
@@ -404,7 +473,10 @@ pushed r l n p d h = record {
 }
 
 -- the body under such frames
-pub body-under : (sheet : Sheet Condition) (f g : Frames) {s : Bytes} {w w′ : List ℕ} {name node : ℕ} {p : Operand} {part : lazy.Operand} {r : Outcome} → Means s (table w) p part → held g ≡ record { name = name; operand = p } ∷ held f → BodyAs s w w′ sheet (framesOf s (table w) g) node r → BodyAs s w w′ sheet ((textAt s name, part) ∷ framesOf s (table w) f) node r
+pub body-under : (sheet : Sheet Condition) (f g : Frames) {s : Bytes} {w w′ : List ℕ} {name node : ℕ} {p : Operand}
+    {part : lazy.Operand} {r : Outcome} → Means s (table w) p part → held g ≡
+    record { name = name; operand = p } ∷ held f → BodyAs s w w′ sheet (framesOf s (table w) g) node r → BodyAs s w w′ sheet
+    ((textAt s name, part) ∷ framesOf s (table w) f) node r
 unfolding framed
 body-under sheet f g {s} {w} {w′} {name = name} {r = r} i h b d x =
     let e = ap (framed s (table w)) h ∙ ap (λ (y : lazy.Operand). (textAt s name, y) ∷ framesOf s (table w) f) (i .means) in
@@ -412,7 +484,9 @@ body-under sheet f g {s} {w} {w′} {name = name} {r = r} i h b d x =
 
 -- ---- the whole quantifier
 -- marks of nothing before it change nothing
-after-none : {s : Bytes} {w w′ w″ : List ℕ} {ns : Names} {r : Outcome} {m : Result Answer} → Left s w w′ ns → ns ≡ [] → EvaluatedAs s w′ w″ r m → EvaluatedAs s w w″ r m
+after-none :
+    {s : Bytes} {w w′ w″ : List ℕ} {ns : Names} {r : Outcome} {m : Result Answer} → Left s w w′ ns → ns ≡ [] → EvaluatedAs s w′ w″ r m →
+    EvaluatedAs s w w″ r m
 after-none {s} {w} {w′} {w″} {ns} {r} l e a = record {
   names = a .names;
   met = a .met;
@@ -421,7 +495,9 @@ after-none {s} {w} {w′} {w″} {ns} {r} l e a = record {
   marks = subst (λ (t : List ℕ). Marks s t (a .names) (a .met) r) (l .rows) (a .marks);
 }
 
-module _ {s : Bytes} {w w′ : List ℕ} (sheet : Sheet Condition) (f : Frames) {m : Mode} {n : ℕ} {q : Quantifier} {c : Condition} (p : QuantifierParts s (table w) m n q c) {r : code-resolved.Resolved} (a : ResolvedAs false s w w′ r (operand sheet (framesOf s (table w) f) (tree s (table w) (q .over)))) where
+module _ {s : Bytes} {w w′ : List ℕ} (sheet : Sheet Condition) (f : Frames) {m : Mode} {n : ℕ} {q : Quantifier} {c : Condition}
+    (p : QuantifierParts s (table w) m n q c) {r : code-resolved.Resolved}
+    (a : ResolvedAs false s w w′ r (operand sheet (framesOf s (table w) f) (tree s (table w) (q .over)))) where
   abbrev frames : lazy.Frames
   frames = framesOf s (table w) f
 
@@ -458,12 +534,18 @@ module _ {s : Bytes} {w w′ : List ℕ} (sheet : Sheet Condition) (f : Frames) 
   pub body-shallow : {l : ℕ} → depth (tree s (table w) n) ≤ l → depth (tree s (table w′) (q .body)) ≤ l - 1
   body-shallow h = rw (a .left .rows) (omega (arith, p .bodyDepth))
 
-  pub quantify-long : {w″ : List ℕ} {x : Outcome} {y : Condition → Result Answer} → ((d : Condition) → Gives condition s (table w′) (q .body) d → EvaluatedAs s w′ w″ x (y d)) → length w″ ≡ length w
+  pub quantify-long : {w″ : List ℕ} {x : Outcome} {y : Condition → Result Answer} →
+      ((d : Condition) → Gives condition s (table w′) (q .body) d → EvaluatedAs s w′ w″ x (y d)) → length w″ ≡ length w
   quantify-long h = h (p .body) gives-after .left .long ∙ a .left .long
 
-  pub quantify-each : (o : Operand) → r ≡ answers.Present o → {name : ℕ} → name ≡ startAt (table w) (q .bind) → {w″ : List ℕ} {y : Outcome} → EachAs s w′ w″ sheet f m name (q .body) o y → EvaluatedAs s w w″ y (judge sheet (framesOf s (table w) f) c)
+  pub quantify-each : (o : Operand) → r ≡ answers.Present o → {name : ℕ} → name ≡ startAt (table w) (q .bind) → {w″ : List ℕ} {y : Outcome} →
+      EachAs s w′ w″ sheet f m name (q .body) o y → EvaluatedAs s w w″ y (judge sheet (framesOf s (table w) f) c)
   unfolding eachOf
   quantify-each o e {name} i {w″} {y} h =
       let x = is-present a o e in
-      let z : eachOf sheet (framesOf s (table w′) f) m (textAt s name) (p .body) (operandOf s (table w′) o) ≡ judge sheet frames c = ap (λ (t : List ℕ). eachOf sheet (framesOf s t f) m (textAt s name) (p .body) (operandOf s t o)) (a .left .rows) ∙ ap (λ (j : ℕ). eachOf sheet frames m (textAt s j) (p .body) (operandOf s (table w) o)) i ∙ sym (judged (x .0)) in
+      let z : eachOf sheet (framesOf s (table w′) f) m (textAt s name) (p .body) (operandOf s (table w′) o) ≡
+      judge sheet frames c = ap (λ (t : List ℕ). eachOf sheet (framesOf s t f) m (textAt s name) (p .body) (operandOf s t o))
+      (a .left .rows) ∙
+      ap (λ (j : ℕ). eachOf sheet frames m (textAt s j) (p .body) (operandOf s (table w) o)) i ∙
+      sym (judged (x .0)) in
       after-none (a .left) (x .2) (subst (EvaluatedAs s w′ w″ y) z (h (p .body) gives-after))

@@ -26,11 +26,14 @@ module _ {s : Bytes} {t : List ℕ} {n : ℕ} where
   array-depth h = ap depth (array-row h .value)
 
   -- a member that is found in an object
-  pub member-shallow : ObjectHere s t n → (k : Bytes) (j : ℕ) → find k (entries (membersAt s t (n + 1) (afterAt t n))) ≡ some (valueAt s t j) → depth (tree s t j) < depth (tree s t n)
+  pub member-shallow :
+      ObjectHere s t n → (k : Bytes) (j : ℕ) → find k (entries (membersAt s t (n + 1) (afterAt t n))) ≡ some (valueAt s t j) →
+      depth (tree s t j) < depth (tree s t n)
   unfolding tree sorted depth
   member-shallow x k j e =
       let d : depth (sorted (valueAt s t n)) ≡ 1 + depthOf (sortedOf (membersAt s t (n + 1) (afterAt t n))) = ap (λ (v : Value). depth (sorted v)) (x .value) in
-      let l = find-shallow k (sortedOf (membersAt s t (n + 1) (afterAt t n))) (sorted (valueAt s t j)) (find-sorted k (membersAt s t (n + 1) (afterAt t n)) (x .isTidy) ∙ ap (mapped sorted) e) in
+      let l = find-shallow k (sortedOf (membersAt s t (n + 1) (afterAt t n))) (sorted (valueAt s t j))
+      (find-sorted k (membersAt s t (n + 1) (afterAt t n)) (x .isTidy) ∙ ap (mapped sorted) e) in
       omega arith
 
 -- the two operands of a pair form

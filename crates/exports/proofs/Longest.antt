@@ -11,7 +11,27 @@ use lib.ListN.{length, length-append}
 use Rattle.answers.specs.Admission.{admit, isWrong}
 use Rattle.answers.specs.Decide.{admitCall, decideCall, evaluateCall, invariantsCall, preconditionsCall, selectCall}
 use Rattle.answers.specs.Entry.{call, enough, workWords}
-use Rattle.answers.specs.Line.{decimalDigits, eachLine, eachQuoted, endLine, falseNumber, listed, messageOr, nameOr, names, quoted, quotedOr, refusalForm, refusalLine, refusalNumber, spaced, truthWord, unknownNumber, verdictForm, verdictLine}
+use Rattle.answers.specs.Line.{
+  decimalDigits,
+  eachLine,
+  eachQuoted,
+  endLine,
+  falseNumber,
+  listed,
+  messageOr,
+  nameOr,
+  names,
+  quoted,
+  quotedOr,
+  refusalForm,
+  refusalLine,
+  refusalNumber,
+  spaced,
+  truthWord,
+  unknownNumber,
+  verdictForm,
+  verdictLine,
+}
 use Rattle.answers.specs.Outcomes.{Placed, at, eligible, firstFrom, guard, select}
 use Rattle.answers.specs.Reply.{fitted, lineSize, orEmpty, reply}
 use Rattle.decision.proofs.Calls.{of-verdict}
@@ -24,7 +44,25 @@ use Rattle.json.proofs.FirstFault.{first-fault}
 use Rattle.json.specs.Bytes.{Bytes, ascii, isOneOf}
 use Rattle.json.specs.Json.{Members, Value, Values, array, bool, cons, elements, empty, entries, isNull, member, nil, null, number, object, text}
 use Rattle.json.specs.Reader.{json}
-use Rattle.json.specs.Refusal.{Refusal, Result, Rules, guardUnknown, lineTooLong, noInput, noOutcome, notASource, ok, orElse, refused, ruleFalse, ruleUnknown, workTooSmall, wrongSheet, wrongState, _>>=_}
+use Rattle.json.specs.Refusal.{
+  Refusal,
+  Result,
+  Rules,
+  guardUnknown,
+  lineTooLong,
+  noInput,
+  noOutcome,
+  notASource,
+  ok,
+  orElse,
+  refused,
+  ruleFalse,
+  ruleUnknown,
+  workTooSmall,
+  wrongSheet,
+  wrongState,
+  _>>=_,
+}
 use Rattle.json.specs.Sorted.{sorted}
 use Rattle.line.proofs.Lengths.{digits-short, form-short}
 use Rattle.members.specs.Condition.{Condition, condition}
@@ -210,7 +248,8 @@ module _ (sheet : Sheet Condition) (k : LightSheet sheet) where
   names-short : (ns : Names) → Among (k .written) ns → length (names (ascending ns)) ≤ 98312
   names-short ns h = omega (arith, listed-short (ascii "names") (ascending ns), among-light (k .written) ns h, k .light)
 
-  maybe-light : (d : Bytes) (x : Option Bytes) → length d ≤ 98303 → Maybe (TextHas (Light (k .written) (k .light)) (light-parts (k .written) (k .light))) x → length (quotedOr d x) ≤ 98303
+  maybe-light : (d : Bytes) (x : Option Bytes) → length d ≤ 98303 →
+      Maybe (TextHas (Light (k .written) (k .light)) (light-parts (k .written) (k .light))) x → length (quotedOr d x) ≤ 98303
   maybe-light d none h n = h
   maybe-light d (some t) h n = text-light (k .written) (k .light) n
 
@@ -222,14 +261,41 @@ module _ (sheet : Sheet Condition) (k : LightSheet sheet) where
       name : length (nameOr (r .name)) ≤ 98303
       name = maybe-light (ascii "()") (r .name) (omega arith) (h .0 .name)
 
-      go : (a : Answer) → Named a → Fine Short (check sheet kind (i + 1) rs) → (t : Truth) → Fine Short (elim t [ True ↦ check sheet kind (i + 1) rs | False ↦ refused (ruleFalse kind i (r .name) (r .message)) | Unknown ↦ refused (ruleUnknown kind i (r .name) (r .message) (ascending (a .names))) ])
+      go : (a : Answer) → Named a → Fine Short (check sheet kind (i + 1) rs) → (t : Truth) →
+          Fine Short
+          (elim t [
+            | True ↦ check sheet kind (i + 1) rs
+            | False ↦ refused (ruleFalse kind i (r .name) (r .message))
+            | Unknown ↦ refused
+                (ruleUnknown kind i (r .name) (r .message) (ascending (a .names)))
+          ])
       go a n rest True = rest
       go a n rest False =
           let m = maybe-light (quoted (ascii "condition evaluated to false")) (r .message) (omega arith) (h .0 .message) in
-          shown {r = ruleFalse kind i (r .name) (r .message)} (omega (arith, form-short (ascii "refused" ∷ decimalDigits (falseNumber kind) ∷ decimalDigits i ∷ nameOr (r .name) ∷ messageOr (ascii "condition evaluated to false") (r .message) ∷ []), digits (falseNumber kind), digits i, name))
+          shown {r = ruleFalse kind i (r .name) (r .message)}
+          (omega (
+            arith,
+            form-short
+                (ascii "refused" ∷ decimalDigits (falseNumber kind) ∷ decimalDigits i ∷ nameOr (r .name) ∷ messageOr
+                (ascii "condition evaluated to false") (r .message) ∷ []),
+            digits (falseNumber kind),
+            digits i,
+            name,
+          ))
       go a n rest Unknown =
           let m = maybe-light (quoted (ascii "condition could not be evaluated")) (r .message) (omega arith) (h .0 .message) in
-          shown {r = ruleUnknown kind i (r .name) (r .message) (ascending (a .names))} (omega (arith, form-short (ascii "refused" ∷ decimalDigits (unknownNumber kind) ∷ decimalDigits i ∷ nameOr (r .name) ∷ messageOr (ascii "condition could not be evaluated") (r .message) ∷ names (ascending (a .names)) ∷ []), digits (unknownNumber kind), digits i, name, names-short (a .names) n))
+          shown {r = ruleUnknown kind i (r .name) (r .message) (ascending (a .names))}
+          (omega (
+            arith,
+            form-short
+                (ascii "refused" ∷ decimalDigits (unknownNumber kind) ∷ decimalDigits i ∷ nameOr (r .name) ∷ messageOr
+                (ascii "condition could not be evaluated") (r .message) ∷ names (ascending (a .names)) ∷ []),
+            digits
+                (unknownNumber kind),
+            digits i,
+            name,
+            names-short (a .names) n,
+          ))
 
   abbrev LightPlaced : Placed → Type 0
   LightPlaced p = LightOutcome (k .written) (k .light) (p .outcome)
@@ -250,12 +316,40 @@ module _ (sheet : Sheet Condition) (k : LightSheet sheet) where
       name : length (quoted (o .name)) ≤ 98303
       name = text-light (k .written) (k .light) (h .0 .name)
 
-      by : Fine LightPlaced (select sheet (i + 1) os) → (a : Answer) → Named a → (t : Truth) → Fine LightPlaced (elim t [ True ↦ ok (record { place = i; outcome = o }) | False ↦ select sheet (i + 1) os | Unknown ↦ refused (guardUnknown i (o .name) (ascending (a .names))) ])
+      by : Fine LightPlaced (select sheet (i + 1) os) → (a : Answer) → Named a → (t : Truth) →
+          Fine LightPlaced
+          (elim t [
+            | True ↦ ok (record { place = i; outcome = o })
+            | False ↦ select sheet (i + 1) os
+            | Unknown ↦ refused
+                (guardUnknown i (o .name) (ascending (a .names)))
+          ])
       by rest a n True = fine {a = record { place = i; outcome = o }} (h .0)
       by rest a n False = rest
-      by rest a n Unknown = shown {r = guardUnknown i (o .name) (ascending (a .names))} (omega (arith, form-short (ascii "refused" ∷ decimalDigits 20 ∷ decimalDigits i ∷ quoted (o .name) ∷ names (ascending (a .names)) ∷ []), digits 20, digits i, name, names-short (a .names) n))
+      by rest a n Unknown =
+          shown {r = guardUnknown i (o .name) (ascending (a .names))}
+          (omega (
+            arith,
+            form-short
+                (ascii "refused" ∷ decimalDigits 20 ∷ decimalDigits i ∷ quoted (o .name) ∷ names (ascending (a .names)) ∷ []),
+            digits 20,
+            digits i,
+            name,
+            names-short (a .names) n,
+          ))
 
-      go : Fine LightPlaced (select sheet (i + 1) os) → (b : Bool) → Fine LightPlaced (elim b [ false ↦ select sheet (i + 1) os | true ↦ (guard sheet (o .when) >>= λ a. elim (a .truth) [ True ↦ ok (record { place = i; outcome = o }) | False ↦ select sheet (i + 1) os | Unknown ↦ refused (guardUnknown i (o .name) (ascending (a .names))) ]) ])
+      go : Fine LightPlaced (select sheet (i + 1) os) → (b : Bool) →
+          Fine LightPlaced
+          (elim b [
+            | false ↦ select sheet (i + 1) os
+            | true ↦
+                (guard sheet (o .when) >>= λ a. elim (a .truth) [
+                  | True ↦ ok (record { place = i; outcome = o })
+                  | False ↦ select sheet (i + 1) os
+                  | Unknown ↦ refused
+                      (guardUnknown i (o .name) (ascending (a .names)))
+                ])
+          ])
       go rest false = rest
       go rest true = fine-then _ (guard-fine (o .when) (h .0 .when)) λ a n. by rest a n (a .truth)
 
@@ -264,7 +358,8 @@ module _ (sheet : Sheet Condition) (k : LightSheet sheet) where
   first-light test i [] h = tt
   first-light test i (o ∷ os) h = go (first-light test (i + 1) os (h .1)) (test o)
     where
-      go : Maybe LightPlaced (firstFrom test (i + 1) os) → (b : Bool) → Maybe {A = Placed} LightPlaced (elim b [ true ↦ some (record { place = i; outcome = o }) | false ↦ firstFrom test (i + 1) os ])
+      go : Maybe LightPlaced (firstFrom test (i + 1) os) → (b : Bool) → Maybe {A = Placed} LightPlaced
+          (elim b [ true ↦ some (record { place = i; outcome = o }) | false ↦ firstFrom test (i + 1) os ])
       go rest true = h .0
       go rest false = rest
 
@@ -285,15 +380,58 @@ module _ (sheet : Sheet Condition) (k : LightSheet sheet) where
       name : length (quoted (p .outcome .name)) ≤ 98303
       name = text-light (k .written) (k .light) (l .name)
 
-      wrong : (b : Bool) (from : List Bytes) → weight from ≤ 98304 → Fine LightPlaced (elim b [ true ↦ orElse (firstFrom (λ o. o .wrongState) 0 (sheet .outcomes)) (wrongState s) | false ↦ refused (notASource (p .place) (p .outcome .name) s from) ])
-      wrong true from n = or-shown (firstFrom (λ o. o .wrongState) 0 (sheet .outcomes)) (wrongState s) (first-light (λ o. o .wrongState) 0 (sheet .outcomes) (k .has .outcomes)) (omega (arith, form-short (ascii "refused" ∷ decimalDigits 21 ∷ quoted s ∷ []), digits 21))
-      wrong false from n = shown {r = notASource (p .place) (p .outcome .name) s from} (omega (arith, form-short (ascii "refused" ∷ decimalDigits 22 ∷ decimalDigits (p .place) ∷ quoted (p .outcome .name) ∷ quoted s ∷ listed (ascii "from") from ∷ []), digits 22, digits (p .place), name, listed-short (ascii "from") from))
+      wrong : (b : Bool) (from : List Bytes) → weight from ≤ 98304 →
+          Fine LightPlaced
+          (elim b [
+            | true ↦ orElse (firstFrom (λ o. o .wrongState) 0 (sheet .outcomes)) (wrongState s)
+            | false ↦ refused
+                (notASource (p .place) (p .outcome .name) s from)
+          ])
+      wrong true from n =
+          or-shown (firstFrom (λ o. o .wrongState) 0 (sheet .outcomes)) (wrongState s)
+          (first-light (λ o. o .wrongState) 0 (sheet .outcomes) (k .has .outcomes))
+          (omega (arith, form-short (ascii "refused" ∷ decimalDigits 21 ∷ quoted s ∷ []), digits 21))
+      wrong false from n =
+          shown {r = notASource (p .place) (p .outcome .name) s from}
+          (omega (
+            arith,
+            form-short
+                (ascii "refused" ∷ decimalDigits 22 ∷ decimalDigits (p .place) ∷ quoted (p .outcome .name) ∷ quoted s ∷ listed
+                (ascii "from") from ∷ []),
+            digits 22,
+            digits (p .place),
+            name,
+            listed-short (ascii "from") from,
+          ))
 
-      moved : (b : Bool) (from : List Bytes) → weight from ≤ 98304 → Fine LightPlaced (elim b [ true ↦ ok p | false ↦ elim (isWrong (sheet .states) (sheet .outcomes) s) [ true ↦ orElse (firstFrom (λ o. o .wrongState) 0 (sheet .outcomes)) (wrongState s) | false ↦ refused (notASource (p .place) (p .outcome .name) s from) ] ])
+      moved : (b : Bool) (from : List Bytes) → weight from ≤ 98304 →
+          Fine LightPlaced
+          (elim b [
+            | true ↦ ok p
+            | false ↦ elim (isWrong (sheet .states) (sheet .outcomes) s) [
+              | true ↦ orElse (firstFrom (λ o. o .wrongState) 0 (sheet .outcomes)) (wrongState s)
+              | false ↦ refused
+                  (notASource (p .place) (p .outcome .name) s from)
+            ]
+          ])
       moved true from n = fine {a = p} l
       moved false from n = wrong (isWrong (sheet .states) (sheet .outcomes) s) from n
 
-      go : (e : Effect) → From (Light (k .written) (k .light)) (light-parts (k .written) (k .light)) (Sources (k .written) (k .light)) (its-sources (k .written) (k .light)) e → Fine LightPlaced (elim e [ stays ↦ ok p | moves to from ↦ elim (isOneOf s from) [ true ↦ ok p | false ↦ elim (isWrong (sheet .states) (sheet .outcomes) s) [ true ↦ orElse (firstFrom (λ o. o .wrongState) 0 (sheet .outcomes)) (wrongState s) | false ↦ refused (notASource (p .place) (p .outcome .name) s from) ] ] ])
+      go : (e : Effect) →
+          From (Light (k .written) (k .light)) (light-parts (k .written) (k .light)) (Sources (k .written) (k .light))
+          (its-sources (k .written) (k .light)) e →
+          Fine LightPlaced
+          (elim e [
+            | stays ↦ ok p
+            | moves to from ↦ elim (isOneOf s from) [
+              | true ↦ ok p
+              | false ↦ elim (isWrong (sheet .states) (sheet .outcomes) s) [
+                | true ↦ orElse (firstFrom (λ o. o .wrongState) 0 (sheet .outcomes)) (wrongState s)
+                | false ↦ refused
+                    (notASource (p .place) (p .outcome .name) s from)
+              ]
+            ]
+          ])
       go stays n = fine {a = p} l
       go (moves to from) n = moved (isOneOf s from) from n
 
@@ -313,14 +451,27 @@ module _ (sheet : Sheet Condition) (k : LightSheet sheet) where
 
   admitted-short : (p : Placed) → LightPlaced p → Short (admitted (p .place) (p .outcome .name))
   unfolding verdictForm
-  admitted-short p h = omega (arith, form-short (ascii "admitted" ∷ decimalDigits (p .place) ∷ quoted (p .outcome .name) ∷ []), digits (p .place), text-light (k .written) (k .light) (h .name))
+  admitted-short p h =
+      omega (
+        arith,
+        form-short (ascii "admitted" ∷ decimalDigits (p .place) ∷ quoted (p .outcome .name) ∷ []),
+        digits (p .place),
+        text-light
+            (k .written) (k .light) (h .name),
+      )
 
   verdict-fine : (x : Call) → Fine Short (verdictOf x sheet)
   unfolding evaluateCall preconditionsCall invariantsCall selectCall admitCall decideCall verdictForm
   verdict-fine calls.Evaluate =
       fine-then _ (or-shown (sheet .condition) noInput (k .has .condition) no-input) λ c h.
       fine-then _ (evaluated c h) λ a n.
-      fine {a = answered (a .truth) (ascending (a .names))} (omega (arith, form-short (ascii "truth" ∷ truthWord (a .truth) ∷ names (ascending (a .names)) ∷ []), word-short (a .truth), names-short (a .names) n))
+      fine {a = answered (a .truth) (ascending (a .names))}
+      (omega (
+        arith,
+        form-short (ascii "truth" ∷ truthWord (a .truth) ∷ names (ascending (a .names)) ∷ []),
+        word-short (a .truth),
+        names-short (a .names) n,
+      ))
     where
       word-short : (t : Truth) → length (truthWord t) ≤ 7
       word-short True = omega arith
@@ -330,7 +481,13 @@ module _ (sheet : Sheet Condition) (k : LightSheet sheet) where
   verdict-fine calls.Invariants = check-fine Rules.invariants 0 (sheet .invariants) (k .has .invariants)
   verdict-fine calls.Select =
       fine-then _ (select-fine 0 (sheet .outcomes) (k .has .outcomes)) λ p h.
-      fine {a = selected (p .place) (p .outcome .name)} (omega (arith, form-short (ascii "selected" ∷ decimalDigits (p .place) ∷ quoted (p .outcome .name) ∷ []), digits (p .place), text-light (k .written) (k .light) (h .name)))
+      fine {a = selected (p .place) (p .outcome .name)}
+      (omega (
+        arith,
+        form-short (ascii "selected" ∷ decimalDigits (p .place) ∷ quoted (p .outcome .name) ∷ []),
+        digits (p .place),
+        text-light (k .written) (k .light) (h .name),
+      ))
   verdict-fine (calls.Admit place) =
       fine-then _ (or-shown (at 0 place (sheet .outcomes)) noInput (at-light 0 place (sheet .outcomes) (k .has .outcomes)) no-input) λ p h.
       fine-then _ in-state λ s t.
@@ -344,7 +501,9 @@ module _ (sheet : Sheet Condition) (k : LightSheet sheet) where
       fine {a = admitted (q .place) (q .outcome .name)} (admitted-short q l)
 
 -- ---- what is given back
-kept-short : (n m : ℕ) (f : Bytes) → length f ≤ 294975 → (b : Bool) → lineSize (elim b [ true ↦ record { number = m; line = some (endLine f) } | false ↦ record { number = refusalNumber lineTooLong; line = none } ]) ≤ 294976
+kept-short : (n m : ℕ) (f : Bytes) → length f ≤ 294975 → (b : Bool) → lineSize
+    (elim b [ true ↦ record { number = m; line = some (endLine f) } | false ↦ record { number = refusalNumber lineTooLong; line = none } ])
+    ≤ 294976
 kept-short n m f h true = simp length-append (omega arith)
 kept-short n m f h false = omega arith
 

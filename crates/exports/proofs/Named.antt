@@ -48,7 +48,8 @@ unfolding insertName weight
 insert-heavier n [] = omega arith
 insert-heavier n (m ∷ ms) = go (orderBytes n m) (insert-heavier n ms)
   where
-    go : (o : Ordering) → weight ms ≤ weight (insertName n ms) → weight (m ∷ ms) ≤ weight (elim o [ Ordering·lt ↦ n ∷ m ∷ ms | Ordering·eq ↦ m ∷ ms | Ordering·gt ↦ m ∷ insertName n ms ])
+    go : (o : Ordering) → weight ms ≤ weight (insertName n ms) →
+        weight (m ∷ ms) ≤ weight (elim o [ Ordering·lt ↦ n ∷ m ∷ ms | Ordering·eq ↦ m ∷ ms | Ordering·gt ↦ m ∷ insertName n ms ])
     go Ordering·lt h = omega arith
     go Ordering·eq h = omega arith
     go Ordering·gt h = omega arith
@@ -58,7 +59,8 @@ unfolding insertName weight
 insert-lighter n [] = omega arith
 insert-lighter n (m ∷ ms) = go (orderBytes n m) (insert-lighter n ms)
   where
-    go : (o : Ordering) → weight (insertName n ms) ≤ weight (n ∷ ms) → weight (elim o [ Ordering·lt ↦ n ∷ m ∷ ms | Ordering·eq ↦ m ∷ ms | Ordering·gt ↦ m ∷ insertName n ms ]) ≤ weight (n ∷ m ∷ ms)
+    go : (o : Ordering) → weight (insertName n ms) ≤ weight (n ∷ ms) →
+        weight (elim o [ Ordering·lt ↦ n ∷ m ∷ ms | Ordering·eq ↦ m ∷ ms | Ordering·gt ↦ m ∷ insertName n ms ]) ≤ weight (n ∷ m ∷ ms)
     go Ordering·lt h = omega arith
     go Ordering·eq h = omega arith
     go Ordering·gt h = omega arith
@@ -209,7 +211,14 @@ module _ (ts : List Bytes) (light : weight ts ≤ 98304) where
     unfolding resolveText
     text-fine env s h = go (readText s) refl
       where
-        go : (w : Written) → readText s ≡ w → Fine (Missed {A = Value}) (elim w [ plain ↦ ok (present (text s)) | escaped t ↦ ok (present (text t)) | expression e ↦ (gives sem sheet env e >>= λ g. ok (observed e g)) ])
+        go : (w : Written) → readText s ≡ w →
+            Fine (Missed {A = Value})
+            (elim w [
+              | plain ↦ ok (present (text s))
+              | escaped t ↦ ok (present (text t))
+              | expression e ↦
+                  (gives sem sheet env e >>= λ g. ok (observed e g))
+            ])
         go plain q = fine tt
         go (escaped t) q = fine tt
         go (expression e) q =
@@ -266,7 +275,8 @@ module _ (ts : List Bytes) (light : weight ts ≤ 98304) where
     each-fine m body [] h = fine among-nothing
     each-fine m body (v ∷ vs) h = fine-then _ (h v) λ a k. go a k (each-fine m body vs h) (settles m (a .truth))
       where
-        go : (a : Answer) → NamesAmong a → Fine NamesAmong (each m body vs) → (b : Bool) → Fine NamesAmong (elim b [ true ↦ ok a | false ↦ (each m body vs >>= λ b. ok (joined m a b)) ])
+        go : (a : Answer) → NamesAmong a → Fine NamesAmong (each m body vs) → (b : Bool) →
+            Fine NamesAmong (elim b [ true ↦ ok a | false ↦ (each m body vs >>= λ b. ok (joined m a b)) ])
         go a k rest true = fine k
         go a k rest false = fine-then _ rest λ b l. fine (among-both {ms = a .names} {ns = b .names} k l)
 

@@ -13,7 +13,31 @@ use Rattle.json.specs.Fault as fault
 use Rattle.json.specs.Fault.{FirstFault, StandsAt}
 use Rattle.json.specs.Json.{Members, Value, Values, array, asText, bool, cons, elements, empty, entries, keys, member, nil, null, number, object, text}
 use Rattle.json.specs.Refusal.{Refusal, Result, notCarried, ok, orElse, refused, wrongShape, wrongSheet, _>>=_}
-use Rattle.members.specs.Condition.{Condition, Conditions, Form, Mode, Operator, condition, conditionArray, conditionObject, conditionsIn, conditionsOf, formed, oneMember, opExists, opJunction, opNegation, opNotCarried, opPair, opQuantified, operators, pair, quantified, quantifier, twoOf}
+use Rattle.members.specs.Condition.{
+  Condition,
+  Conditions,
+  Form,
+  Mode,
+  Operator,
+  condition,
+  conditionArray,
+  conditionObject,
+  conditionsIn,
+  conditionsOf,
+  formed,
+  oneMember,
+  opExists,
+  opJunction,
+  opNegation,
+  opNotCarried,
+  opPair,
+  opQuantified,
+  operators,
+  pair,
+  quantified,
+  quantifier,
+  twoOf,
+}
 use Rattle.members.specs.Kinds.{aBool, aText, aVersion, anArrayOf, anObject, eachOf, isVersion, only, optional, required, someTexts}
 use Rattle.members.specs.Outcome.{Effect, Outcome, aMove, anEffect, anOutcome, effectWords, moves, orStays, stays}
 use Rattle.members.specs.Rule.{Rule, aRule}
@@ -93,7 +117,8 @@ module _ (P : Value → Type 0) (parts : Hereditary P) where
   unfolding quantifier Operands
   quantifier-fine m ps h = go (eqb (length ps) 3)
     where
-      parted : (over bind body : Value × Result Condition) → Sub over → Sub body → Fine (Operands P) (orElse (asText (bind .0)) wrongShape >>= λ name. (body .1 >>= λ c. ok (quantified m (over .0) name c)))
+      parted : (over bind body : Value × Result Condition) → Sub over → Sub body →
+          Fine (Operands P) (orElse (asText (bind .0)) wrongShape >>= λ name. (body .1 >>= λ c. ok (quantified m (over .0) name c)))
       parted over bind body h₁ h₃ =
           fine-then _ (any-shape (asText (bind .0))) λ name _.
           fine-then _ (h₃ .1) λ c k.
@@ -102,7 +127,16 @@ module _ (P : Value → Type 0) (parts : Hereditary P) where
       found : (k : Bytes) → Fine Sub (orElse (find k ps) wrongShape)
       found k = or-shape Sub (find k ps) (maybe-found Sub k ps h)
 
-      go : (b : Bool) → Fine (Operands P) (elim b [ false ↦ refused wrongShape | true ↦ (orElse (find (ascii "in") ps) wrongShape >>= λ over. (orElse (find (ascii "as") ps) wrongShape >>= λ bind. (orElse (find (ascii "that") ps) wrongShape >>= λ body. (orElse (asText (bind .0)) wrongShape >>= λ name. (body .1 >>= λ c. ok (quantified m (over .0) name c)))))) ])
+      go : (b : Bool) →
+          Fine (Operands P)
+          (elim b [
+            | false ↦ refused wrongShape
+            | true ↦
+                (orElse (find (ascii "in") ps) wrongShape >>= λ over.
+                (orElse (find (ascii "as") ps) wrongShape >>= λ bind.
+                (orElse (find (ascii "that") ps) wrongShape >>= λ body.
+                (orElse (asText (bind .0)) wrongShape >>= λ name. (body .1 >>= λ c. ok (quantified m (over .0) name c))))))
+          ])
       go false = not-shape
       go true =
           fine-then _ (found (ascii "in")) λ over h₁.
@@ -110,7 +144,10 @@ module _ (P : Value → Type 0) (parts : Hereditary P) where
           fine-then _ (found (ascii "that")) λ body h₃.
           parted over bind body h₁ h₃
 
-  formed-fine : (v : Value) (one : Result Condition) (several : Result Conditions) (ps : Result (List (Bytes × (Value × Result Condition)))) → P v → Fine (Operands P) one → Fine (OperandsIn P) several → Fine (Entries Sub) ps → (x : Option Operator) → Fine (Operands P) (formed v one several ps x)
+  formed-fine :
+      (v : Value) (one : Result Condition) (several : Result Conditions) (ps : Result (List (Bytes × (Value × Result Condition)))) → P v →
+      Fine (Operands P) one → Fine (OperandsIn P) several → Fine (Entries Sub) ps → (x : Option Operator) →
+      Fine (Operands P) (formed v one several ps x)
   unfolding Operands
   formed-fine v one several ps h k l n none = not-shape
   formed-fine v one several ps h k l n (some (opJunction m)) = fine-then _ l λ cs j. fine j
@@ -134,7 +171,9 @@ module _ (P : Value → Type 0) (parts : Hereditary P) where
     member-fine : (ms : Members) → Entries P (entries ms) → Fine (Operands P) (oneMember ms)
     member-fine empty h = not-shape
     member-fine (member k v (member l w ms)) h = not-shape
-    member-fine (member k v empty) h = formed-fine v (condition v) (conditionArray v) (conditionObject v) (h .0) (condition-fine v (h .0)) (array-fine v (h .0)) (object-fine v (h .0)) (find k operators)
+    member-fine (member k v empty) h =
+        formed-fine v (condition v) (conditionArray v) (conditionObject v) (h .0) (condition-fine v (h .0)) (array-fine v (h .0))
+        (object-fine v (h .0)) (find k operators)
 
     array-fine : (v : Value) → P v → Fine (OperandsIn P) (conditionArray v)
     array-fine null h = not-shape
@@ -261,7 +300,13 @@ module _ (P : Value → Type 0) (parts : Hereditary P) where
     unfolding anEffect
     effect-of v h = go (asText v)
       where
-        go : (x : Option Bytes) → Fine From (elim x [ some s ↦ orElse (find s effectWords) wrongSheet | none ↦ (anObject v >>= λ ms. (only (ascii "moves" ∷ []) (keys ms) >>= λ _. required aMove (ascii "moves") ms)) ])
+        go : (x : Option Bytes) →
+            Fine From
+            (elim x [
+              | some s ↦ orElse (find s effectWords) wrongSheet
+              | none ↦
+                  (anObject v >>= λ ms. (only (ascii "moves" ∷ []) (keys ms) >>= λ _. required aMove (ascii "moves") ms))
+            ])
         go (some s) = or-sheet From (find s effectWords) (maybe-found From s effectWords (tt, (tt, (tt, tt))))
         go none =
             fine-then _ (object-of v h) λ ms k.

@@ -63,7 +63,9 @@ byte-short c = go (eqb c 34) (eqb c 92) (ltb c 32)
 unescaped-short : (c : ℕ) → isUnescaped c ≡ true → length (quotedByte c) ≤ 3
 unescaped-short c h = go (eqb c 34) (eqb c 92) (ltb c 32) refl
   where
-    go : (q b l : Bool) → ltb c 32 ≡ l → length (choose ((q, 92 ∷ 34 ∷ []) ∷ (b, 92 ∷ 92 ∷ []) ∷ (l, ascii "\\u00" ++ (hexOf (c / 16) ∷ hexOf (c % 16) ∷ [])) ∷ []) (c ∷ [])) ≤ 3
+    go : (q b l : Bool) → ltb c 32 ≡ l →
+        length (choose ((q, 92 ∷ 34 ∷ []) ∷ (b, 92 ∷ 92 ∷ []) ∷ (l, ascii "\\u00" ++ (hexOf (c / 16) ∷ hexOf (c % 16) ∷ [])) ∷ []) (c ∷ []))
+        ≤ 3
     go true b l e = omega arith
     go false true l e = omega arith
     go false false true e = omega (arith, ltb-true c 32 e, leb-true 32 c (both-true (leb 32 c) _ h .0))
@@ -72,7 +74,9 @@ unescaped-short c h = go (eqb c 34) (eqb c 92) (ltb c 32) refl
 high-short : (c : ℕ) → 128 ≤ c → length (quotedByte c) ≤ 1
 high-short c h = go (eqb c 34) (eqb c 92) (ltb c 32) refl refl refl
   where
-    go : (q b l : Bool) → eqb c 34 ≡ q → eqb c 92 ≡ b → ltb c 32 ≡ l → length (choose ((q, 92 ∷ 34 ∷ []) ∷ (b, 92 ∷ 92 ∷ []) ∷ (l, ascii "\\u00" ++ (hexOf (c / 16) ∷ hexOf (c % 16) ∷ [])) ∷ []) (c ∷ [])) ≤ 1
+    go : (q b l : Bool) → eqb c 34 ≡ q → eqb c 92 ≡ b → ltb c 32 ≡ l →
+        length (choose ((q, 92 ∷ 34 ∷ []) ∷ (b, 92 ∷ 92 ∷ []) ∷ (l, ascii "\\u00" ++ (hexOf (c / 16) ∷ hexOf (c % 16) ∷ [])) ∷ []) (c ∷ []))
+        ≤ 1
     go true b l e f g = omega (arith, eqb-true c 34 e)
     go false true l e f g = omega (arith, eqb-true c 92 f)
     go false false true e f g = omega (arith, ltb-true c 32 g)
@@ -83,11 +87,26 @@ encode-short : (u : ℕ) (z : Bytes) → length (quotedBytes (encode u ++ z)) �
 unfolding encode quotedBytes
 encode-short u z = go (ltb u 128) (ltb u 2048) (ltb u 65536)
   where
-    go : (a b c : Bool) → length (quotedBytes (choose ((a, u ∷ []) ∷ (b, (192 + u / 64) ∷ (128 + u % 64) ∷ []) ∷ (c, (224 + u / 4096) ∷ (128 + u / 64 % 64) ∷ (128 + u % 64) ∷ []) ∷ []) ((240 + u / 262144) ∷ (128 + u / 4096 % 64) ∷ (128 + u / 64 % 64) ∷ (128 + u % 64) ∷ []) ++ z)) ≤ 6 + length (quotedBytes z)
+    go : (a b c : Bool) →
+        length
+        (quotedBytes
+        (choose
+        ((a, u ∷ []) ∷ (b, (192 + u / 64) ∷ (128 + u % 64) ∷ []) ∷
+        (c, (224 + u / 4096) ∷ (128 + u / 64 % 64) ∷ (128 + u % 64) ∷ []) ∷ [])
+        ((240 + u / 262144) ∷ (128 + u / 4096 % 64) ∷ (128 + u / 64 % 64) ∷ (128 + u % 64) ∷ []) ++ z)) ≤ 6 + length (quotedBytes z)
     go true b c = simp length-append (omega (arith, byte-short u))
     go false true c = simp length-append (omega (arith, high-short (192 + u / 64) (omega arith), high-short (128 + u % 64) (omega arith)))
     go false false true = simp length-append (omega (arith, high-short (224 + u / 4096) (omega arith), high-short (128 + u / 64 % 64) (omega arith), high-short (128 + u % 64) (omega arith)))
-    go false false false = simp length-append (omega (arith, high-short (240 + u / 262144) (omega arith), high-short (128 + u / 4096 % 64) (omega arith), high-short (128 + u / 64 % 64) (omega arith), high-short (128 + u % 64) (omega arith)))
+    go false false false =
+        simp length-append
+        (omega (
+          arith,
+          high-short (240 + u / 262144) (omega arith),
+          high-short (128 + u / 4096 % 64) (omega arith),
+          high-short
+              (128 + u / 64 % 64) (omega arith),
+          high-short (128 + u % 64) (omega arith),
+        ))
 
 -- lengths of what the rules pass over
 ws-length : {s r : Bytes} → Ws s r → length r ≤ length s
@@ -106,7 +125,8 @@ escape-short : {y s t : Bytes} → Escape y s t → (z : Bytes) → length (quot
 unfolding quotedBytes
 escape-short (Escape.simple {d = d} e) z = simp length-append (omega (arith, byte-short d))
 escape-short (Escape.unit {u = u} e h b q) z = rw q (omega (arith, encode-short u z, hex-length h))
-escape-short (Escape.pair {high = high} {low = low} {t = t} {u = u} e h b q g c p) z = rw p (omega (arith, encode-short (65536 + (high - 55296) * 1024 + (low - 56320)) z, hex-length h, hex-length g, ap length q))
+escape-short (Escape.pair {high = high} {low = low} {t = t} {u = u} e h b q g c p) z =
+    rw p (omega (arith, encode-short (65536 + (high - 55296) * 1024 + (low - 56320)) z, hex-length h, hex-length g, ap length q))
 
 chars-short : {x s r : Bytes} → Chars x s r → length (quotedBytes x) + 3 * length r ≤ 3 * length s
 unfolding quotedBytes
@@ -140,11 +160,21 @@ mutual
 
   members-short : {ms : Members} {s r : Bytes} → MembersOf ms s r → weight (textsOf ms) + 3 * length r ≤ 3 * length s
   members-short MembersOf.noMember = omega arith
-  members-short (MembersOf.members {v = v} {ms = ms} n a h k) = omega (arith, weight-append (texts v) (textsOf ms), string-short n, structural-length a, spelled-short h, more-members-short k)
+  members-short (MembersOf.members {v = v} {ms = ms} n a h k) =
+      omega (arith, weight-append (texts v) (textsOf ms), string-short n, structural-length a, spelled-short h, more-members-short k)
 
   more-members-short : {ms : Members} {s r : Bytes} → MoreMembers ms s r → weight (textsOf ms) + 3 * length r ≤ 3 * length s
   more-members-short MoreMembers.lastMember = omega arith
-  more-members-short (MoreMembers.nextMember {v = v} {ms = ms} a n b h k) = omega (arith, weight-append (texts v) (textsOf ms), structural-length a, string-short n, structural-length b, spelled-short h, more-members-short k)
+  more-members-short (MoreMembers.nextMember {v = v} {ms = ms} a n b h k) =
+      omega (
+        arith,
+        weight-append (texts v) (textsOf ms),
+        structural-length a,
+        string-short n,
+        structural-length b,
+        spelled-short h,
+        more-members-short k,
+      )
 
 -- sorting adds no text
 insert-light : (k : Bytes) (v : Value) (ms : Members) → weight (textsOf (insert k v ms)) ≤ weight (texts v) + weight (textsOf ms)
@@ -152,7 +182,8 @@ unfolding texts weight orderBytes
 insert-light k v empty = omega (arith, weight-append (texts v) [])
 insert-light k v (member l w ms) = go (insert-light k v ms) (orderBytes k l) refl
   where
-    go : weight (textsOf (insert k v ms)) ≤ weight (texts v) + weight (textsOf ms) → (o : Ordering) → orderBytes k l ≡ o → weight (textsOf (insert k v (member l w ms))) ≤ weight (texts v) + weight (textsOf (member l w ms))
+    go : weight (textsOf (insert k v ms)) ≤ weight (texts v) + weight (textsOf ms) → (o : Ordering) → orderBytes k l ≡ o →
+        weight (textsOf (insert k v (member l w ms))) ≤ weight (texts v) + weight (textsOf (member l w ms))
     go rest Ordering·lt q = rw (q, insert) (omega (arith, weight-append (texts v) (textsOf (member l w ms))))
     go rest Ordering·eq q = rw (q, insert) (omega arith)
     go rest Ordering·gt q = rw (q, insert) (omega (arith, weight-append (texts w) (textsOf (insert k v ms)), weight-append (texts w) (textsOf ms)))

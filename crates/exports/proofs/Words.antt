@@ -41,7 +41,9 @@ pub decide-small : (s : Bytes) (words size : ℕ) → decide s words size .numbe
 unfolding decide
 decide-small s words size = call-small decideCall s words size
 
-pub exported : {answer : Reply} {w w′ : List ℕ} {o o′ : Bytes} {r : Sent} {n : ℕ} → Called answer w w′ o o′ r → n ≡ wordOf (r .number) (r .size) → Exported answer w w′ o o′ n
+pub exported :
+    {answer : Reply} {w w′ : List ℕ} {o o′ : Bytes} {r : Sent} {n : ℕ} → Called answer w w′ o o′ r → n ≡ wordOf (r .number) (r .size) →
+    Exported answer w w′ o o′ n
 exported c e = record { word = rw (← c .isNumber, ← c .isSize) e; short = rw (← c .isSize) (c .short); output = c .output; work = c .work }
 
 -- what a caller reads off the word

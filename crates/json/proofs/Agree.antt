@@ -121,14 +121,19 @@ pub data Rel (A B : Type 0) (R : A → B → Type 0) : Result A → Result B →
   both : {a : A} {b : B} → R a b → Rel A B R (ok a) (ok b)
   neitherOf : (r : Refusal) → Rel A B R (refused r) (refused r)
 
-pub rel-bind : {A B C D : Type 0} {R : A → B → Type 0} {S : C → D → Type 0} {x : Result A} {y : Result B} {f : A → Result C} {g : B → Result D} → Rel A B R x y → ((a : A) (b : B) → R a b → Rel C D S (f a) (g b)) → Rel C D S (x >>= f) (y >>= g)
+pub rel-bind :
+    {A B C D : Type 0} {R : A → B → Type 0} {S : C → D → Type 0} {x : Result A} {y : Result B} {f : A → Result C} {g : B → Result D} →
+    Rel A B R x y → ((a : A) (b : B) → R a b → Rel C D S (f a) (g b)) → Rel C D S (x >>= f) (y >>= g)
 rel-bind (both {a} {b} h) k = k a b h
 rel-bind (neitherOf r) k = neitherOf r
 
 -- ---- bytes, words, texts and numbers
-byte-agrees : (c : ℕ) (s : Bytes) (at : ℕ) (t : Bytes) → t ≡ drop at s → at ≤ length s → eqb c 0 ≡ false → Rel Bytes ℕ (λ r p. Behind s (at + 1) r p × (p ≡ at + 1)) (expect c t) (Placing.byteAt c s at)
+byte-agrees : (c : ℕ) (s : Bytes) (at : ℕ) (t : Bytes) → t ≡ drop at s → at ≤ length s → eqb c 0 ≡ false →
+    Rel Bytes ℕ (λ r p. Behind s (at + 1) r p × (p ≡ at + 1)) (expect c t) (Placing.byteAt c s at)
 unfolding expect Placing.byteAt
-byte-agrees c s at t e h z = subst (λ (x : Bytes). Rel Bytes ℕ (λ r p. Behind s (at + 1) r p × (p ≡ at + 1)) (expect c x) (Placing.byteAt c s at)) (sym e) (go (drop at s) (getD s at 0) (at-view s at))
+byte-agrees c s at t e h z =
+    subst (λ (x : Bytes). Rel Bytes ℕ (λ r p. Behind s (at + 1) r p × (p ≡ at + 1)) (expect c x) (Placing.byteAt c s at)) (sym e)
+    (go (drop at s) (getD s at 0) (at-view s at))
   where
     test : ℕ → Result ℕ
     test d = elim (eqb c d) [ true ↦ ok (at + 1) | false ↦ refused notJson ]
@@ -142,13 +147,16 @@ byte-agrees c s at t e h z = subst (λ (x : Bytes). Rel Bytes ℕ (λ r p. Behin
     go x d (outside l) = rw (z, expect, test) (neitherOf notJson)
 
 -- a scan that gives a rest, and the same by place
-scan-agrees : {A : Type 0} (s : Bytes) (at : ℕ) (x : Result A) (f : A → Bytes) (R : A → ℕ → Type 0) → ((a : A) → x ≡ ok a → R a (Placing.placeOf s (f a))) → Rel A ℕ R x (x >>= λ a. ok (Placing.placeOf s (f a)))
+scan-agrees : {A : Type 0} (s : Bytes) (at : ℕ) (x : Result A) (f : A → Bytes) (R : A → ℕ → Type 0) →
+    ((a : A) → x ≡ ok a → R a (Placing.placeOf s (f a))) → Rel A ℕ R x (x >>= λ a. ok (Placing.placeOf s (f a)))
 scan-agrees s at (ok a) f R h = both (h a refl)
 scan-agrees s at (refused r) f R h = neitherOf r
 
-word-agrees : (w s : Bytes) (at : ℕ) (t : Bytes) → 1 ≤ length w → t ≡ drop at s → at ≤ length s → Rel Bytes ℕ (λ r p. Behind s (at + 1) r p) (word w t) (Placing.wordAt w s at)
+word-agrees : (w s : Bytes) (at : ℕ) (t : Bytes) → 1 ≤ length w → t ≡ drop at s → at ≤ length s →
+    Rel Bytes ℕ (λ r p. Behind s (at + 1) r p) (word w t) (Placing.wordAt w s at)
 unfolding Placing.wordAt
-word-agrees w s at t k e h = subst (λ (x : Bytes). Rel Bytes ℕ (λ r p. Behind s (at + 1) r p) (word w x) (Placing.wordAt w s at)) (sym e) (scan-agrees s at (word w (drop at s)) (λ r. r) (λ r p. Behind s (at + 1) r p) λ r q.
+word-agrees w s at t k e h = subst (λ (x : Bytes). Rel Bytes ℕ (λ r p. Behind s (at + 1) r p) (word w x) (Placing.wordAt w s at)) (sym
+    e) (scan-agrees s at (word w (drop at s)) (λ r. r) (λ r p. Behind s (at + 1) r p) λ r q.
     let f = word-sound w (drop at s) r q in
     placed s at 1 (drop at s) r refl h (tail-is f (append-tail w r)) (omega (arith, ap length f, length-append w r)))
 
@@ -160,7 +168,8 @@ pub record TextRead (s : Bytes) (at : ℕ) (x : Read Bytes) (p : ℕ) : Type 0 w
 
 chars-agrees : (s : Bytes) (at : ℕ) (t : Bytes) → t ≡ drop at s → at ≤ length s → Rel (Read Bytes) ℕ (TextRead s at) (chars (length t) t) (Placing.charsAt s at)
 unfolding Placing.charsAt Spans.textAt
-chars-agrees s at t e h = subst (λ (x : Bytes). Rel (Read Bytes) ℕ (TextRead s at) (chars (length x) x) (Placing.charsAt s at)) (sym e) (scan-agrees s at (chars (length (drop at s)) (drop at s)) (λ x. x .rest) (TextRead s at) λ x q.
+chars-agrees s at t e h = subst (λ (x : Bytes). Rel (Read Bytes) ℕ (TextRead s at) (chars (length x) x) (Placing.charsAt s at)) (sym e)
+    (scan-agrees s at (chars (length (drop at s)) (drop at s)) (λ x. x .rest) (TextRead s at) λ x q.
     let f = chars-sound (length (drop at s)) (drop at s) x q in
     let b = placed s at 1 (drop at s) (x .rest) refl h (chars-tail f) (chars-short f) in
     let z : Placing.placeOf s (x .rest) - 1 + 1 ≡ Placing.placeOf s (x .rest) = omega (arith, b .past) in
@@ -181,11 +190,15 @@ pub record NumberRead (s : Bytes) (at c : ℕ) (x : Read Bytes) (p : ℕ) : Type
   pub behind : Behind s (at + 1) (x .rest) p
   pub fits : Numeral s at p
 
-digits-agrees : (s : Bytes) (at c : ℕ) → drop at s ≡ c ∷ drop (at + 1) s → at < length s → c ≡ getD s at 0 → Rel (Read Bytes) ℕ (NumberRead s at c) (digits (Numerals.first c) (Limits.maxNumber - 1) (drop (at + 1) s)) (Placing.digitsAt s at)
+digits-agrees : (s : Bytes) (at c : ℕ) → drop at s ≡ c ∷ drop (at + 1) s → at < length s → c ≡ getD s at 0 →
+    Rel (Read Bytes) ℕ (NumberRead s at c) (digits (Numerals.first c) (Limits.maxNumber - 1) (drop (at + 1) s)) (Placing.digitsAt s at)
 unfolding Placing.digitsAt
-digits-agrees s at c v h q = subst (λ (y : ℕ). Rel (Read Bytes) ℕ (NumberRead s at c) (digits (Numerals.first y) (Limits.maxNumber - 1) (drop (at + 1) s)) (Placing.digitsAt s at)) (sym q) (scan-agrees s at (digits (Numerals.first (getD s at 0)) (Limits.maxNumber - 1) (drop (at + 1) s)) (λ x. x .rest) (NumberRead s at c) λ x i.
+digits-agrees s at c v h q = subst (λ (y : ℕ). Rel (Read Bytes) ℕ (NumberRead s at c) (digits (Numerals.first y) (Limits.maxNumber - 1)
+    (drop (at + 1) s)) (Placing.digitsAt s at)) (sym q) (scan-agrees s at (digits (Numerals.first (getD s at 0)) (Limits.maxNumber - 1)
+    (drop (at + 1) s)) (λ x. x .rest) (NumberRead s at c) λ x i.
     let f = digits-sound (Numerals.first (getD s at 0)) (Limits.maxNumber - 1) (drop (at + 1) s) x i in
-    let b = placed s (at + 1) 0 (drop (at + 1) s) (x .rest) refl (omega arith) (tail-is (f .chars) (append-tail (x .got) (x .rest))) (omega (arith, ap length (f .chars), length-append (x .got) (x .rest))) in
+    let b = placed s (at + 1) 0 (drop (at + 1) s) (x .rest) refl (omega arith) (tail-is (f .chars) (append-tail (x .got) (x .rest)))
+    (omega (arith, ap length (f .chars), length-append (x .got) (x .rest))) in
     record {
       decoded = sym (slice-is s at (Placing.placeOf s (x .rest)) (c ∷ x .got) (x .rest) (v ∙ ap {B = Bytes} (λ z. c ∷ z) (f .chars)) (omega arith) (long x (f .chars)));
       behind = record { rest = b .rest; past = omega (arith, b .past); upto = b .upto };
@@ -290,16 +303,26 @@ module _ (s : Bytes) (left : ℕ) (val : Reader.Parser Value) (vat : Placer Node
             refused notJson
       ]
 
-  items-agree : (f n at : ℕ) (t : Bytes) → t ≡ drop at s → at ≤ length s → Rel (Parsed Values) (Placed Nodes) (ItemsAgree s left n at) (Reader.items val f n t) (Placing.itemsAt s vat f n at)
+  items-agree : (f n at : ℕ) (t : Bytes) → t ≡ drop at s → at ≤ length s →
+      Rel (Parsed Values) (Placed Nodes) (ItemsAgree s left n at) (Reader.items val f n t) (Placing.itemsAt s vat f n at)
   unfolding Reader.items Placing.itemsAt eraseIn sizeIn deepIn
   items-agree zero n at t e h = neitherOf notJson
   items-agree (suc f) n at t e h = rel-bind (agrees n at t e h) λ v p r. after (λ m a u i j. items-agree f m a u i j) v p r
     where
       Below : Type 0
-      Below = (m a : ℕ) (u : Bytes) → u ≡ drop a s → a ≤ length s → Rel (Parsed Values) (Placed Nodes) (ItemsAgree s left m a) (Reader.items val f m u) (Placing.itemsAt s vat f m a)
+      Below =
+          (m a : ℕ) (u : Bytes) → u ≡
+          drop a s → a ≤ length s → Rel (Parsed Values) (Placed Nodes) (ItemsAgree s left m a) (Reader.items val f m u)
+          (Placing.itemsAt s vat f m a)
 
-      after : Below → (v : Parsed Value) (p : Placed Node) → ValueAgrees s left n at v p → Rel (Parsed Values) (Placed Nodes) (ItemsAgree s left n at) (AfterItem f v (Reader.next 93 (v .rest))) (AfterItemAt f p (Placing.sep 93 (getD s (skipAt s (p .place)) 0)))
-      after below v p r = subst (λ (x : Bytes). Rel (Parsed Values) (Placed Nodes) (ItemsAgree s left n at) (AfterItem f v (Reader.next 93 x)) (AfterItemAt f p (Placing.sep 93 (getD s k 0)))) (sym (r .rest ∙ b .rest)) (go (Reader.next 93 (drop k s)) (Placing.sep 93 (getD s k 0)) (sep-view 93 s k refl))
+      after : Below → (v : Parsed Value) (p : Placed Node) → ValueAgrees s left n at v p →
+          Rel (Parsed Values) (Placed Nodes) (ItemsAgree s left n at) (AfterItem f v (Reader.next 93 (v .rest)))
+          (AfterItemAt f p (Placing.sep 93 (getD s (skipAt s (p .place)) 0)))
+      after below v p r =
+          subst
+          (λ (x : Bytes). Rel (Parsed Values) (Placed Nodes) (ItemsAgree s left n at) (AfterItem f v (Reader.next 93 x))
+          (AfterItemAt f p (Placing.sep 93 (getD s k 0)))) (sym (r .rest ∙ b .rest))
+          (go (Reader.next 93 (drop k s)) (Placing.sep 93 (getD s k 0)) (sep-view 93 s k refl))
         where
           k : ℕ
           k = skipAt s (p .place)
@@ -310,7 +333,11 @@ module _ (s : Bytes) (left : ℕ) (val : Reader.Parser Value) (vat : Placer Node
           go : (x : Reader.Next) (y : Placing.Sep) → SepView s k x y → Rel (Parsed Values) (Placed Nodes) (ItemsAgree s left n at) (AfterItem f v x) (AfterItemAt f p y)
           go x y (goes l) =
               let d = skip-at s (k + 1) (drop (k + 1) s) refl (omega arith) in
-              rel-bind (subst (λ (m : ℕ). Rel (Parsed Values) (Placed Nodes) (ItemsAgree s left (p .count) (skipAt s (k + 1))) (Reader.items val f m (skip (drop (k + 1) s))) (Placing.itemsAt s vat f (p .count) (skipAt s (k + 1)))) (sym (r .count)) (below (p .count) (skipAt s (k + 1)) (skip (drop (k + 1) s)) (d .rest) (d .upto))) λ vs ps q.
+              rel-bind
+              (subst
+              (λ (m : ℕ). Rel (Parsed Values) (Placed Nodes) (ItemsAgree s left (p .count) (skipAt s (k + 1)))
+              (Reader.items val f m (skip (drop (k + 1) s))) (Placing.itemsAt s vat f (p .count) (skipAt s (k + 1))))
+              (sym (r .count)) (below (p .count) (skipAt s (k + 1)) (skip (drop (k + 1) s)) (d .rest) (d .upto))) λ vs ps q.
               both
               {a = record { tree = cons (v .tree) (vs .tree); rest = vs .rest; count = vs .count }}
               {b = record { tree = node (p .tree) (ps .tree); place = ps .place; count = ps .count }}
@@ -359,7 +386,8 @@ module _ (s : Bytes) (left : ℕ) (val : Reader.Parser Value) (vat : Placer Node
       elim
       x [
         | Placing.goesOn ↦
-            (Placing.fieldsAt s vat f (textAt s a ∷ names) (v .count) (skipAt s (skipAt s (v .place) + 1)) >>= λ fs. ok (record { tree = field a (e - 1) (v .tree) (fs .tree); place = fs .place; count = fs .count }))
+            (Placing.fieldsAt s vat f (textAt s a ∷ names) (v .count) (skipAt s (skipAt s (v .place) + 1)) >>= λ fs. ok
+            (record { tree = field a (e - 1) (v .tree) (fs .tree); place = fs .place; count = fs .count }))
         | Placing.ends ↦
             ok (record { tree = field a (e - 1) (v .tree) noField; place = skipAt s (v .place) + 1; count = v .count })
         | Placing.neither ↦
@@ -381,7 +409,8 @@ module _ (s : Bytes) (left : ℕ) (val : Reader.Parser Value) (vat : Placer Node
       go true q = rw (q, Reader.newName) (neitherOf repeatedName)
       go false q = rw (q, Reader.newName) (both refl)
 
-  fields-agree : (f : ℕ) (names : List Bytes) (n at : ℕ) (t : Bytes) → t ≡ drop at s → at ≤ length s → Rel (Parsed Members) (Placed Fields) (FieldsAgree s left n at) (Reader.fields val f names n t) (Placing.fieldsAt s vat f names n at)
+  fields-agree : (f : ℕ) (names : List Bytes) (n at : ℕ) (t : Bytes) → t ≡ drop at s → at ≤ length s →
+      Rel (Parsed Members) (Placed Fields) (FieldsAgree s left n at) (Reader.fields val f names n t) (Placing.fieldsAt s vat f names n at)
   unfolding Reader.fields Placing.fieldsAt eraseOf sizeOf deepOf
   fields-agree zero names n at t e h = neitherOf notJson
   fields-agree (suc f) names n at t e h =
@@ -392,14 +421,29 @@ module _ (s : Bytes) (left : ℕ) (val : Reader.Parser Value) (vat : Placer Node
       let b4 = skip-at s p t4 (r4 ∙ r3 .behind .rest) (r3 .behind .upto) in
       rel-bind (byte-agrees 58 s (skipAt s p) (skip t4) (b4 .rest) (b4 .upto) refl) λ t5 u r5.
       let b5 = skip-at s u t5 (r5 .0 .rest) (r5 .0 .upto) in
-      rel-bind (subst (λ (i : ℕ). Rel (Parsed Value) (Placed Node) (ValueAgrees s left m′ (skipAt s u)) (val i (skip t5)) (vat m′ (skipAt s u))) (sym (r2 .0)) (agrees m′ (skipAt s u) (skip t5) (b5 .rest) (b5 .upto))) λ v q r6.
-      after (λ ns j o x i l. fields-agree f ns j o x i l) a p (k .got) (r3 .decoded) (r3 .fits) v q m′ (skipAt s u) (r2 .1) (omega (arith, r1 .1, r3 .behind .past, b4 .past, r5 .0 .past, b5 .past)) r6
+      rel-bind
+      (subst
+      (λ (i : ℕ). Rel (Parsed Value) (Placed Node) (ValueAgrees s left m′ (skipAt s u)) (val i (skip t5)) (vat m′ (skipAt s u)))
+      (sym (r2 .0)) (agrees m′ (skipAt s u) (skip t5) (b5 .rest) (b5 .upto))) λ v q r6.
+      after (λ ns j o x i l. fields-agree f ns j o x i l) a p (k .got) (r3 .decoded) (r3 .fits) v q m′ (skipAt s u) (r2 .1)
+      (omega (arith, r1 .1, r3 .behind .past, b4 .past, r5 .0 .past, b5 .past)) r6
     where
       Below : Type 0
-      Below = (ns : List Bytes) (j o : ℕ) (x : Bytes) → x ≡ drop o s → o ≤ length s → Rel (Parsed Members) (Placed Fields) (FieldsAgree s left j o) (Reader.fields val f ns j x) (Placing.fieldsAt s vat f ns j o)
+      Below =
+          (ns : List Bytes) (j o : ℕ) (x : Bytes) → x ≡
+          drop o s → o ≤ length s → Rel (Parsed Members) (Placed Fields) (FieldsAgree s left j o) (Reader.fields val f ns j x)
+          (Placing.fieldsAt s vat f ns j o)
 
-      after : Below → (a e : ℕ) (key : Bytes) → key ≡ textAt s a → Text s a (e - 1) → (v : Parsed Value) (p : Placed Node) (m o : ℕ) → m ≡ n + 1 → at < o → ValueAgrees s left m o v p → Rel (Parsed Members) (Placed Fields) (FieldsAgree s left n at) (AfterField f names key v (Reader.next 125 (v .rest))) (AfterFieldAt f names a e p (Placing.sep 125 (getD s (skipAt s (p .place)) 0)))
-      after below a e key isKey isText v p m o isM isO r = subst (λ (x : Bytes). Rel (Parsed Members) (Placed Fields) (FieldsAgree s left n at) (AfterField f names key v (Reader.next 125 x)) (AfterFieldAt f names a e p (Placing.sep 125 (getD s k 0)))) (sym (r .rest ∙ b .rest)) (go (Reader.next 125 (drop k s)) (Placing.sep 125 (getD s k 0)) (sep-view 125 s k refl))
+      after :
+          Below → (a e : ℕ) (key : Bytes) → key ≡ textAt s a → Text s a (e - 1) → (v : Parsed Value) (p : Placed Node) (m o : ℕ) → m ≡ n + 1 →
+          at < o → ValueAgrees s left m o v p →
+          Rel (Parsed Members) (Placed Fields) (FieldsAgree s left n at) (AfterField f names key v (Reader.next 125 (v .rest)))
+          (AfterFieldAt f names a e p (Placing.sep 125 (getD s (skipAt s (p .place)) 0)))
+      after below a e key isKey isText v p m o isM isO r =
+          subst
+          (λ (x : Bytes). Rel (Parsed Members) (Placed Fields) (FieldsAgree s left n at) (AfterField f names key v (Reader.next 125 x))
+          (AfterFieldAt f names a e p (Placing.sep 125 (getD s k 0)))) (sym (r .rest ∙ b .rest))
+          (go (Reader.next 125 (drop k s)) (Placing.sep 125 (getD s k 0)) (sep-view 125 s k refl))
         where
           k : ℕ
           k = skipAt s (p .place)
@@ -407,11 +451,14 @@ module _ (s : Bytes) (left : ℕ) (val : Reader.Parser Value) (vat : Placer Node
           b : Behind s (p .place) (skip (drop (p .place) s)) k
           b = skip-at s (p .place) (drop (p .place) s) refl (r .upto)
 
-          go : (x : Reader.Next) (y : Placing.Sep) → SepView s k x y → Rel (Parsed Members) (Placed Fields) (FieldsAgree s left n at) (AfterField f names key v x) (AfterFieldAt f names a e p y)
+          go : (x : Reader.Next) (y : Placing.Sep) → SepView s k x y →
+              Rel (Parsed Members) (Placed Fields) (FieldsAgree s left n at) (AfterField f names key v x) (AfterFieldAt f names a e p y)
           go x y (goes l) =
               let d = skip-at s (k + 1) (drop (k + 1) s) refl (omega arith) in
               let z = below (textAt s a ∷ names) (p .count) (skipAt s (k + 1)) (skip (drop (k + 1) s)) (d .rest) (d .upto) in
-              let y : Rel (Parsed Members) (Placed Fields) (FieldsAgree s left (p .count) (skipAt s (k + 1))) (Reader.fields val f (key ∷ names) (v .count) (skip (drop (k + 1) s))) (Placing.fieldsAt s vat f (textAt s a ∷ names) (p .count) (skipAt s (k + 1))) = rw (r .count, isKey) z in
+              let y : Rel (Parsed Members) (Placed Fields) (FieldsAgree s left (p .count) (skipAt s (k + 1)))
+              (Reader.fields val f (key ∷ names) (v .count) (skip (drop (k + 1) s)))
+              (Placing.fieldsAt s vat f (textAt s a ∷ names) (p .count) (skipAt s (k + 1))) = rw (r .count, isKey) z in
               rel-bind y λ ms fs q.
               both
               {a = record { tree = member key (v .tree) (ms .tree); rest = ms .rest; count = ms .count }}
@@ -446,20 +493,50 @@ module _ (s : Bytes) (left : ℕ) (val : Reader.Parser Value) (vat : Placer Node
 
   -- behind an opening bracket
   abbrev ArrayBody : Bytes → ℕ → Option Bytes → Result (Parsed Value)
-  ArrayBody t m o = elim o [ some w ↦ ok (record { tree = array nil; rest = skip w; count = m }) | none ↦ (Reader.items val (length t) m (skip t) >>= λ vs. ok (record { tree = array (vs .tree); rest = vs .rest; count = vs .count })) ]
+  ArrayBody t m o =
+      elim o [
+        | some w ↦ ok (record { tree = array nil; rest = skip w; count = m })
+        | none ↦
+            (Reader.items val (length t) m (skip t) >>= λ vs. ok (record { tree = array (vs .tree); rest = vs .rest; count = vs .count }))
+      ]
 
   abbrev ArrayBodyAt : ℕ → ℕ → Bool → Result (Placed Node)
-  ArrayBodyAt at m b = elim b [ true ↦ ok (record { tree = arr at (skipAt s (at + 1) + 1) noNode; place = skipAt s (at + 1) + 1; count = m }) | false ↦ (Placing.itemsAt s vat (length (drop (at + 1) s)) m (skipAt s (at + 1)) >>= λ vs. ok (record { tree = arr at (vs .place) (vs .tree); place = vs .place; count = vs .count })) ]
+  ArrayBodyAt at m b =
+      elim b [
+        | true ↦ ok (record { tree = arr at (skipAt s (at + 1) + 1) noNode; place = skipAt s (at + 1) + 1; count = m })
+        | false ↦
+            (Placing.itemsAt s vat (length (drop (at + 1) s)) m (skipAt s (at + 1)) >>= λ vs. ok
+            (record { tree = arr at (vs .place) (vs .tree); place = vs .place; count = vs .count }))
+      ]
 
   abbrev ObjectBody : Bytes → ℕ → Option Bytes → Result (Parsed Value)
-  ObjectBody t m o = elim o [ some w ↦ ok (record { tree = object empty; rest = skip w; count = m }) | none ↦ (Reader.fields val (length t) [] m (skip t) >>= λ ms. ok (record { tree = object (ms .tree); rest = ms .rest; count = ms .count })) ]
+  ObjectBody t m o =
+      elim o [
+        | some w ↦ ok (record { tree = object empty; rest = skip w; count = m })
+        | none ↦
+            (Reader.fields val (length t) [] m (skip t) >>= λ ms. ok
+            (record { tree = object (ms .tree); rest = ms .rest; count = ms .count }))
+      ]
 
   abbrev ObjectBodyAt : ℕ → ℕ → Bool → Result (Placed Node)
-  ObjectBodyAt at m b = elim b [ true ↦ ok (record { tree = obj at (skipAt s (at + 1) + 1) noField; place = skipAt s (at + 1) + 1; count = m }) | false ↦ (Placing.fieldsAt s vat (length (drop (at + 1) s)) [] m (skipAt s (at + 1)) >>= λ fs. ok (record { tree = obj at (fs .place) (fs .tree); place = fs .place; count = fs .count })) ]
+  ObjectBodyAt at m b =
+      elim b [
+        | true ↦ ok (record { tree = obj at (skipAt s (at + 1) + 1) noField; place = skipAt s (at + 1) + 1; count = m })
+        | false ↦
+            (Placing.fieldsAt s vat (length (drop (at + 1) s)) [] m (skipAt s (at + 1)) >>= λ fs. ok
+            (record { tree = obj at (fs .place) (fs .tree); place = fs .place; count = fs .count }))
+      ]
 
   array-agrees : (n at : ℕ) → at < length s → Rel (Parsed Value) (Placed Node) (ValueAgrees s (suc left) n at) (Reader.arrayRest val n (drop (at + 1) s)) (Placing.arrAt s vat n at)
   unfolding Reader.arrayRest Placing.arrAt erase size deep
-  array-agrees n at h = rel-bind (node-agrees n) λ m m′ r. subst (λ (i : ℕ). Rel (Parsed Value) (Placed Node) (ValueAgrees s (suc left) n at) (ArrayBody t i (Reader.isClosed 93 (skip t))) (ArrayBodyAt at m′ (eqb (getD s k 0) 93))) (sym (r .0)) (subst (λ (x : Bytes). Rel (Parsed Value) (Placed Node) (ValueAgrees s (suc left) n at) (ArrayBody t m′ (Reader.isClosed 93 x)) (ArrayBodyAt at m′ (eqb (getD s k 0) 93))) (sym (b .rest)) (go m′ (r .1) (r .2) (Reader.isClosed 93 (drop k s)) (eqb (getD s k 0) 93) (closed-view 93 s k refl)))
+  array-agrees n at h =
+      rel-bind (node-agrees n) λ m m′ r. subst
+      (λ (i : ℕ). Rel (Parsed Value) (Placed Node) (ValueAgrees s (suc left) n at) (ArrayBody t i (Reader.isClosed 93 (skip t)))
+      (ArrayBodyAt at m′ (eqb (getD s k 0) 93))) (sym (r .0))
+      (subst
+      (λ (x : Bytes). Rel (Parsed Value) (Placed Node) (ValueAgrees s (suc left) n at) (ArrayBody t m′ (Reader.isClosed 93 x))
+      (ArrayBodyAt at m′ (eqb (getD s k 0) 93))) (sym (b .rest))
+      (go m′ (r .1) (r .2) (Reader.isClosed 93 (drop k s)) (eqb (getD s k 0) 93) (closed-view 93 s k refl)))
     where
       t : Bytes
       t = drop (at + 1) s
@@ -470,12 +547,23 @@ module _ (s : Bytes) (left : ℕ) (val : Reader.Parser Value) (vat : Placer Node
       b : Behind s (at + 1) (skip t) k
       b = skip-at s (at + 1) t refl (omega arith)
 
-      go : (m : ℕ) → m ≡ n + 1 → m ≤ Limits.maxNodes → (o : Option Bytes) (c : Bool) → ClosedView s k o c → Rel (Parsed Value) (Placed Node) (ValueAgrees s (suc left) n at) (ArrayBody t m o) (ArrayBodyAt at m c)
+      go : (m : ℕ) → m ≡ n + 1 → m ≤ Limits.maxNodes → (o : Option Bytes) (c : Bool) → ClosedView s k o c →
+          Rel (Parsed Value) (Placed Node) (ValueAgrees s (suc left) n at) (ArrayBody t m o) (ArrayBodyAt at m c)
       go m e l o c (isShut i) =
           both
           {a = record { tree = array nil; rest = skip (drop (k + 1) s); count = m }}
           {b = record { tree = arr at (k + 1) noNode; place = k + 1; count = m }}
-          (record { tree = refl; rest = refl; count = refl; past = omega (arith, b .past); upto = omega arith; counted = omega arith; most = l; shallow = omega arith; fits = fitsArr {a = at} {e = k + 1} (record { order = omega (arith, b .past); upto = omega arith }) fitsNone })
+          (record {
+            tree = refl;
+            rest = refl;
+            count = refl;
+            past = omega (arith, b .past);
+            upto = omega arith;
+            counted = omega arith;
+            most = l;
+            shallow = omega arith;
+            fits = fitsArr {a = at} {e = k + 1} (record { order = omega (arith, b .past); upto = omega arith }) fitsNone;
+          })
       go m e l o c isOpen =
           rel-bind (items-agree (length t) m k (skip t) (b .rest) (b .upto)) λ vs ps q.
           both
@@ -495,7 +583,14 @@ module _ (s : Bytes) (left : ℕ) (val : Reader.Parser Value) (vat : Placer Node
 
   object-agrees : (n at : ℕ) → at < length s → Rel (Parsed Value) (Placed Node) (ValueAgrees s (suc left) n at) (Reader.objectRest val n (drop (at + 1) s)) (Placing.objAt s vat n at)
   unfolding Reader.objectRest Placing.objAt erase size deep
-  object-agrees n at h = rel-bind (node-agrees n) λ m m′ r. subst (λ (i : ℕ). Rel (Parsed Value) (Placed Node) (ValueAgrees s (suc left) n at) (ObjectBody t i (Reader.isClosed 125 (skip t))) (ObjectBodyAt at m′ (eqb (getD s k 0) 125))) (sym (r .0)) (subst (λ (x : Bytes). Rel (Parsed Value) (Placed Node) (ValueAgrees s (suc left) n at) (ObjectBody t m′ (Reader.isClosed 125 x)) (ObjectBodyAt at m′ (eqb (getD s k 0) 125))) (sym (b .rest)) (go m′ (r .1) (r .2) (Reader.isClosed 125 (drop k s)) (eqb (getD s k 0) 125) (closed-view 125 s k refl)))
+  object-agrees n at h =
+      rel-bind (node-agrees n) λ m m′ r. subst
+      (λ (i : ℕ). Rel (Parsed Value) (Placed Node) (ValueAgrees s (suc left) n at) (ObjectBody t i (Reader.isClosed 125 (skip t)))
+      (ObjectBodyAt at m′ (eqb (getD s k 0) 125))) (sym (r .0))
+      (subst
+      (λ (x : Bytes). Rel (Parsed Value) (Placed Node) (ValueAgrees s (suc left) n at) (ObjectBody t m′ (Reader.isClosed 125 x))
+      (ObjectBodyAt at m′ (eqb (getD s k 0) 125))) (sym (b .rest))
+      (go m′ (r .1) (r .2) (Reader.isClosed 125 (drop k s)) (eqb (getD s k 0) 125) (closed-view 125 s k refl)))
     where
       t : Bytes
       t = drop (at + 1) s
@@ -506,12 +601,23 @@ module _ (s : Bytes) (left : ℕ) (val : Reader.Parser Value) (vat : Placer Node
       b : Behind s (at + 1) (skip t) k
       b = skip-at s (at + 1) t refl (omega arith)
 
-      go : (m : ℕ) → m ≡ n + 1 → m ≤ Limits.maxNodes → (o : Option Bytes) (c : Bool) → ClosedView s k o c → Rel (Parsed Value) (Placed Node) (ValueAgrees s (suc left) n at) (ObjectBody t m o) (ObjectBodyAt at m c)
+      go : (m : ℕ) → m ≡ n + 1 → m ≤ Limits.maxNodes → (o : Option Bytes) (c : Bool) → ClosedView s k o c →
+          Rel (Parsed Value) (Placed Node) (ValueAgrees s (suc left) n at) (ObjectBody t m o) (ObjectBodyAt at m c)
       go m e l o c (isShut i) =
           both
           {a = record { tree = object empty; rest = skip (drop (k + 1) s); count = m }}
           {b = record { tree = obj at (k + 1) noField; place = k + 1; count = m }}
-          (record { tree = refl; rest = refl; count = refl; past = omega (arith, b .past); upto = omega arith; counted = omega arith; most = l; shallow = omega arith; fits = fitsObj {a = at} {e = k + 1} (record { order = omega (arith, b .past); upto = omega arith }) fitsEmpty })
+          (record {
+            tree = refl;
+            rest = refl;
+            count = refl;
+            past = omega (arith, b .past);
+            upto = omega arith;
+            counted = omega arith;
+            most = l;
+            shallow = omega arith;
+            fits = fitsObj {a = at} {e = k + 1} (record { order = omega (arith, b .past); upto = omega arith }) fitsEmpty;
+          })
       go m e l o c isOpen =
           rel-bind (fields-agree (length t) [] m k (skip t) (b .rest) (b .upto)) λ ms fs q.
           both
@@ -535,19 +641,36 @@ BracketAgrees s left ar at′ = (n at : ℕ) → at < length s → Rel (Parsed V
 
 module _ (s : Bytes) (left : ℕ) (ar ob : Reader.Parser Value) (arAt obAt : Placer Node) (arrays : BracketAgrees s left ar arAt) (objects : BracketAgrees s left ob obAt) where
   -- a node without brackets
-  leaf-agrees : (k : Plain) (n m at a e : ℕ) (v : Value) (r : Bytes) (p : ℕ) → (m ≡ n + 1) × (m ≤ Limits.maxNodes) → Behind s (at + 1) r p → v ≡ Spans.plain s k a e → FitsLeaf s k a e → ValueAgrees s left n at (record { tree = v; rest = skip r; count = m }) (record { tree = leaf k a e; place = p; count = m })
+  leaf-agrees : (k : Plain) (n m at a e : ℕ) (v : Value) (r : Bytes) (p : ℕ) → (m ≡ n + 1) × (m ≤ Limits.maxNodes) → Behind s (at + 1) r p →
+      v ≡ Spans.plain s k a e → FitsLeaf s k a e →
+      ValueAgrees s left n at (record { tree = v; rest = skip r; count = m }) (record { tree = leaf k a e; place = p; count = m })
   unfolding erase size deep
-  leaf-agrees k n m at a e v r p c b t f = record { tree = t; rest = ap skip (b .rest); count = refl; past = omega (arith, b .past); upto = b .upto; counted = c .0; most = c .1; shallow = omega arith; fits = fitsLeaf f }
+  leaf-agrees k n m at a e v r p c b t f =
+      record {
+        tree = t;
+        rest = ap skip (b .rest);
+        count = refl;
+        past = omega (arith, b .past);
+        upto = b .upto;
+        counted = c .0;
+        most = c .1;
+        shallow = omega arith;
+        fits = fitsLeaf f;
+      }
 
   abbrev Both : ℕ → ℕ → Result (Parsed Value) → Result (Placed Node) → Type 0
   Both n at x y = Rel (Parsed Value) (Placed Node) (ValueAgrees s left n at) x y
 
-  word-leaf : (w : Bytes) (v : Value) (k : Plain) (n m at : ℕ) (t : Bytes) → 1 ≤ length w → t ≡ drop at s → at < length s → (m ≡ n + 1) × (m ≤ Limits.maxNodes) → ((e : ℕ) → v ≡ Spans.plain s k at e) → ((e : ℕ) → Span s at e → FitsLeaf s k at e) → Both n at (Reader.literal w v m t) (Placing.leafAt k m at (Placing.wordAt w s at))
+  word-leaf : (w : Bytes) (v : Value) (k : Plain) (n m at : ℕ) (t : Bytes) → 1 ≤ length w → t ≡ drop at s → at < length s →
+      (m ≡ n + 1) × (m ≤ Limits.maxNodes) → ((e : ℕ) → v ≡ Spans.plain s k at e) → ((e : ℕ) → Span s at e → FitsLeaf s k at e) →
+      Both n at (Reader.literal w v m t) (Placing.leafAt k m at (Placing.wordAt w s at))
   word-leaf w v k n m at t l e h c g f =
       rel-bind (word-agrees w s at t l e (omega arith)) λ r p b.
-      both {a = record { tree = v; rest = skip r; count = m }} {b = record { tree = leaf k at p; place = p; count = m }} (leaf-agrees k n m at at p v r p c b (g p) (f p (record { order = omega (arith, b .past); upto = b .upto })))
+      both {a = record { tree = v; rest = skip r; count = m }} {b = record { tree = leaf k at p; place = p; count = m }}
+      (leaf-agrees k n m at at p v r p c b (g p) (f p (record { order = omega (arith, b .past); upto = b .upto })))
 
-  counted : (n at : ℕ) (f : ℕ → Result (Parsed Value)) (g : ℕ → Result (Placed Node)) → ((m : ℕ) → (m ≡ n + 1) × (m ≤ Limits.maxNodes) → Both n at (f m) (g m)) → Both n at (Reader.oneNode n >>= f) (Reader.oneNode n >>= g)
+  counted : (n at : ℕ) (f : ℕ → Result (Parsed Value)) (g : ℕ → Result (Placed Node)) →
+      ((m : ℕ) → (m ≡ n + 1) × (m ≤ Limits.maxNodes) → Both n at (f m) (g m)) → Both n at (Reader.oneNode n >>= f) (Reader.oneNode n >>= g)
   counted n at f g h = go (Reader.oneNode n) refl
     where
       go : (x : Result ℕ) → Reader.oneNode n ≡ x → Both n at (x >>= f) (x >>= g)
@@ -566,15 +689,31 @@ module _ (s : Bytes) (left : ℕ) (ar ob : Reader.Parser Value) (arAt obAt : Pla
           k = ap Reader.start j
 
           by : (y : Reader.Start) → Reader.start c ≡ y → Both n at (Reader.valueWith ar ob n (c ∷ drop (at + 1) s)) (Placing.readWith s arAt obAt n at)
-          by Reader.startNull p = rw (k, Placing.readWith, p, Reader.valueWith) (counted n at _ _ λ m b. word-leaf (ascii "null") null Plain.isNull n m at (c ∷ drop (at + 1) s) (omega arith) (sym i) l b (λ z. refl) (λ z f. f))
-          by Reader.startTrue p = rw (k, Placing.readWith, p, Reader.valueWith) (counted n at _ _ λ m b. word-leaf (ascii "true") (bool true) Plain.isTrue n m at (c ∷ drop (at + 1) s) (omega arith) (sym i) l b (λ z. refl) (λ z f. f))
-          by Reader.startFalse p = rw (k, Placing.readWith, p, Reader.valueWith) (counted n at _ _ λ m b. word-leaf (ascii "false") (bool false) Plain.isFalse n m at (c ∷ drop (at + 1) s) (omega arith) (sym i) l b (λ z. refl) (λ z f. f))
+          by Reader.startNull p =
+              rw (k, Placing.readWith, p, Reader.valueWith)
+              (counted n at _ _ λ m b. word-leaf (ascii "null") null Plain.isNull n m at (c ∷ drop (at + 1) s) (omega arith) (sym i) l b
+              (λ z. refl) (λ z f. f))
+          by Reader.startTrue p =
+              rw (k, Placing.readWith, p, Reader.valueWith)
+              (counted n at _ _ λ m b. word-leaf (ascii "true") (bool true) Plain.isTrue n m at (c ∷ drop (at + 1) s) (omega arith)
+              (sym i) l b (λ z. refl) (λ z f. f))
+          by Reader.startFalse p =
+              rw (k, Placing.readWith, p, Reader.valueWith)
+              (counted n at _ _ λ m b. word-leaf (ascii "false") (bool false) Plain.isFalse n m at (c ∷ drop (at + 1) s) (omega arith)
+              (sym i) l b (λ z. refl) (λ z f. f))
           by Reader.startText p = rw (k, Placing.readWith, p, Reader.valueWith) (counted n at _ _ λ m b.
               rel-bind (chars-agrees s (at + 1) (drop (at + 1) s) refl (omega arith)) λ z o f.
-              both {a = record { tree = text (z .got); rest = skip (z .rest); count = m }} {b = record { tree = leaf Plain.isText (at + 1) (o - 1); place = o; count = m }} (leaf-agrees Plain.isText n m at (at + 1) (o - 1) (text (z .got)) (z .rest) o b (record { rest = f .behind .rest; past = omega (arith, f .behind .past); upto = f .behind .upto }) (ap text (f .decoded)) (f .fits)))
+              both {a = record { tree = text (z .got); rest = skip (z .rest); count = m }}
+              {b = record { tree = leaf Plain.isText (at + 1) (o - 1); place = o; count = m }}
+              (leaf-agrees Plain.isText n m at (at + 1) (o - 1) (text (z .got)) (z .rest) o b
+              (record { rest = f .behind .rest; past = omega (arith, f .behind .past); upto = f .behind .upto })
+              (ap text (f .decoded)) (f .fits)))
           by Reader.startNumber p = rw (k, Placing.readWith, p, Reader.valueWith) (counted n at _ _ λ m b.
               rel-bind (digits-agrees s at c i l q) λ z o f.
-              both {a = record { tree = number (c ∷ z .got); rest = skip (z .rest); count = m }} {b = record { tree = leaf Plain.isNumber at o; place = o; count = m }} (leaf-agrees Plain.isNumber n m at at o (number (c ∷ z .got)) (z .rest) o b (f .behind) (ap number (f .decoded)) (f .fits)))
+              both {a = record { tree = number (c ∷ z .got); rest = skip (z .rest); count = m }}
+              {b = record { tree = leaf Plain.isNumber at o; place = o; count = m }}
+              (leaf-agrees Plain.isNumber n m at at o (number (c ∷ z .got)) (z .rest) o b (f .behind) (ap number (f .decoded))
+              (f .fits)))
           by Reader.startArray p = rw (k, Placing.readWith, p, Reader.valueWith) (arrays n at l)
           by Reader.startObject p = rw (k, Placing.readWith, p, Reader.valueWith) (objects n at l)
           by Reader.startNothing p = rw (k, Placing.readWith, p, Reader.valueWith) (neitherOf notJson)
@@ -583,7 +722,10 @@ pub read-agrees : (left : ℕ) (s : Bytes) → Agrees s left (Reader.value left)
 unfolding Reader.value Placing.readAt
 read-agrees zero s = with-agrees s 0 Reader.noBracket Reader.noBracket Placing.noneAt Placing.noneAt (λ n at h. neitherOf tooDeep) (λ n at h. neitherOf tooDeep)
 read-agrees (suc left) s =
-    with-agrees s (suc left) (Reader.arrayRest (Reader.value left)) (Reader.objectRest (Reader.value left)) (Placing.arrAt s (Placing.readAt left s)) (Placing.objAt s (Placing.readAt left s)) (array-agrees s left (Reader.value left) (Placing.readAt left s) (read-agrees left s)) (object-agrees s left (Reader.value left) (Placing.readAt left s) (read-agrees left s))
+    with-agrees s (suc left) (Reader.arrayRest (Reader.value left)) (Reader.objectRest (Reader.value left))
+    (Placing.arrAt s (Placing.readAt left s)) (Placing.objAt s (Placing.readAt left s))
+    (array-agrees s left (Reader.value left) (Placing.readAt left s) (read-agrees left s))
+    (object-agrees s left (Reader.value left) (Placing.readAt left s) (read-agrees left s))
 
 -- the sheet as a whole: its tree with places, read where `json` reads the tree without
 pub record SheetAgrees (s : Bytes) (v : Value) (t : Node) : Type 0 where
@@ -603,7 +745,8 @@ json-agrees s = long (leb (length s) Limits.maxBytes) refl
     b : Behind s 0 (skip s) (skipAt s 0)
     b = skip-at s 0 s refl (omega arith)
 
-    end : length s ≤ Limits.maxBytes → (p : Parsed Value) (q : Placed Node) → ValueAgrees s Limits.maxDepth 0 (skipAt s 0) p q → Rel Value Node (SheetAgrees s) (Reader.whole-text p) (Placing.wholeAt s q)
+    end : length s ≤ Limits.maxBytes → (p : Parsed Value) (q : Placed Node) → ValueAgrees s Limits.maxDepth 0 (skipAt s 0) p q →
+        Rel Value Node (SheetAgrees s) (Reader.whole-text p) (Placing.wholeAt s q)
     end l p q r = by (drop k s) (getD s k 0) (r .rest ∙ c .rest) (at-view s k)
       where
         k : ℕ
@@ -613,7 +756,9 @@ json-agrees s = long (leb (length s) Limits.maxBytes) refl
         c = skip-at s (q .place) (drop (q .place) s) refl (r .upto)
 
         by : (x : Bytes) (d : ℕ) → p .rest ≡ x → AtView s k x d → Rel Value Node (SheetAgrees s) (Reader.whole-text p) (Placing.wholeAt s q)
-        by x d e (outside h) = rw (e, Reader.whole-text, eq-eqb k (length s) (omega (arith, c .upto)), Placing.wholeAt) (both (record { tree = r .tree; fits = r .fits; most = omega (arith, r .counted, r .most); shallow = r .shallow; bytes = l }))
+        by x d e (outside h) =
+            rw (e, Reader.whole-text, eq-eqb k (length s) (omega (arith, c .upto)), Placing.wholeAt)
+            (both (record { tree = r .tree; fits = r .fits; most = omega (arith, r .counted, r .most); shallow = r .shallow; bytes = l }))
         by x d e (inside h i) = rw (e, Reader.whole-text, ne-eqb k (length s) (λ z. omega arith), Placing.wholeAt) (neitherOf notJson)
 
     decoded : (x : Bool) → Utf8.utf8 Utf8.scalar s ≡ x → leb (length s) Limits.maxBytes ≡ true → Goal
@@ -642,6 +787,7 @@ json-erased s = go (Reader.json s) (Placing.spanned s) (json-agrees s)
 pub read-facts : (left : ℕ) (s : Bytes) (n at : ℕ) (q : Placed Node) → at ≤ length s → Placing.readAt left s n at ≡ ok q → (p : Parsed Value) × ValueAgrees s left n at p q
 read-facts left s n at q h e = go (Reader.value left n (drop at s)) (Placing.readAt left s n at) (read-agrees left s n at (drop at s) refl h) e
   where
-    go : (x : Result (Parsed Value)) (y : Result (Placed Node)) → Rel (Parsed Value) (Placed Node) (ValueAgrees s left n at) x y → y ≡ ok q → (p : Parsed Value) × ValueAgrees s left n at p q
+    go : (x : Result (Parsed Value)) (y : Result (Placed Node)) → Rel (Parsed Value) (Placed Node) (ValueAgrees s left n at) x y → y ≡ ok q →
+        (p : Parsed Value) × ValueAgrees s left n at p q
     go x y (both {a = p} {b = b} r) i = let z : b ≡ q = cc in (p, subst (λ (u : Placed Node). ValueAgrees s left n at p u) z r)
     go x y (neitherOf r) i = let z : _≡_ {A = ℕ} 0 1 = cc in absurd (omega arith)

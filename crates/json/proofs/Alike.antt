@@ -6,7 +6,24 @@ use mathlib.Core.Path.{ap, refl, sym, _∙_, _≡_}
 use Prim.Native.Nat.{Ordering, ℕ}
 use Rattle.json.proofs.Laws.{both-true, sameBytes-refl, sameBytes-true}
 use Rattle.json.proofs.Sorted.{Less, OrderView, isEq′, isGt, isLt, less-order, less-trans, more-order, order-view, same-order}
-use Rattle.json.specs.Alike.{Alike, AlikeIn, AlikeOf, Among, bothArray, bothBool, bothNull, bothNumber, bothObject, bothText, further, here, noElement, noMember, oneElement, oneMember}
+use Rattle.json.specs.Alike.{
+  Alike,
+  AlikeIn,
+  AlikeOf,
+  Among,
+  bothArray,
+  bothBool,
+  bothNull,
+  bothNumber,
+  bothObject,
+  bothText,
+  further,
+  here,
+  noElement,
+  noMember,
+  oneElement,
+  oneMember,
+}
 use Rattle.json.specs.Bytes.{Bytes, isOneOf, orderBytes, sameBytes}
 use Rattle.json.specs.Json.{Members, Value, Values, array, empty, keys, member, object}
 use Rattle.json.specs.Limits.{tidy, tidyIn, tidyOf}
@@ -40,14 +57,25 @@ module _ (k l : Bytes) (v w : Value) where
   swap-front ms h p q = ap (insert k v) p ∙ insert-before k l v w ms h ∙ ap (member k v) (sym p) ∙ sym (insert-behind l k w v ms h) ∙ ap (insert l w) (sym q)
 
   -- k goes before j, and l goes no further than j
-  swap-apart : (j : Bytes) (x : Value) (ms ns : Members) → Less k j → Less k l → insert l w (member j x ms) ≡ member j x ns → insert k v (insert l w (member j x ms)) ≡ insert l w (insert k v (member j x ms))
-  swap-apart j x ms ns a h p = ap (insert k v) p ∙ insert-before k j v x ns a ∙ ap (member k v) (sym p) ∙ sym (insert-behind l k w v (member j x ms) h) ∙ ap (insert l w) (sym (insert-before k j v x ms a))
+  swap-apart : (j : Bytes) (x : Value) (ms ns : Members) → Less k j → Less k l → insert l w (member j x ms) ≡ member j x ns →
+      insert k v (insert l w (member j x ms)) ≡ insert l w (insert k v (member j x ms))
+  swap-apart j x ms ns a h p =
+      ap (insert k v) p ∙
+      insert-before k j v x ns a ∙
+      ap (member k v) (sym p) ∙
+      sym (insert-behind l k w v (member j x ms) h) ∙
+      ap (insert l w) (sym (insert-before k j v x ms a))
 
   -- k stands there, and l goes behind it
   swap-there : (j : Bytes) (x : Value) (ms : Members) → k ≡ j → Less j l → insert k v (insert l w (member j x ms)) ≡ insert l w (insert k v (member j x ms))
-  swap-there j x ms e b = ap (insert k v) (insert-behind l j w x ms b) ∙ insert-same k j v x (insert l w ms) e ∙ sym (insert-behind l j w x ms b) ∙ ap (insert l w) (sym (insert-same k j v x ms e))
+  swap-there j x ms e b =
+      ap (insert k v) (insert-behind l j w x ms b) ∙
+      insert-same k j v x (insert l w ms) e ∙
+      sym (insert-behind l j w x ms b) ∙
+      ap (insert l w) (sym (insert-same k j v x ms e))
 
-  swap-behind : (j : Bytes) (x : Value) (ms : Members) → Less j k → Less j l → insert k v (insert l w ms) ≡ insert l w (insert k v ms) → insert k v (insert l w (member j x ms)) ≡ insert l w (insert k v (member j x ms))
+  swap-behind : (j : Bytes) (x : Value) (ms : Members) → Less j k → Less j l → insert k v (insert l w ms) ≡ insert l w (insert k v ms) →
+      insert k v (insert l w (member j x ms)) ≡ insert l w (insert k v (member j x ms))
   swap-behind j x ms a b below =
       ap (insert k v) (insert-behind l j w x ms b) ∙
       insert-behind k j v x (insert l w ms) a ∙
@@ -71,7 +99,8 @@ swap k l v w (member j x ms) d = by (swap k l v w ms d) (tri k j) (tri l j)
     front a b (inr (inl e)) = absurd (d e)
     front a b (inr (inr h)) = sym (swap-front l k w v (member j x ms) h (insert-before k j v x ms a) (insert-before l j w x ms b))
 
-    by : insert k v (insert l w ms) ≡ insert l w (insert k v ms) → Less k j ⊎ ((k ≡ j) ⊎ Less j k) → Less l j ⊎ ((l ≡ j) ⊎ Less j l) → insert k v (insert l w (member j x ms)) ≡ insert l w (insert k v (member j x ms))
+    by : insert k v (insert l w ms) ≡ insert l w (insert k v ms) → Less k j ⊎ ((k ≡ j) ⊎ Less j k) → Less l j ⊎ ((l ≡ j) ⊎ Less j l) →
+        insert k v (insert l w (member j x ms)) ≡ insert l w (insert k v (member j x ms))
     by below (inl a) (inl b) = front a b (tri k l)
     by below (inl a) (inr (inl f)) = swap-apart k l v w j x ms ms a (rw f a) (insert-same l j w x ms f)
     by below (inl a) (inr (inr b)) = swap-apart k l v w j x ms (insert l w ms) a (less-trans a b) (insert-behind l j w x ms b)
@@ -100,7 +129,9 @@ module _ (k l : Bytes) (v : Value) (ms : Members) (e : isOneOf k (keys (member l
 among-sorted : (k : Bytes) (w : Value) (ms ns : Members) → Among k w ms ns → isOneOf k (keys ms) ≡ false → sortedOf ns ≡ insert k (sorted w) (sortedOf ms)
 unfolding sorted
 among-sorted k w ms ns here e = refl
-among-sorted k w ms ns (further {l} {x} {ms = as′} {ns = bs} a) e = ap (insert l (sorted x)) (among-sorted k w as′ bs a (not-rest k l x as′ e)) ∙ swap l k (sorted x) (sorted w) (sortedOf as′) (λ p. not-first k l x as′ e (sym p))
+among-sorted k w ms ns (further {l} {x} {ms = as′} {ns = bs} a) e =
+    ap (insert l (sorted x)) (among-sorted k w as′ bs a (not-rest k l x as′ e)) ∙
+    swap l k (sorted x) (sorted w) (sortedOf as′) (λ p. not-first k l x as′ e (sym p))
 
 -- and is none of the names on the other side
 none-of : (k l : Bytes) (v : Value) (ms : Members) → k ≢ l → isOneOf k (keys ms) ≡ false → isOneOf k (keys (member l v ms)) ≡ false
@@ -117,7 +148,8 @@ none-among k j w ms ns (further {l} {x} {ms = as′} {ns = bs} a) d e = none-of 
 
 none-alike : (k : Bytes) (ms ns : Members) → AlikeOf ms ns → isOneOf k (keys ms) ≡ false → isOneOf k (keys ns) ≡ false
 none-alike k ms ns noMember e = e
-none-alike k ms ns (oneMember {k = j} {v} {w} {ms = as′} {ns = bs} {ns′} a h p) e = none-among k j w bs ns′ p (not-first k j v as′ e) (none-alike k as′ bs h (not-rest k j v as′ e))
+none-alike k ms ns (oneMember {k = j} {v} {w} {ms = as′} {ns = bs} {ns′} a h p) e =
+    none-among k j w bs ns′ p (not-first k j v as′ e) (none-alike k as′ bs h (not-rest k j v as′ e))
 
 -- what tidy says of the parts
 not-true : (b : Bool) → not b ≡ true → b ≡ false
@@ -150,4 +182,6 @@ mutual
       let r = both-true (tidy limit v) (tidyOf limit as′) (q .1) in
       let x = alike-sorted limit v w a (r .0) in
       let y = alike-sortedOf limit as′ bs h (r .1) in
-      ap (λ (z : Value). insert k z (sortedOf as′)) x ∙ ap (insert k (sorted w)) y ∙ sym (among-sorted k w bs ns′ p (none-alike k as′ bs h (not-true (isOneOf k (keys as′)) (q .0))))
+      ap (λ (z : Value). insert k z (sortedOf as′)) x ∙
+      ap (insert k (sorted w)) y ∙
+      sym (among-sorted k w bs ns′ p (none-alike k as′ bs h (not-true (isOneOf k (keys as′)) (q .0))))

@@ -15,7 +15,28 @@ use Rattle.json.specs.Ascent.{AscendIn, AscendOf, Ascends, arrAscends, e
 use Rattle.json.specs.Bytes.{Bytes, ascii}
 use Rattle.json.specs.Limits.{maxBytes, maxDepth}
 use Rattle.json.specs.Placing
-use Rattle.json.specs.Placing.{Placed, Placer, Sep, arrAt, byteAt, charsAt, digitsAt, ends, fieldsAt, goesOn, itemsAt, neither, objAt, readAt, readWith, sep, skipAt, spanned, wholeAt, wordAt}
+use Rattle.json.specs.Placing.{
+  Placed,
+  Placer,
+  Sep,
+  arrAt,
+  byteAt,
+  charsAt,
+  digitsAt,
+  ends,
+  fieldsAt,
+  goesOn,
+  itemsAt,
+  neither,
+  objAt,
+  readAt,
+  readWith,
+  sep,
+  skipAt,
+  spanned,
+  wholeAt,
+  wordAt,
+}
 use Rattle.json.specs.Reader.{Start, newName, oneNode, start}
 use Rattle.json.specs.Reader
 use Rattle.json.specs.Refusal.{Result, notJson, notUtf8, ok, refused, tooDeep, tooLong, _>>=_}
@@ -145,17 +166,26 @@ module _ (s : Bytes) where
         bind-with (val n at) _ e λ v f1 e1.
         by v (reads n at v l f1) (λ m k p j i. items-ascend f m k p j i) (sep 93 (getD s (skipAt s (v .place)) 0)) refl e1
       where
-        by : (v : Placed Node) → Read at v → ((m k : ℕ) (p : Placed Nodes) → k ≤ length s → itemsAt s val f m k ≡ ok p → ItemsRead k p) → (x : Sep) → sep 93 (getD s (skipAt s (v .place)) 0) ≡ x → itemsOn f v x ≡ ok q → ItemsRead at q
+        by : (v : Placed Node) → Read at v → ((m k : ℕ) (p : Placed Nodes) → k ≤ length s → itemsAt s val f m k ≡ ok p → ItemsRead k p) →
+            (x : Sep) → sep 93 (getD s (skipAt s (v .place)) 0) ≡ x → itemsOn f v x ≡ ok q → ItemsRead at q
         by v r below goesOn i e1 =
             let k = skipAt s (skipAt s (v .place) + 1) in
             let a = skip-from (v .place) (v .place) (omega arith) (r .upto) in
             let b : v .place ≤ k = skip-from (v .place) (skipAt s (v .place) + 1) (omega arith) (r .upto) in
             bind-with (itemsAt s val f (v .count) k) _ e1 λ vs f2 e2.
             let z = below (v .count) k vs (skip-upto (skipAt s (v .place) + 1)) f2 in
-            subst (λ (x : Placed Nodes). ItemsRead at x) (ok-injective e2) (record { past = omega (arith, r .past, z .past); order = nodeAscends (r .order) (omega (arith, r .past)) (omega (arith, z .past)) (in-from b (z .order)) })
+            subst (λ (x : Placed Nodes). ItemsRead at x) (ok-injective e2)
+            (record {
+              past = omega (arith, r .past, z .past);
+              order = nodeAscends (r .order) (omega (arith, r .past)) (omega (arith, z .past)) (in-from b (z .order));
+            })
         by v r below ends i e1 =
             let a = skip-from (v .place) (v .place) (omega arith) (r .upto) in
-            subst (λ (x : Placed Nodes). ItemsRead at x) (ok-injective e1) (record { past = omega (arith, r .past); order = nodeAscends (r .order) (omega (arith, r .past)) (omega arith) noneAscend })
+            subst (λ (x : Placed Nodes). ItemsRead at x) (ok-injective e1)
+            (record {
+              past = omega (arith, r .past);
+              order = nodeAscends (r .order) (omega (arith, r .past)) (omega arith) noneAscend;
+            })
         by v r below neither i e1 = not-ok notJson e1
 
     record FieldsRead (at : ℕ) (q : Placed Fields) : Type 0 where
@@ -172,22 +202,33 @@ module _ (s : Bytes) where
         bind-with (newName (textAt s a) names []) _ e3 λ y f4 e4.
         bind-with (byteAt 58 s (skipAt s x)) _ e4 λ u f5 e5.
         bind-with (val m (skipAt s u)) _ e5 λ v f6 e6.
-        by a x v (skipAt s u) (later a x u f1 f3 f5) (reads m (skipAt s u) v (skip-upto u) f6) (λ ns j k p i o. fields-ascend f ns j k p i o) (sep 125 (getD s (skipAt s (v .place)) 0)) refl e6
+        by a x v (skipAt s u) (later a x u f1 f3 f5) (reads m (skipAt s u) v (skip-upto u) f6)
+        (λ ns j k p i o. fields-ascend f ns j k p i o) (sep 125 (getD s (skipAt s (v .place)) 0)) refl e6
       where
         later : (a x u : ℕ) → byteAt 34 s at ≡ ok a → charsAt s a ≡ ok x → byteAt 58 s (skipAt s x) ≡ ok u → at ≤ skipAt s u
         later a x u f1 f3 f5 = skip-from at u (omega (arith, byte-past 58 (skipAt s x) u f5, skip-from at x (chars-past at a x f3 (omega (arith, byte-past 34 at a f1)) l) l)) l
 
-        by : (a x : ℕ) (v : Placed Node) (from : ℕ) → at ≤ from → Read from v → ((ns : List Bytes) (m k : ℕ) (p : Placed Fields) → k ≤ length s → fieldsAt s val f ns m k ≡ ok p → FieldsRead k p) → (z : Sep) → sep 125 (getD s (skipAt s (v .place)) 0) ≡ z → fieldsOn f names a x v z ≡ ok q → FieldsRead at q
+        by : (a x : ℕ) (v : Placed Node) (from : ℕ) → at ≤ from → Read from v →
+            ((ns : List Bytes) (m k : ℕ) (p : Placed Fields) → k ≤ length s → fieldsAt s val f ns m k ≡ ok p → FieldsRead k p) → (z : Sep) →
+            sep 125 (getD s (skipAt s (v .place)) 0) ≡ z → fieldsOn f names a x v z ≡ ok q → FieldsRead at q
         by a x v from h r below goesOn i e1 =
             let k = skipAt s (skipAt s (v .place) + 1) in
             let c = skip-from (v .place) (v .place) (omega arith) (r .upto) in
             let b : v .place ≤ k = skip-from (v .place) (skipAt s (v .place) + 1) (omega arith) (r .upto) in
             bind-with (fieldsAt s val f (textAt s a ∷ names) (v .count) k) _ e1 λ fs f2 e2.
             let z = below (textAt s a ∷ names) (v .count) k fs (skip-upto (skipAt s (v .place) + 1)) f2 in
-            subst (λ (y : Placed Fields). FieldsRead at y) (ok-injective e2) (record { past = omega (arith, r .past, z .past); order = fieldAscends h (r .order) (omega (arith, r .past)) (omega (arith, z .past)) (of-from b (z .order)) })
+            subst (λ (y : Placed Fields). FieldsRead at y) (ok-injective e2)
+            (record {
+              past = omega (arith, r .past, z .past);
+              order = fieldAscends h (r .order) (omega (arith, r .past)) (omega (arith, z .past)) (of-from b (z .order));
+            })
         by a x v from h r below ends i e1 =
             let c = skip-from (v .place) (v .place) (omega arith) (r .upto) in
-            subst (λ (y : Placed Fields). FieldsRead at y) (ok-injective e1) (record { past = omega (arith, r .past); order = fieldAscends h (r .order) (omega (arith, r .past)) (omega arith) emptyAscends })
+            subst (λ (y : Placed Fields). FieldsRead at y) (ok-injective e1)
+            (record {
+              past = omega (arith, r .past);
+              order = fieldAscends h (r .order) (omega (arith, r .past)) (omega arith) emptyAscends;
+            })
         by a x v from h r below neither i e1 = not-ok notJson e1
 
     arr-ascends : (n at : ℕ) (q : Placed Node) → at < length s → arrAt s val n at ≡ ok q → Ascends at (q .place) (q .tree)
@@ -200,7 +241,9 @@ module _ (s : Bytes) where
         inner = skip-from (at + 1) (at + 1) (omega arith) (omega arith)
 
         by : (m : ℕ) (b : Bool) → eqb (getD s (skipAt s (at + 1)) 0) 93 ≡ b → arrOn at m b ≡ ok q → Ascends at (q .place) (q .tree)
-        by m true i e1 = subst (λ (x : Placed Node). Ascends at (x .place) (x .tree)) (ok-injective e1) (arrAscends {from = at + 1} (omega arith) (omega arith) (omega (arith, inner)) noneAscend)
+        by m true i e1 =
+            subst (λ (x : Placed Node). Ascends at (x .place) (x .tree)) (ok-injective e1)
+            (arrAscends {from = at + 1} (omega arith) (omega arith) (omega (arith, inner)) noneAscend)
         by m false i e1 =
             bind-with (itemsAt s val (length (drop (at + 1) s)) m (skipAt s (at + 1))) _ e1 λ vs f2 e2.
             let z = items-ascend (length (drop (at + 1) s)) m (skipAt s (at + 1)) vs (skip-upto (at + 1)) f2 in
@@ -216,15 +259,20 @@ module _ (s : Bytes) where
         inner = skip-from (at + 1) (at + 1) (omega arith) (omega arith)
 
         by : (m : ℕ) (b : Bool) → eqb (getD s (skipAt s (at + 1)) 0) 125 ≡ b → objOn at m b ≡ ok q → Ascends at (q .place) (q .tree)
-        by m true i e1 = subst (λ (x : Placed Node). Ascends at (x .place) (x .tree)) (ok-injective e1) (objAscends {from = at + 1} (omega arith) (omega arith) (omega (arith, inner)) emptyAscends)
+        by m true i e1 =
+            subst (λ (x : Placed Node). Ascends at (x .place) (x .tree)) (ok-injective e1)
+            (objAscends {from = at + 1} (omega arith) (omega arith) (omega (arith, inner)) emptyAscends)
         by m false i e1 =
             bind-with (fieldsAt s val (length (drop (at + 1) s)) [] m (skipAt s (at + 1))) _ e1 λ fs f2 e2.
             let z = fields-ascend (length (drop (at + 1) s)) [] m (skipAt s (at + 1)) fs (skip-upto (at + 1)) f2 in
             subst (λ (x : Placed Node). Ascends at (x .place) (x .tree)) (ok-injective e2) (objAscends {from = skipAt s (at + 1)} (omega arith) (omega (arith, inner)) (z .past) (z .order))
 
   -- a value, over what follows an opening bracket
-  module _ (ar ob : Placer Node) (arrays : (n at : ℕ) (q : Placed Node) → at < length s → ar n at ≡ ok q → Ascends at (q .place) (q .tree)) (objects : (n at : ℕ) (q : Placed Node) → at < length s → ob n at ≡ ok q → Ascends at (q .place) (q .tree)) where
-    leaf-ascends : (k : Plain) (n at a : ℕ) (q : Placed Node) (f : ℕ → Result (Placed Node)) → leafByte k a ≡ at → at < q .place → ((m : ℕ) → f m ≡ ok q → (e : ℕ) × (q .tree ≡ leaf k a e)) → (oneNode n >>= f) ≡ ok q → Ascends at (q .place) (q .tree)
+  module _ (ar ob : Placer Node)
+      (arrays : (n at : ℕ) (q : Placed Node) → at < length s → ar n at ≡ ok q → Ascends at (q .place) (q .tree))
+      (objects : (n at : ℕ) (q : Placed Node) → at < length s → ob n at ≡ ok q → Ascends at (q .place) (q .tree)) where
+    leaf-ascends : (k : Plain) (n at a : ℕ) (q : Placed Node) (f : ℕ → Result (Placed Node)) → leafByte k a ≡ at → at < q .place →
+        ((m : ℕ) → f m ≡ ok q → (e : ℕ) × (q .tree ≡ leaf k a e)) → (oneNode n >>= f) ≡ ok q → Ascends at (q .place) (q .tree)
     leaf-ascends k n at a q f i h g e =
         bind-with (oneNode n) f e λ m f1 e1.
         let z = g m e1 in
@@ -250,7 +298,8 @@ module _ (s : Bytes) where
         by Reader.startTrue p = leaf-read Plain.isTrue (wordAt (ascii "true") s at) refl (rw (p, readWith) at e)
         by Reader.startFalse p = leaf-read Plain.isFalse (wordAt (ascii "false") s at) refl (rw (p, readWith) at e)
         by Reader.startText p =
-            leaf-ascends Plain.isText n at (at + 1) q (λ m. Placing.stringAt m (at + 1) (charsAt s (at + 1))) (omega arith) h (λ m i. string-is m (at + 1) (charsAt s (at + 1)) q i) (rw (p, readWith) at e)
+            leaf-ascends Plain.isText n at (at + 1) q (λ m. Placing.stringAt m (at + 1) (charsAt s (at + 1))) (omega arith) h
+            (λ m i. string-is m (at + 1) (charsAt s (at + 1)) q i) (rw (p, readWith) at e)
         by Reader.startNumber p = leaf-read Plain.isNumber (digitsAt s at) refl (rw (p, readWith) at e)
         by Reader.startArray p = arrays n at q l (rw (p, readWith) at e)
         by Reader.startObject p = objects n at q l (rw (p, readWith) at e)

@@ -80,19 +80,50 @@ digit-ascii c n = go (digit-view c) n
     go vOther h = absurd (h refl)
 
 pub hex-ascii : (c d : ℕ) → hexDigit c ≡ some d → isAscii c ≡ true
-hex-ascii c d e = ascii-unless c λ h. absurd (none-is-some (sym (rw (outside 48 57 c h (omega arith), outside 65 70 c h (omega arith), outside 97 102 c h (omega arith), choose) refl) ∙ e))
+hex-ascii c d e =
+    ascii-unless c λ h. absurd
+    (none-is-some
+    (sym (rw (outside 48 57 c h (omega arith), outside 65 70 c h (omega arith), outside 97 102 c h (omega arith), choose) refl) ∙ e))
   where
     none-is-some : none ≡ some d → ⊥
     none-is-some p = let z : _≡_ {A = Bool} true false = cc in true≢false z
 
 pub simple-ascii : (c d : ℕ) → simpleEscape c ≡ some d → isAscii c ≡ true
-simple-ascii c d e = ascii-unless c λ h. absurd (none-is-some (sym (rw (apart c 34 h refl, apart c 92 h refl, apart c 47 h refl, apart c 98 h refl, apart c 102 h refl, apart c 110 h refl, apart c 114 h refl, apart c 116 h refl, choose) refl) ∙ e))
+simple-ascii c d e =
+    ascii-unless c λ h. absurd
+    (none-is-some
+    (sym
+    (rw (
+      apart c 34 h refl,
+      apart c 92 h refl,
+      apart c 47 h refl,
+      apart c 98 h refl,
+      apart c 102 h refl,
+      apart c 110 h refl,
+      apart
+          c 114 h refl,
+      apart c 116 h refl,
+      choose,
+    ) refl) ∙
+    e))
   where
     none-is-some : none ≡ some d → ⊥
     none-is-some p = let z : _≡_ {A = Bool} true false = cc in true≢false z
 
 pub start-ascii : (c : ℕ) → start c ≢ startNothing → isAscii c ≡ true
-start-ascii c n = ascii-unless c λ h. n (rw (apart c 34 h refl, apart c 45 h refl, outside 48 57 c h (omega arith), apart c 91 h refl, apart c 123 h refl, apart c 110 h refl, apart c 116 h refl, apart c 102 h refl, choose) refl)
+start-ascii c n =
+    ascii-unless c λ h. n
+    (rw (
+      apart c 34 h refl,
+      apart c 45 h refl,
+      outside 48 57 c h (omega arith),
+      apart c 91 h refl,
+      apart c 123 h refl,
+      apart c 110 h refl,
+      apart c 116 h refl,
+      apart c 102 h refl,
+      choose,
+    ) refl)
 
 pub unescaped-high : (c : ℕ) → isAscii c ≡ false → isUnescaped c ≡ true
 unescaped-high c h = rw (leb-true 32 c (omega (arith, high c h)), apart c 34 h refl, apart c 92 h refl) refl
@@ -113,7 +144,8 @@ Fits never d = Unit {0}
 pub lead-fits : (c : ℕ) → Fits (lead c) (isAscii c)
 lead-fits c = go (ltb c 128) (between 194 223 c) (eqb c 224) (eqb c 237) (between 225 239 c) (eqb c 240) (between 241 243 c) (eqb c 244) refl refl refl refl refl refl refl refl
   where
-    go : (a b d e f g h i : Bool) → ltb c 128 ≡ a → between 194 223 c ≡ b → eqb c 224 ≡ d → eqb c 237 ≡ e → between 225 239 c ≡ f → eqb c 240 ≡ g → between 241 243 c ≡ h → eqb c 244 ≡ i → Fits (lead c) (isAscii c)
+    go : (a b d e f g h i : Bool) → ltb c 128 ≡ a → between 194 223 c ≡ b → eqb c 224 ≡ d → eqb c 237 ≡ e → between 225 239 c ≡ f →
+        eqb c 240 ≡ g → between 241 243 c ≡ h → eqb c 244 ≡ i → Fits (lead c) (isAscii c)
     go true b d e f g h i p1 p2 p3 p4 p5 p6 p7 p8 = rw (p1, choose) tt
     go false true d e f g h i p1 p2 p3 p4 p5 p6 p7 p8 = rw (p1, p2, choose) (refl, omega arith)
     go false false true e f g h i p1 p2 p3 p4 p5 p6 p7 p8 = rw (p1, p2, p3, choose) (refl, omega arith)
@@ -132,7 +164,8 @@ pub not-ascii : (low h c : ℕ) → 128 ≤ low → between low h c ≡ true →
 not-ascii low h c l e = leb-false (suc c) 128 (omega (arith, between-in low h c e))
 
 -- a UTF-8 text cut before a byte, where one of that byte and the one before it is ASCII
-cut-from : (good : Bytes) (e : Expect) (d : Bool) → Fits e d → (c : ℕ) (t : Bytes) → utf8 e (good ++ (c ∷ t)) ≡ true → (isAscii c ≡ false → lastAscii d good ≡ true) → utf8 e good ≡ true
+cut-from : (good : Bytes) (e : Expect) (d : Bool) → Fits e d → (c : ℕ) (t : Bytes) → utf8 e (good ++ (c ∷ t)) ≡ true →
+    (isAscii c ≡ false → lastAscii d good ≡ true) → utf8 e good ≡ true
 unfolding utf8
 cut-from [] scalar d f c t h k = refl
 cut-from [] (tail low high n) d f c t h k = go (between low high c) refl
@@ -144,7 +177,8 @@ cut-from [] never d f c t h k = absurd (false≢true h)
 cut-from (b ∷ good) scalar d f c t h k = cut-from good (lead b) (isAscii b) (lead-fits b) c t h k
 cut-from (b ∷ good) (tail low high n) d f c t h k = go (λ i j. cut-from good (after n) (isAscii b) i c t j k) (between low high b) refl
   where
-    go : (Fits (after n) (isAscii b) → utf8 (after n) (good ++ (c ∷ t)) ≡ true → utf8 (after n) good ≡ true) → (x : Bool) → between low high b ≡ x → utf8 (tail low high n) (b ∷ good) ≡ true
+    go : (Fits (after n) (isAscii b) → utf8 (after n) (good ++ (c ∷ t)) ≡ true → utf8 (after n) good ≡ true) → (x : Bool) →
+        between low high b ≡ x → utf8 (tail low high n) (b ∷ good) ≡ true
     go below true q = rw (q, utf8) (below (after-fits n (isAscii b) (not-ascii low high b (f .1) q)) (rw (q, utf8) at h))
     go below false q = absurd (false≢true (rw (q, utf8) at h))
 cut-from (b ∷ good) never d f c t h k = absurd (false≢true h)

@@ -12,9 +12,71 @@ use lib.ListN.{length, length-append}
 use Rattle.json.proofs.Laws.{bind-ok, bind-refused, bind-same, eqb-false, eqb-no, eqb-same, eqb-true, leb-true, ok-injective, sameBytes-true}
 use Rattle.json.proofs.Sound.{AfterInt, From, between-in, between-not, between-of, between-out, json-sound, leb-false, leb-le, leb-lt, one-here, one-there}
 use Rattle.json.specs.Bytes.{Bytes, ascii, between, choose, isOneOf, sameBytes}
-use Rattle.json.specs.Fault.{Part, PartIn, PartOf, Passes, Twice, again, inArray, inObject, itself, laterElement, laterMember, passesDepth, passesName, passesNodes, passesNumber, thisElement, thisMember}
+use Rattle.json.specs.Fault.{
+  Part,
+  PartIn,
+  PartOf,
+  Passes,
+  Twice,
+  again,
+  inArray,
+  inObject,
+  itself,
+  laterElement,
+  laterMember,
+  passesDepth,
+  passesName,
+  passesNodes,
+  passesNumber,
+  thisElement,
+  thisMember,
+}
 use Rattle.json.specs.Grammar
-use Rattle.json.specs.Grammar.{Chars, Digits, Elements, Escape, Exp, Frac, Hex, Int, JsonText, MembersOf, Minus, MoreElements, MoreMembers, Number, Sign, SomeDigits, Spells, Structural, Within, Ws, close, exp, frac, isUnescaped, minus, noDigit, noExp, noFrac, noHex, noMinus, noSign, noSpace, nonzero, oneDigit, oneHex, pair, sign, simple, someDigits, space, structural, unescaped, unit}
+use Rattle.json.specs.Grammar.{
+  Chars,
+  Digits,
+  Elements,
+  Escape,
+  Exp,
+  Frac,
+  Hex,
+  Int,
+  JsonText,
+  MembersOf,
+  Minus,
+  MoreElements,
+  MoreMembers,
+  Number,
+  Sign,
+  SomeDigits,
+  Spells,
+  Structural,
+  Within,
+  Ws,
+  close,
+  exp,
+  frac,
+  isUnescaped,
+  minus,
+  noDigit,
+  noExp,
+  noFrac,
+  noHex,
+  noMinus,
+  noSign,
+  noSpace,
+  nonzero,
+  oneDigit,
+  oneHex,
+  pair,
+  sign,
+  simple,
+  someDigits,
+  space,
+  structural,
+  unescaped,
+  unit,
+}
 use Rattle.json.specs.Json.{Members, Value, Values, array, bool, cons, empty, keys, member, nil, null, number, object, text}
 use Rattle.json.specs.Limits
 use Rattle.json.specs.Limits.{depth, depthIn, depthOf, nodes, nodesIn, nodesOf, tidy, tidyIn, tidyOf}
@@ -115,11 +177,13 @@ plain-unit u e =
 pub high-unit : (u : ℕ) → between 55296 56319 u ≡ true → unit16 u ≡ highUnit
 high-unit u e = rw (e, choose) refl
 
-pub lowHalf-complete : (high low : ℕ) (r : Bytes) → between 56320 57343 low ≡ true → lowHalf high (record { got = low; rest = r }) ≡ ok (record { got = encode (65536 + (high - 55296) * 1024 + (low - 56320)); rest = r })
+pub lowHalf-complete : (high low : ℕ) (r : Bytes) → between 56320 57343 low ≡ true → lowHalf high (record { got = low; rest = r }) ≡
+    ok (record { got = encode (65536 + (high - 55296) * 1024 + (low - 56320)); rest = r })
 unfolding lowHalf
 lowHalf-complete high low r e = rw (e, lowHalf) refl
 
-highHalf-complete : (high low : ℕ) (u r : Bytes) → Hex 4 0 low u r → between 56320 57343 low ≡ true → highHalf high (ascii "\\u" ++ u) ≡ ok (record { got = encode (65536 + (high - 55296) * 1024 + (low - 56320)); rest = r })
+highHalf-complete : (high low : ℕ) (u r : Bytes) → Hex 4 0 low u r → between 56320 57343 low ≡ true → highHalf high (ascii "\\u" ++ u) ≡
+    ok (record { got = encode (65536 + (high - 55296) * 1024 + (low - 56320)); rest = r })
 unfolding highHalf
 highHalf-complete high low u r h b = bind-ok (lowHalf high) (hex-complete h) ∙ lowHalf-complete high low r b
 
@@ -130,11 +194,17 @@ pub escape-complete : {x s r : Bytes} → Escape x s r → escape s ≡ ok (reco
 unfolding escape unicode ofUnit
 escape-complete (simple e) = rw (e, escape) refl
 escape-complete (unit {c} {u} {x} {s} {r} e h b p) =
-    rw (not-simple c e, escape, ap (λ (k : ℕ). eqb k 117) e) (bind-ok ofUnit (hex-complete h) ∙ rw (plain-unit u b, ofUnit) (ap {B = Result (Read Bytes)} (λ y. ok (record { got = y; rest = r })) (sym p)))
+    rw (not-simple c e, escape, ap (λ (k : ℕ). eqb k 117) e)
+    (bind-ok ofUnit (hex-complete h) ∙
+    rw (plain-unit u b, ofUnit) (ap {B = Result (Read Bytes)} (λ y. ok (record { got = y; rest = r })) (sym p)))
 escape-complete (pair {c} {high} {low} {x} {s} {t} {u} {r} e h b p k d q) =
     rw
     (not-simple c e, escape, ap (λ (i : ℕ). eqb i 117) e)
-    (bind-ok ofUnit (hex-complete h) ∙ rw (high-unit high b, ofUnit) (ap (highHalf high) p ∙ highHalf-complete high low u r k d ∙ ap {B = Result (Read Bytes)} (λ y. ok (record { got = y; rest = r })) (sym q)))
+    (bind-ok ofUnit (hex-complete h) ∙
+    rw (high-unit high b, ofUnit)
+    (ap (highHalf high) p ∙
+    highHalf-complete high low u r k d ∙
+    ap {B = Result (Read Bytes)} (λ y. ok (record { got = y; rest = r })) (sym q)))
 
 pub unescaped-char : (c : ℕ) → isUnescaped c ≡ true → char c ≡ other
 unescaped-char c e = go (leb 32 c) (eqb c 34) (eqb c 92) refl refl refl e
@@ -185,7 +255,9 @@ Onward p c s r = (isStop (onward p (digit c)) ≡ false) × From (onward p (digi
 onward-by : (p : Place) (c : ℕ) (s r : Bytes) (d : Numerals.Digit) → digit c ≡ d → isStop (onward p d) ≡ false → From (onward p d) s r → Onward p c s r
 onward-by p c s r d e f h = subst (λ (k : Numerals.Digit). (isStop (onward p k) ≡ false) × From (onward p k) s r) (sym e) (f, h)
 
-onward-digit : (p : Place) (c : ℕ) (s r : Bytes) → between 48 57 c ≡ true → isStop (onward p Numerals.isZero) ≡ false → isStop (onward p Numerals.isNonzero) ≡ false → From (onward p Numerals.isZero) s r → From (onward p Numerals.isNonzero) s r → Onward p c s r
+onward-digit : (p : Place) (c : ℕ) (s r : Bytes) → between 48 57 c ≡ true → isStop (onward p Numerals.isZero) ≡ false →
+    isStop (onward p Numerals.isNonzero) ≡ false → From (onward p Numerals.isZero) s r → From (onward p Numerals.isNonzero) s r →
+    Onward p c s r
 onward-digit p c s r e f g h k = go (digit-any c e)
   where
     go : (digit c ≡ Numerals.isZero) ⊎ (digit c ≡ Numerals.isNonzero) → Onward p c s r
@@ -197,18 +269,26 @@ digit-e c (inl e) = rw e refl
 digit-e c (inr e) = rw e refl
 
 -- the parts, from a first byte that belongs to the number
-next-exp : (p : Place) (c : ℕ) (s r : Bytes) → isStop (onward p Numerals.isE) ≡ false → ((t : Bytes) → Sign s t → SomeDigits t r → From (onward p Numerals.isE) s r) → Exp (c ∷ s) r → length r ≤ length s → Onward p c s r
+next-exp : (p : Place) (c : ℕ) (s r : Bytes) → isStop (onward p Numerals.isE) ≡ false →
+    ((t : Bytes) → Sign s t → SomeDigits t r → From (onward p Numerals.isE) s r) → Exp (c ∷ s) r → length r ≤ length s → Onward p c s r
 next-exp p c s r f k noExp l = absurd (omega (arith, l))
 next-exp p c s r f k (exp {t = t} e g d) l = onward-by p c s r Numerals.isE (digit-e c e) f (k t g d)
 
-next-digits : (p : Place) (c : ℕ) (s t r : Bytes) → Digits (c ∷ s) t → isStop (onward p Numerals.isZero) ≡ false → isStop (onward p Numerals.isNonzero) ≡ false → (Digits s t → From (onward p Numerals.isZero) s r) → (Digits s t → From (onward p Numerals.isNonzero) s r) → (t ≡ c ∷ s → Onward p c s r) → Onward p c s r
+next-digits : (p : Place) (c : ℕ) (s t r : Bytes) → Digits (c ∷ s) t → isStop (onward p Numerals.isZero) ≡ false →
+    isStop (onward p Numerals.isNonzero) ≡ false → (Digits s t → From (onward p Numerals.isZero) s r) →
+    (Digits s t → From (onward p Numerals.isNonzero) s r) → (t ≡ c ∷ s → Onward p c s r) → Onward p c s r
 next-digits p c s t r noDigit f g h k z = z refl
 next-digits p c s t r (oneDigit e d) f g h k z = onward-digit p c s r e f g (h d) (k d)
 
-next-someDigits : (p : Place) (c : ℕ) (s t r : Bytes) → SomeDigits (c ∷ s) t → isStop (onward p Numerals.isZero) ≡ false → isStop (onward p Numerals.isNonzero) ≡ false → (Digits s t → From (onward p Numerals.isZero) s r) → (Digits s t → From (onward p Numerals.isNonzero) s r) → Onward p c s r
+next-someDigits : (p : Place) (c : ℕ) (s t r : Bytes) → SomeDigits (c ∷ s) t → isStop (onward p Numerals.isZero) ≡ false →
+    isStop (onward p Numerals.isNonzero) ≡ false → (Digits s t → From (onward p Numerals.isZero) s r) →
+    (Digits s t → From (onward p Numerals.isNonzero) s r) → Onward p c s r
 next-someDigits p c s t r (someDigits e d) f g h k = onward-digit p c s r e f g (h d) (k d)
 
-next-frac : (p : Place) (c : ℕ) (s t r : Bytes) → isStop (onward p Numerals.isPoint) ≡ false → isStop (onward p Numerals.isE) ≡ false → ((u : Bytes) → SomeDigits s u → Exp u r → From (onward p Numerals.isPoint) s r) → ((u : Bytes) → Sign s u → SomeDigits u r → From (onward p Numerals.isE) s r) → Frac (c ∷ s) t → Exp t r → length r ≤ length s → Onward p c s r
+next-frac : (p : Place) (c : ℕ) (s t r : Bytes) → isStop (onward p Numerals.isPoint) ≡ false → isStop (onward p Numerals.isE) ≡ false →
+    ((u : Bytes) → SomeDigits s u → Exp u r → From (onward p Numerals.isPoint) s r) →
+    ((u : Bytes) → Sign s u → SomeDigits u r → From (onward p Numerals.isE) s r) → Frac (c ∷ s) t → Exp t r → length r ≤ length s →
+    Onward p c s r
 next-frac p c s t r f g h k noFrac x l = next-exp p c s r g k x l
 next-frac p c s t r f g h k (frac e d) x l = onward-by p c s r Numerals.isPoint (rw e refl) f (h t d x)
 
@@ -275,7 +355,8 @@ digits-long (c ∷ x) p left r h l = go (λ k j. digits-long x (onward p (digit 
     o : Onward p c (x ++ r) r
     o = from-next p c (x ++ r) r h (omega (arith, length-append x r))
 
-    go : (From (onward p (digit c)) (x ++ r) r → left - 1 < length x → digits (onward p (digit c)) (left - 1) (x ++ r) ≡ refused numberTooLong) → (b : Bool) → eqb left 0 ≡ b → digits p left (c ∷ (x ++ r)) ≡ refused numberTooLong
+    go : (From (onward p (digit c)) (x ++ r) r → left - 1 < length x → digits (onward p (digit c)) (left - 1) (x ++ r) ≡
+        refused numberTooLong) → (b : Bool) → eqb left 0 ≡ b → digits p left (c ∷ (x ++ r)) ≡ refused numberTooLong
     go below true q = rw (o .0, digits, q) refl
     go below false q = rw (o .0, digits, q) (rw (below (o .1) (omega (arith, eqb-no left 0 q))) refl)
 
@@ -402,7 +483,8 @@ begins (Spells.isArray o es c) = begins-structural 91 refl refl o
 begins (Spells.isObject o ms c) = begins-structural 123 refl refl o
 
 -- results that differ only in how the rest and the count are written
-parsed : {A : Type 0} (a : A) {r r′ : Bytes} {n n′ : ℕ} → r ≡ r′ → n ≡ n′ → _≡_ {A = Result (Parsed A)} (ok (record { tree = a; rest = r; count = n })) (ok (record { tree = a; rest = r′; count = n′ }))
+parsed : {A : Type 0} (a : A) {r r′ : Bytes} {n n′ : ℕ} → r ≡ r′ → n ≡
+    n′ → _≡_ {A = Result (Parsed A)} (ok (record { tree = a; rest = r; count = n })) (ok (record { tree = a; rest = r′; count = n′ }))
 parsed a p q = cc
 
 -- what a reader answers on what the grammar spells: its tree, or the refusal of a limit for a cause C
@@ -422,11 +504,14 @@ why-map : {A : Type 0} {x : Result A} {a : A} {C D : Refusal → Type 0} → ((q
 why-map f (reads h) = reads h
 why-map f (passed q h c) = passed q h (f q c)
 
-why-bind : {A B : Type 0} {x : Result A} {a : A} {b : B} {C D : Refusal → Type 0} (f : A → Result B) → Why x a C → ((q : Refusal) → C q → D q) → Why (f a) b D → Why (x >>= f) b D
+why-bind :
+    {A B : Type 0} {x : Result A} {a : A} {b : B} {C D : Refusal → Type 0} (f : A → Result B) → Why x a C → ((q : Refusal) → C q → D q) →
+    Why (f a) b D → Why (x >>= f) b D
 why-bind f (reads h) k w = why-at (bind-ok f h) w
 why-bind f (passed q h c) k w = passed q (ap (λ y. y >>= f) h) (k q c)
 
-node-why : {B : Type 0} {b : B} {C : Refusal → Type 0} (n : ℕ) (f : ℕ → Result B) → Why (f (n + 1)) b C → (Limits.maxNodes < n + 1 → C tooManyNodes) → Why (Reader.oneNode n >>= f) b C
+node-why : {B : Type 0} {b : B} {C : Refusal → Type 0} (n : ℕ) (f : ℕ → Result B) → Why (f (n + 1)) b C →
+    (Limits.maxNodes < n + 1 → C tooManyNodes) → Why (Reader.oneNode n >>= f) b C
 unfolding Reader.oneNode
 node-why {b} {C} n f w full = go (ltb n Limits.maxNodes) refl
   where
@@ -441,17 +526,22 @@ pub data Causes (deep many long twice : Type 0) : Refusal → Type 0 where
   isLong : long → Causes deep many long twice numberTooLong
   isTwice : twice → Causes deep many long twice repeatedName
 
-causes-map : {d m l t d′ m′ l′ t′ : Type 0} → (d → d′) → (m → m′) → (l → l′) → (t → t′) → (q : Refusal) → Causes d m l t q → Causes d′ m′ l′ t′ q
+causes-map :
+    {d m l t d′ m′ l′ t′ : Type 0} → (d → d′) → (m → m′) → (l → l′) → (t → t′) → (q : Refusal) → Causes d m l t q → Causes d′ m′ l′ t′ q
 causes-map f g h k q (isDeep x) = isDeep (f x)
 causes-map f g h k q (isMany x) = isMany (g x)
 causes-map f g h k q (isLong x) = isLong (h x)
 causes-map f g h k q (isTwice x) = isTwice (k x)
 
 abbrev Cause : ℕ → ℕ → Value → Refusal → Type 0
-Cause left n v = Causes (left < depth v) (Limits.maxNodes < n + nodes v) ((x : Bytes) × Part (number x) v × (Limits.maxNumber < length x)) ((ms : Members) × Part (object ms) v × Twice ms)
+Cause left n v =
+    Causes (left < depth v) (Limits.maxNodes < n + nodes v) ((x : Bytes) × Part (number x) v × (Limits.maxNumber < length x))
+    ((ms : Members) × Part (object ms) v × Twice ms)
 
 abbrev CauseIn : ℕ → ℕ → Values → Refusal → Type 0
-CauseIn left n vs = Causes (left < depthIn vs) (Limits.maxNodes < n + nodesIn vs) ((x : Bytes) × PartIn (number x) vs × (Limits.maxNumber < length x)) ((ms : Members) × PartIn (object ms) vs × Twice ms)
+CauseIn left n vs =
+    Causes (left < depthIn vs) (Limits.maxNodes < n + nodesIn vs) ((x : Bytes) × PartIn (number x) vs × (Limits.maxNumber < length x))
+    ((ms : Members) × PartIn (object ms) vs × Twice ms)
 
 -- a name of an object's members that stands before them, or twice among them, or a repeated one further in
 pub data Repeats (names : List Bytes) (ms : Members) : Type 0 where
@@ -531,19 +621,28 @@ module _ (arr obj : Reader.Parser Value) (n : ℕ) where
   string-complete : (x s r : Bytes) → Grammar.String x s r → ReadsScalar (text x) s r
   string-complete x s r (Grammar.string {c} {s = t} e k) = subst (λ (y : ℕ). ReadsScalar (text x) (y ∷ t) r) (sym e) (text-complete x t r k)
 
-  number-reads : (c : ℕ) (x r : Bytes) → First c (x ++ r) r → Reader.valueWith arr obj n (skip (c ∷ (x ++ r))) ≡ (Reader.oneNode n >>= λ m. digits (Numerals.first c) (Limits.maxNumber - 1) (x ++ r) >>= λ t. ok (record { tree = number (c ∷ t .got); rest = skip (t .rest); count = m }))
+  number-reads : (c : ℕ) (x r : Bytes) → First c (x ++ r) r → Reader.valueWith arr obj n (skip (c ∷ (x ++ r))) ≡
+      (Reader.oneNode n >>= λ m. digits (Numerals.first c) (Limits.maxNumber - 1) (x ++ r) >>= λ t. ok
+      (record { tree = number (c ∷ t .got); rest = skip (t .rest); count = m }))
   unfolding Reader.valueWith
   number-reads c x r f = rw (skip-idle c (x ++ r) (f .0), f .1, Reader.valueWith) refl
 
-  number-why : (left : ℕ) (x s r : Bytes) → Number s r → s ≡ x ++ r → Ends r → Why (Reader.valueWith arr obj n (skip s)) (record { tree = number x; rest = skip r; count = n + 1 }) (Cause left n (number x))
+  number-why : (left : ℕ) (x s r : Bytes) → Number s r → s ≡ x ++ r → Ends r →
+      Why (Reader.valueWith arr obj n (skip s)) (record { tree = number x; rest = skip r; count = n + 1 }) (Cause left n (number x))
   unfolding nodes
   number-why left [] s r k p e = absurd (omega (arith, number-length k, ap length p))
-  number-why left (c ∷ x) s r k p e = why-at (ap (λ (y : Bytes). Reader.valueWith arr obj n (skip y)) p ∙ number-reads c x r f) (node-why n _ (go (leb (length (c ∷ x)) Limits.maxNumber) refl) (λ h. isMany h))
+  number-why left (c ∷ x) s r k p e =
+      why-at (ap (λ (y : Bytes). Reader.valueWith arr obj n (skip y)) p ∙ number-reads c x r f)
+      (node-why n _ (go (leb (length (c ∷ x)) Limits.maxNumber) refl) (λ h. isMany h))
     where
       f : First c (x ++ r) r
       f = first-number c (x ++ r) r (subst (λ (y : Bytes). Number y r) p k)
 
-      go : (b : Bool) → leb (length (c ∷ x)) Limits.maxNumber ≡ b → Why {A = Parsed Value} (digits (Numerals.first c) (Limits.maxNumber - 1) (x ++ r) >>= λ t. ok (record { tree = number (c ∷ t .got); rest = skip (t .rest); count = n + 1 })) (record { tree = number (c ∷ x); rest = skip r; count = n + 1 }) (Cause left n (number (c ∷ x)))
+      go : (b : Bool) → leb (length (c ∷ x)) Limits.maxNumber ≡
+          b → Why {A = Parsed Value}
+          (digits (Numerals.first c) (Limits.maxNumber - 1) (x ++ r) >>= λ t. ok
+          (record { tree = number (c ∷ t .got); rest = skip (t .rest); count = n + 1 }))
+          (record { tree = number (c ∷ x); rest = skip r; count = n + 1 }) (Cause left n (number (c ∷ x)))
       go true q = reads (bind-ok _ (digits-complete x (Numerals.first c) (Limits.maxNumber - 1) r (f .2) e (omega (arith, leb-le {m = length (c ∷ x)} {n = Limits.maxNumber} q))))
       go false q =
           let l = leb-lt {m = length (c ∷ x)} {n = Limits.maxNumber} q in
@@ -579,7 +678,9 @@ AfterItem val f v k x =
           refused notJson
     ]
 
-items-why : {C D : Refusal → Type 0} (val : Reader.Parser Value) (f n : ℕ) (s rest : Bytes) (v : Value) (k : ℕ) (p : Parsed Values) → Why (val n s) (record { tree = v; rest = rest; count = k }) C → ((q : Refusal) → C q → D q) → Why (AfterItem val f v k (Reader.next 93 rest)) p D → Why (Reader.items val (suc f) n s) p D
+items-why : {C D : Refusal → Type 0} (val : Reader.Parser Value) (f n : ℕ) (s rest : Bytes) (v : Value) (k : ℕ) (p : Parsed Values) →
+    Why (val n s) (record { tree = v; rest = rest; count = k }) C → ((q : Refusal) → C q → D q) →
+    Why (AfterItem val f v k (Reader.next 93 rest)) p D → Why (Reader.items val (suc f) n s) p D
 unfolding Reader.items
 items-why val f n s rest v k p e h g = why-bind _ e h g
 
@@ -600,25 +701,44 @@ unfolding Reader.newName
 newName-complete k names s e = rw (e, Reader.newName) refl
 
 module _ {C D : Refusal → Type 0} {p : Parsed Members} (val : Reader.Parser Value) (f n : ℕ) (names : List Bytes) (s t u rest : Bytes) (k : Bytes) (v : Value) (m : ℕ) where
-  fields-why : Chars k s t → skip t ≡ 58 ∷ u → (Limits.maxNodes < n + 1 → D tooManyNodes) → (isOneOf k names ≡ true → D repeatedName) → Why (val (n + 1) (skip u)) (record { tree = v; rest = rest; count = m }) C → ((q : Refusal) → C q → D q) → Why (AfterField val f names k v m (Reader.next 125 rest)) p D → Why (Reader.fields val (suc f) names n (34 ∷ s)) p D
+  fields-why : Chars k s t → skip t ≡ 58 ∷ u → (Limits.maxNodes < n + 1 → D tooManyNodes) → (isOneOf k names ≡ true → D repeatedName) →
+      Why (val (n + 1) (skip u)) (record { tree = v; rest = rest; count = m }) C → ((q : Refusal) → C q → D q) →
+      Why (AfterField val f names k v m (Reader.next 125 rest)) p D → Why (Reader.fields val (suc f) names n (34 ∷ s)) p D
   unfolding Reader.fields Reader.newName
   fields-why c colon full clash e h g = node-why n _ (why-at (bind-ok _ (chars-complete (length s) (omega arith) c)) (go (isOneOf k names) refl)) full
     where
-      go : (b : Bool) → isOneOf k names ≡ b → Why (Reader.newName k names t >>= λ r. expect 58 (skip r) >>= λ w. val (n + 1) (skip w) >>= λ x. AfterField val f names k (x .tree) (x .count) (Reader.next 125 (x .rest))) p D
+      go : (b : Bool) → isOneOf k names ≡ b →
+          Why
+          (Reader.newName k names t >>= λ r. expect 58 (skip r) >>= λ w. val (n + 1) (skip w) >>= λ x. AfterField val f names k (x .tree)
+          (x .count) (Reader.next 125 (x .rest))) p D
       go true q = passed repeatedName (rw (q, Reader.newName) refl) (clash q)
       go false q = why-at (bind-ok _ (newName-complete k names t q) ∙ bind-ok _ (ap (expect 58) colon ∙ expect-complete 58 u)) (why-bind _ e h g)
 
 abbrev ArrayBody : Reader.Parser Value → ℕ → ℕ → Bytes → Result (Parsed Value)
-ArrayBody val f m x = elim (Reader.isClosed 93 x) [ some w ↦ ok (record { tree = array nil; rest = skip w; count = m }) | none ↦ (Reader.items val f m x >>= λ vs. ok (record { tree = array (vs .tree); rest = vs .rest; count = vs .count })) ]
+ArrayBody val f m x =
+    elim (Reader.isClosed 93 x) [
+      | some w ↦ ok (record { tree = array nil; rest = skip w; count = m })
+      | none ↦
+          (Reader.items val f m x >>= λ vs. ok (record { tree = array (vs .tree); rest = vs .rest; count = vs .count }))
+    ]
 
 abbrev ObjectBody : Reader.Parser Value → ℕ → ℕ → Bytes → Result (Parsed Value)
-ObjectBody val f m x = elim (Reader.isClosed 125 x) [ some w ↦ ok (record { tree = object empty; rest = skip w; count = m }) | none ↦ (Reader.fields val f [] m x >>= λ ms. ok (record { tree = object (ms .tree); rest = ms .rest; count = ms .count })) ]
+ObjectBody val f m x =
+    elim (Reader.isClosed 125 x) [
+      | some w ↦ ok (record { tree = object empty; rest = skip w; count = m })
+      | none ↦
+          (Reader.fields val f [] m x >>= λ ms. ok (record { tree = object (ms .tree); rest = ms .rest; count = ms .count }))
+    ]
 
-array-open : (left n : ℕ) (t : Bytes) {p : Parsed Value} {C : Refusal → Type 0} → Why (ArrayBody (Reader.value left) (length t) (n + 1) (skip t)) p C → (Limits.maxNodes < n + 1 → C tooManyNodes) → Why (Reader.value (suc left) n (91 ∷ t)) p C
+array-open :
+    (left n : ℕ) (t : Bytes) {p : Parsed Value} {C : Refusal → Type 0} → Why (ArrayBody (Reader.value left) (length t) (n + 1) (skip t)) p C →
+    (Limits.maxNodes < n + 1 → C tooManyNodes) → Why (Reader.value (suc left) n (91 ∷ t)) p C
 unfolding Reader.value
 array-open left n t w full = node-why n _ w full
 
-object-open : (left n : ℕ) (t : Bytes) {p : Parsed Value} {C : Refusal → Type 0} → Why (ObjectBody (Reader.value left) (length t) (n + 1) (skip t)) p C → (Limits.maxNodes < n + 1 → C tooManyNodes) → Why (Reader.value (suc left) n (123 ∷ t)) p C
+object-open : (left n : ℕ) (t : Bytes) {p : Parsed Value} {C : Refusal → Type 0} →
+    Why (ObjectBody (Reader.value left) (length t) (n + 1) (skip t)) p C → (Limits.maxNodes < n + 1 → C tooManyNodes) →
+    Why (Reader.value (suc left) n (123 ∷ t)) p C
 unfolding Reader.value
 object-open left n t w full = node-why n _ w full
 
@@ -629,10 +749,14 @@ too-deep n t = (refl, refl)
 not-closed : (end c : ℕ) (s : Bytes) → eqb c end ≡ false → Reader.isClosed end (c ∷ s) ≡ none
 not-closed end c s e = rw (e, Reader.isClosed) refl
 
-array-items : {C : Refusal → Type 0} (val : Reader.Parser Value) (f m : ℕ) (x : Bytes) (q : Parsed Values) → Reader.isClosed 93 x ≡ none → Why (Reader.items val f m x) q C → Why (ArrayBody val f m x) (record { tree = array (q .tree); rest = q .rest; count = q .count }) C
+array-items : {C : Refusal → Type 0} (val : Reader.Parser Value) (f m : ℕ) (x : Bytes) (q : Parsed Values) → Reader.isClosed 93 x ≡
+    none → Why (Reader.items val f m x) q C → Why (ArrayBody val f m x)
+    (record { tree = array (q .tree); rest = q .rest; count = q .count }) C
 array-items val f m x q e g = rw (e, ArrayBody) (why-bind _ g (λ r c. c) (reads refl))
 
-object-fields : {C : Refusal → Type 0} (val : Reader.Parser Value) (f m : ℕ) (x : Bytes) (q : Parsed Members) → Reader.isClosed 125 x ≡ none → Why (Reader.fields val f [] m x) q C → Why (ObjectBody val f m x) (record { tree = object (q .tree); rest = q .rest; count = q .count }) C
+object-fields : {C : Refusal → Type 0} (val : Reader.Parser Value) (f m : ℕ) (x : Bytes) (q : Parsed Members) → Reader.isClosed 125 x ≡
+    none → Why (Reader.fields val f [] m x) q C → Why (ObjectBody val f m x)
+    (record { tree = object (q .tree); rest = q .rest; count = q .count }) C
 object-fields val f m x q e g = rw (e, ObjectBody) (why-bind _ g (λ r c. c) (reads refl))
 
 string-parts : {k s t : Bytes} → Grammar.String k s t → (y : Bytes) × (skip s ≡ 34 ∷ y) × Chars k y t × (s ≡ 34 ∷ y)
@@ -642,12 +766,20 @@ string-parts (Grammar.string {s = y} e c) = let q = ap (λ (x : ℕ). x ∷ y) e
 abbrev WhyFields : ℕ → ℕ → List Bytes → ℕ → Members → Bytes → Bytes → Type 0
 WhyFields left f names n ms s r = Why (Reader.fields (Reader.value left) f names n (skip s)) (record { tree = ms; rest = skip r; count = n + nodesOf ms }) (CauseOf left n names ms)
 
-member-why : (left f : ℕ) (names : List Bytes) (n : ℕ) {k s t u : Bytes} {v : Value} (ms : Members) (w r : Bytes) → Grammar.String k s t → Structural 58 t u → WhyValue left (n + 1) v u w → Why (AfterField (Reader.value left) f names k v (n + 1 + nodes v) (Reader.next 125 (skip w))) (record { tree = member k v ms; rest = skip r; count = n + 1 + nodes v + nodesOf ms }) (CauseOf left (n + 1 + nodes v) (k ∷ names) ms) → WhyFields left (suc f) names n (member k v ms) s r
+member-why : (left f : ℕ) (names : List Bytes) (n : ℕ) {k s t u : Bytes} {v : Value} (ms : Members) (w r : Bytes) → Grammar.String k s t →
+    Structural 58 t u → WhyValue left (n + 1) v u w →
+    Why (AfterField (Reader.value left) f names k v (n + 1 + nodes v) (Reader.next 125 (skip w)))
+    (record { tree = member k v ms; rest = skip r; count = n + 1 + nodes v + nodesOf ms }) (CauseOf left (n + 1 + nodes v) (k ∷ names) ms) →
+    WhyFields left (suc f) names n (member k v ms) s r
 unfolding nodes
 member-why left f names n {k} {t} {v} ms w r name colon h rest =
     let y = string-parts name in
     let z = structural-skip 58 refl colon in
-    why-at (ap (Reader.fields (Reader.value left) (suc f) names n) (y .1)) (fields-why (Reader.value left) f n names (y .0) t (z .0) (skip w) k v (n + 1 + nodes v) (y .2) (z .1) (λ l. isMany (omega arith)) (λ e. isTwice (before k e (one-here k (keys ms)))) (why-at (ap (Reader.value left (n + 1)) (z .2)) h) (field-cause left n names k v ms) (why-as (parsed (member k v ms) refl (omega arith)) (why-map (rest-cause left n names k v ms) rest)))
+    why-at (ap (Reader.fields (Reader.value left) (suc f) names n) (y .1))
+    (fields-why (Reader.value left) f n names (y .0) t (z .0) (skip w) k v (n + 1 + nodes v) (y .2) (z .1) (λ l. isMany (omega arith))
+    (λ e. isTwice (before k e (one-here k (keys ms)))) (why-at (ap (Reader.value left (n + 1)) (z .2)) h)
+    (field-cause left n names k v ms)
+    (why-as (parsed (member k v ms) refl (omega arith)) (why-map (rest-cause left n names k v ms) rest)))
 
 -- reading each rule of the grammar
 mutual
@@ -664,48 +796,108 @@ mutual
       passed tooDeep (ap (λ (x : Bytes). Reader.value 0 n x) (k .1) ∙ too-deep n (k .0) .0) (isDeep (omega arith))
   value-why (Spells.isArray {vs} {s} {t} {u} {r} o es c) (suc left) n en =
       let k = structural-skip 91 refl o in
-      why-at (ap (λ (x : Bytes). Reader.value (suc left) n x) (k .1)) (array-open left n (k .0) (why-at (ap (ArrayBody (Reader.value left) (length (k .0)) (n + 1)) (k .2)) (why-as (parsed (array vs) refl (omega arith)) (why-map (array-cause left n vs) (elements-why es (length (k .0)) left (n + 1) r c (k .3))))) (λ h. isMany (omega arith)))
+      why-at (ap (λ (x : Bytes). Reader.value (suc left) n x) (k .1))
+      (array-open left n (k .0)
+      (why-at (ap (ArrayBody (Reader.value left) (length (k .0)) (n + 1)) (k .2))
+      (why-as (parsed (array vs) refl (omega arith))
+      (why-map (array-cause left n vs) (elements-why es (length (k .0)) left (n + 1) r c (k .3))))) (λ h. isMany (omega arith)))
   value-why (Spells.isObject {ms} {s} {t} {u} {r} o es c) zero n en =
       let k = structural-skip 123 refl o in
       passed tooDeep (ap (λ (x : Bytes). Reader.value 0 n x) (k .1) ∙ too-deep n (k .0) .1) (isDeep (omega arith))
   value-why (Spells.isObject {ms} {s} {t} {u} {r} o es c) (suc left) n en =
       let k = structural-skip 123 refl o in
-      why-at (ap (λ (x : Bytes). Reader.value (suc left) n x) (k .1)) (object-open left n (k .0) (why-at (ap (ObjectBody (Reader.value left) (length (k .0)) (n + 1)) (k .2)) (why-as (parsed (object ms) refl (omega arith)) (why-map (object-cause left n ms) (members-why es (length (k .0)) left (n + 1) r c (k .3))))) (λ h. isMany (omega arith)))
+      why-at (ap (λ (x : Bytes). Reader.value (suc left) n x) (k .1))
+      (object-open left n (k .0)
+      (why-at (ap (ObjectBody (Reader.value left) (length (k .0)) (n + 1)) (k .2))
+      (why-as (parsed (object ms) refl (omega arith))
+      (why-map (object-cause left n ms) (members-why es (length (k .0)) left (n + 1) r c (k .3))))) (λ h. isMany (omega arith)))
 
-  elements-why : {vs : Values} {t u : Bytes} → Elements vs t u → (f left m : ℕ) (r : Bytes) → Structural 93 u r → length t ≤ f → Why (ArrayBody (Reader.value left) f m (skip t)) (record { tree = array vs; rest = skip r; count = m + nodesIn vs }) (CauseIn left m vs)
+  elements-why : {vs : Values} {t u : Bytes} → Elements vs t u → (f left m : ℕ) (r : Bytes) → Structural 93 u r → length t ≤ f →
+      Why (ArrayBody (Reader.value left) f m (skip t)) (record { tree = array vs; rest = skip r; count = m + nodesIn vs })
+      (CauseIn left m vs)
   elements-why (Grammar.noElement {s}) f left m r c l =
       let k = structural-skip 93 refl c in
       reads (ap (ArrayBody (Reader.value left) f m) (k .1) ∙ parsed (array nil) (k .2) (omega arith))
   elements-why (Grammar.elements {v} {vs} {s} {t} {r = u} p more) f left m r c l =
       let b = begins p in
-      array-items (Reader.value left) f m (skip s) (record { tree = cons v vs; rest = skip r; count = m + nodesIn (cons v vs) }) (ap (Reader.isClosed 93) (b .skipped) ∙ not-closed 93 (b .byte) (b .others) (b .isNo93)) (with-suc (λ g. Why (Reader.items (Reader.value left) g m (skip s)) (record { tree = cons v vs; rest = skip r; count = m + nodesIn (cons v vs) }) (CauseIn left m (cons v vs))) f (omega (arith, l, spells-length p)) λ g q.
-      items-why (Reader.value left) g m (skip s) (skip t) v (m + nodes v) _ (value-why p left m (more-ends more c)) (head-cause left m v vs) (why-as (parsed (cons v vs) refl (omega arith)) (why-map (tail-cause left m v vs) (more-why more g left v (m + nodes v) r c (omega (arith, l, q, spells-length p))))))
+      array-items (Reader.value left) f m (skip s) (record { tree = cons v vs; rest = skip r; count = m + nodesIn (cons v vs) }) (ap
+      (Reader.isClosed 93) (b .skipped) ∙ not-closed 93 (b .byte) (b .others) (b .isNo93)) (with-suc (λ g. Why (Reader.items
+      (Reader.value left) g m (skip s)) (record { tree = cons v vs; rest = skip r; count = m + nodesIn (cons v vs) }) (CauseIn left m
+      (cons v vs))) f (omega (arith, l, spells-length p)) λ g q.
+      items-why (Reader.value left) g m (skip s) (skip t) v (m + nodes v) _ (value-why p left m (more-ends more c))
+      (head-cause left m v vs)
+      (why-as (parsed (cons v vs) refl (omega arith))
+      (why-map (tail-cause left m v vs) (more-why more g left v (m + nodes v) r c (omega (arith, l, q, spells-length p))))))
 
-  more-why : {vs : Values} {t u : Bytes} → MoreElements vs t u → (f left : ℕ) (v : Value) (k : ℕ) (r : Bytes) → Structural 93 u r → length t ≤ f → Why (AfterItem (Reader.value left) f v k (Reader.next 93 (skip t))) (record { tree = cons v vs; rest = skip r; count = k + nodesIn vs }) (CauseIn left k vs)
+  more-why :
+      {vs : Values} {t u : Bytes} → MoreElements vs t u → (f left : ℕ) (v : Value) (k : ℕ) (r : Bytes) → Structural 93 u r → length t ≤ f →
+      Why (AfterItem (Reader.value left) f v k (Reader.next 93 (skip t)))
+      (record { tree = cons v vs; rest = skip r; count = k + nodesIn vs }) (CauseIn left k vs)
   more-why (Grammar.lastElement {s}) f left v k r c l =
       let y = structural-skip 93 refl c in
       reads (ap (λ (x : Bytes). AfterItem (Reader.value left) f v k (Reader.next 93 x)) (y .1) ∙ parsed (cons v nil) (y .2) (omega arith))
   more-why (Grammar.nextElement {v = w} {vs} {s} {t} {u} {r = x} d p more) f left v k r c l =
       let y = structural-skip 44 refl d in
-      why-at (ap (λ (z : Bytes). AfterItem (Reader.value left) f v k (Reader.next 93 z)) (y .1) ∙ ap (λ (z : Bytes). Reader.items (Reader.value left) f k z >>= λ l. ok (record { tree = cons v (l .tree); rest = l .rest; count = l .count })) (y .2)) (why-bind _ (with-suc (λ g. Why (Reader.items (Reader.value left) g k (skip t)) (record { tree = cons w vs; rest = skip r; count = k + nodesIn (cons w vs) }) (CauseIn left k (cons w vs))) f (omega (arith, l, structural-length d, spells-length p)) λ g q.
-      items-why (Reader.value left) g k (skip t) (skip u) w (k + nodes w) _ (value-why p left k (more-ends more c)) (head-cause left k w vs) (why-as (parsed (cons w vs) refl (omega arith)) (why-map (tail-cause left k w vs) (more-why more g left w (k + nodes w) r c (omega (arith, l, q, structural-length d, spells-length p)))))) (λ q h. h) (reads refl))
+      why-at (ap (λ (z : Bytes). AfterItem (Reader.value left) f v k (Reader.next 93 z)) (y .1) ∙ ap (λ (z : Bytes). Reader.items
+      (Reader.value left) f k z >>= λ l. ok (record { tree = cons v (l .tree); rest = l .rest; count = l .count })) (y .2)) (why-bind _
+      (with-suc (λ g. Why (Reader.items (Reader.value left) g k (skip t)) (record {
+        tree = cons w vs;
+        rest = skip r;
+        count = k + nodesIn
+            (cons w vs);
+      }) (CauseIn left k (cons w vs))) f (omega (arith, l, structural-length d, spells-length p)) λ g q.
+      items-why (Reader.value left) g k (skip t) (skip u) w (k + nodes w) _ (value-why p left k (more-ends more c))
+      (head-cause left k w vs)
+      (why-as (parsed (cons w vs) refl (omega arith))
+      (why-map (tail-cause left k w vs)
+      (more-why more g left w (k + nodes w) r c (omega (arith, l, q, structural-length d, spells-length p)))))) (λ q h. h) (reads refl))
 
-  members-why : {ms : Members} {t u : Bytes} → MembersOf ms t u → (f left m : ℕ) (r : Bytes) → Structural 125 u r → length t ≤ f → Why (ObjectBody (Reader.value left) f m (skip t)) (record { tree = object ms; rest = skip r; count = m + nodesOf ms }) (CauseOf left m [] ms)
+  members-why : {ms : Members} {t u : Bytes} → MembersOf ms t u → (f left m : ℕ) (r : Bytes) → Structural 125 u r → length t ≤ f →
+      Why (ObjectBody (Reader.value left) f m (skip t)) (record { tree = object ms; rest = skip r; count = m + nodesOf ms })
+      (CauseOf left m [] ms)
   members-why (Grammar.noMember {s}) f left m r c l =
       let k = structural-skip 125 refl c in
       reads (ap (ObjectBody (Reader.value left) f m) (k .1) ∙ parsed (object empty) (k .2) (omega arith))
   members-why (Grammar.members {k} {v} {ms} {s} {t} {u} {w} {r = x} name colon p more) f left m r c l =
-      object-fields (Reader.value left) f m (skip s) (record { tree = member k v ms; rest = skip r; count = m + nodesOf (member k v ms) }) (ap (Reader.isClosed 125) (string-parts name .1)) (with-suc (λ g. WhyFields left g [] m (member k v ms) s r) f (omega (arith, l, string-length name)) λ g q.
-      member-why left g [] m ms w r name colon (value-why p left (m + 1) (moreMembers-ends more c)) (moreMembers-why more g left [] k v (m + 1 + nodes v) r c (omega (arith, l, q, string-length name, structural-length colon, spells-length p))))
+      object-fields (Reader.value left) f m (skip s) (record {
+        tree = member k v ms;
+        rest = skip r;
+        count = m + nodesOf (member k v ms);
+      }) (ap (Reader.isClosed 125) (string-parts name .1)) (with-suc (λ g. WhyFields left g [] m (member k v ms) s r) f (omega (
+        arith,
+        l,
+        string-length name,
+      )) λ g q.
+      member-why left g [] m ms w r name colon (value-why p left (m + 1) (moreMembers-ends more c))
+      (moreMembers-why more g left [] k v (m + 1 + nodes v) r c
+      (omega (arith, l, q, string-length name, structural-length colon, spells-length p))))
 
-  moreMembers-why : {ms : Members} {t u : Bytes} → MoreMembers ms t u → (f left : ℕ) (names : List Bytes) (k : Bytes) (v : Value) (n : ℕ) (r : Bytes) → Structural 125 u r → length t ≤ f → Why (AfterField (Reader.value left) f names k v n (Reader.next 125 (skip t))) (record { tree = member k v ms; rest = skip r; count = n + nodesOf ms }) (CauseOf left n (k ∷ names) ms)
+  moreMembers-why :
+      {ms : Members} {t u : Bytes} → MoreMembers ms t u → (f left : ℕ) (names : List Bytes) (k : Bytes) (v : Value) (n : ℕ) (r : Bytes) →
+      Structural 125 u r → length t ≤ f →
+      Why (AfterField (Reader.value left) f names k v n (Reader.next 125 (skip t)))
+      (record { tree = member k v ms; rest = skip r; count = n + nodesOf ms }) (CauseOf left n (k ∷ names) ms)
   moreMembers-why (Grammar.lastMember {s}) f left names k v n r c l =
       let y = structural-skip 125 refl c in
       reads (ap (λ (x : Bytes). AfterField (Reader.value left) f names k v n (Reader.next 125 x)) (y .1) ∙ parsed (member k v empty) (y .2) (omega arith))
   moreMembers-why (Grammar.nextMember {k = j} {v = w} {ms} {s} {s′} {t} {u} {w = x} {r = o} d name colon p more) f left names k v n r c l =
       let a = structural-skip 44 refl d in
-      why-at (ap (λ (b : Bytes). AfterField (Reader.value left) f names k v n (Reader.next 125 b)) (a .1) ∙ ap (λ (b : Bytes). Reader.fields (Reader.value left) f (k ∷ names) n b >>= λ l. ok (record { tree = member k v (l .tree); rest = l .rest; count = l .count })) (a .2)) (why-bind _ (with-suc (λ g. WhyFields left g (k ∷ names) n (member j w ms) s′ r) f (omega (arith, l, structural-length d, string-length name)) λ g q.
-      member-why left g (k ∷ names) n ms x r name colon (value-why p left (n + 1) (moreMembers-ends more c)) (moreMembers-why more g left (k ∷ names) j w (n + 1 + nodes w) r c (omega (arith, l, q, structural-length d, string-length name, structural-length colon, spells-length p)))) (λ q h. h) (reads refl))
+      why-at (ap (λ (b : Bytes). AfterField (Reader.value left) f names k v n (Reader.next 125 b)) (a .1) ∙ ap (λ (b : Bytes).
+      Reader.fields (Reader.value left) f (k ∷ names) n b >>= λ l. ok (record {
+        tree = member k v (l .tree);
+        rest = l .rest;
+        count = l
+            .count;
+      })) (a .2)) (why-bind _ (with-suc (λ g. WhyFields left g (k ∷ names) n (member j w ms) s′ r) f (omega (
+        arith,
+        l,
+        structural-length d,
+        string-length name,
+      )) λ g q.
+      member-why left g (k ∷ names) n ms x r name colon (value-why p left (n + 1) (moreMembers-ends more c))
+      (moreMembers-why more g left (k ∷ names) j w (n + 1 + nodes w) r c
+      (omega (arith, l, q, structural-length d, string-length name, structural-length colon, spells-length p)))) (λ q h. h)
+      (reads refl))
 
 -- A JSON text is read as its tree, or refused with one of 5 to 8, whose limit the tree passes.
 passes-of : (v : Value) (q : Refusal) → Cause Limits.maxDepth 0 v q → Passes q v
@@ -716,7 +908,9 @@ passes-of v q (isTwice h) = passesName (h .1) (h .2)
 
 pub why-refused : (s : Bytes) (v : Value) → JsonText v s → Why (Reader.parse s) v (λ q. Passes q v)
 unfolding Reader.parse Reader.whole-text
-why-refused s v t = why-at (ap (λ (x : Bytes). Reader.value Limits.maxDepth 0 x >>= Reader.whole-text) (skip-of (t .before))) (why-bind Reader.whole-text (value-why (t .spelled) Limits.maxDepth 0 (ws-ends (t .behind) tt)) (passes-of v) (reads whole))
+why-refused s v t =
+    why-at (ap (λ (x : Bytes). Reader.value Limits.maxDepth 0 x >>= Reader.whole-text) (skip-of (t .before)))
+    (why-bind Reader.whole-text (value-why (t .spelled) Limits.maxDepth 0 (ws-ends (t .behind) tt)) (passes-of v) (reads whole))
   where
     ended : skip (t .to) ≡ []
     ended = skip-of (t .behind) ∙ none-left
@@ -750,12 +944,16 @@ mutual
 
   partOf-tidy : {w : Value} {ms : Members} → PartOf w ms → (limit : ℕ) → tidyOf limit ms ≡ true → tidy limit w ≡ true
   partOf-tidy (thisMember {k} {v} {ms} p) limit e = part-tidy p limit (and-left (tidy limit v) (tidyOf limit ms) (and-right (not (isOneOf k (keys ms))) (tidy limit v && tidyOf limit ms) e))
-  partOf-tidy (laterMember {k} {v} {ms} p) limit e = partOf-tidy p limit (and-right (tidy limit v) (tidyOf limit ms) (and-right (not (isOneOf k (keys ms))) (tidy limit v && tidyOf limit ms) e))
+  partOf-tidy (laterMember {k} {v} {ms} p) limit e =
+      partOf-tidy p limit
+      (and-right (tidy limit v) (tidyOf limit ms) (and-right (not (isOneOf k (keys ms))) (tidy limit v && tidyOf limit ms) e))
 
 twice-untidy : {ms : Members} → Twice ms → (limit : ℕ) → tidyOf limit ms ≡ true → ⊥
 unfolding tidy
 twice-untidy (again {k} {v} {ms} f) limit e = true≢false (sym (and-left (not (isOneOf k (keys ms))) (tidy limit v && tidyOf limit ms) e) ∙ ap not f)
-twice-untidy (Twice.later {k} {v} {ms} t) limit e = twice-untidy t limit (and-right (tidy limit v) (tidyOf limit ms) (and-right (not (isOneOf k (keys ms))) (tidy limit v && tidyOf limit ms) e))
+twice-untidy (Twice.later {k} {v} {ms} t) limit e =
+    twice-untidy t limit
+    (and-right (tidy limit v) (tidyOf limit ms) (and-right (not (isOneOf k (keys ms))) (tidy limit v && tidyOf limit ms) e))
 
 within-passes : {q : Refusal} {v : Value} → Passes q v → depth v ≤ Limits.maxDepth → nodes v ≤ Limits.maxNodes → tidy Limits.maxNumber v ≡ true → ⊥
 unfolding tidy

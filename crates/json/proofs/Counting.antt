@@ -12,7 +12,36 @@ use Rattle.json.proofs.Laws.{eqb-false, eqb-true}
 use Rattle.json.proofs.Sound.{between-in, between-of}
 use Rattle.json.specs.Bytes.{Bytes, between, choose}
 use Rattle.json.specs.Grammar
-use Rattle.json.specs.Grammar.{Chars, Digits, Elements, Escape, Exp, Frac, Hex, Int, JsonText, MembersOf, Minus, MoreElements, MoreMembers, Number, Sign, SomeDigits, Spells, Structural, Ws, isUnescaped, noHex, noSpace, oneHex, pair, simple, space, structural, unit}
+use Rattle.json.specs.Grammar.{
+  Chars,
+  Digits,
+  Elements,
+  Escape,
+  Exp,
+  Frac,
+  Hex,
+  Int,
+  JsonText,
+  MembersOf,
+  Minus,
+  MoreElements,
+  MoreMembers,
+  Number,
+  Sign,
+  SomeDigits,
+  Spells,
+  Structural,
+  Ws,
+  isUnescaped,
+  noHex,
+  noSpace,
+  oneHex,
+  pair,
+  simple,
+  space,
+  structural,
+  unit,
+}
 use Rattle.json.specs.Json.{Members, Value, Values}
 use Rattle.json.specs.Limits.{nodes, nodesIn, nodesOf}
 use Rattle.json.specs.Scan.{isSpace}
@@ -33,7 +62,8 @@ Settled Tally.word = Unit {0}
 Settled (Tally.numeral k) = Unit {0}
 
 -- a byte that goes on with no number and no word
-pub settled-byte : (n d : ℕ) (e : Tally.Ending) (c : ℕ) → Settled e → Tally.isLetter c ≡ false → Tally.inNumber c ≡ false → further (tally n d e) c ≡ Tally.begin n d (Tally.mark c)
+pub settled-byte : (n d : ℕ) (e : Tally.Ending) (c : ℕ) → Settled e → Tally.isLetter c ≡ false → Tally.inNumber c ≡ false →
+    further (tally n d e) c ≡ Tally.begin n d (Tally.mark c)
 settled-byte n d Tally.outside c h p q = refl
 settled-byte n d Tally.quoted c h p q = absurd h
 settled-byte n d Tally.escaped c h p q = absurd h
@@ -84,7 +114,9 @@ ws-counted n d e h noSpace = record { ending = e; settled = h; same = refl }
 ws-counted n d e h (space {c} {s} i k) = record { ending = Tally.outside; settled = tt; same = ap (λ t. tallied t s) (space-clears n d e c h i) ∙ ws-clear n d k }
 
 -- a structural byte: the same as between two tokens
-pub structural-counted : {c : ℕ} {s r : Bytes} (n d : ℕ) (e : Tally.Ending) → Settled e → Tally.isLetter c ≡ false → Tally.inNumber c ≡ false → (m b : ℕ) → Tally.begin n d (Tally.mark c) ≡ clear m b → Structural c s r → tallied (tally n d e) s ≡ tallied (clear m b) r
+pub structural-counted :
+    {c : ℕ} {s r : Bytes} (n d : ℕ) (e : Tally.Ending) → Settled e → Tally.isLetter c ≡ false → Tally.inNumber c ≡ false → (m b : ℕ) →
+    Tally.begin n d (Tally.mark c) ≡ clear m b → Structural c s r → tallied (tally n d e) s ≡ tallied (clear m b) r
 structural-counted {c} n d e h p q m b i (structural {t = t} x y) =
     let k = ws-counted n d e h x in
     k .same ∙ ap (λ z. tallied z t) (settled-byte n d (k .ending) c (k .settled) p q ∙ i) ∙ ws-clear m b y
@@ -134,7 +166,10 @@ escape-over : {y s t : Bytes} (n d : ℕ) → Escape y s t → Over (tally n d T
 escape-over n d (simple e) = over-byte refl over-none
 escape-over n d (unit e k p q) = over-byte refl (hex-over n d k)
 escape-over n d (pair {r = r} e k p q l m i) =
-    over-byte refl (over-then (hex-over n d k) (subst (λ (x : Bytes). Over (tally n d Tally.quoted) x r (tally n d Tally.quoted)) (sym q) (over-byte refl (over-byte refl (hex-over n d l)))))
+    over-byte refl
+    (over-then (hex-over n d k)
+    (subst (λ (x : Bytes). Over (tally n d Tally.quoted) x r (tally n d Tally.quoted)) (sym q)
+    (over-byte refl (over-byte refl (hex-over n d l)))))
 
 -- a string's characters up to the closing quote
 pub chars-over : {x s r : Bytes} (n d : ℕ) → Chars x s r → Over (tally n d Tally.quoted) s (34 ∷ r) (tally n d Tally.quoted)
@@ -165,7 +200,17 @@ digit-byte c h = rw h refl
 pub digit-mark : (c : ℕ) → between 48 57 c ≡ true → Tally.mark c ≡ Tally.figure
 digit-mark c h =
     let b = between-in 48 57 c h in
-    rw (eqb-false c 91 (λ e. omega arith), eqb-false c 123 (λ e. omega arith), eqb-false c 93 (λ e. omega arith), eqb-false c 125 (λ e. omega arith), eqb-false c 34 (λ e. omega arith), eqb-false c 45 (λ e. omega arith), h, choose) refl
+    rw (
+      eqb-false c 91 (λ e. omega arith),
+      eqb-false c 123 (λ e. omega arith),
+      eqb-false c 93 (λ e. omega arith),
+      eqb-false c 125
+          (λ e. omega arith),
+      eqb-false c 34 (λ e. omega arith),
+      eqb-false c 45 (λ e. omega arith),
+      h,
+      choose,
+    ) refl
 
 pub nonzero-digit : (c : ℕ) → between 49 57 c ≡ true → between 48 57 c ≡ true
 nonzero-digit c h = let b = between-in 49 57 c h in between-of 48 57 c (omega arith) (omega arith)
@@ -244,7 +289,10 @@ pub record Stands (c : ℕ) : Type 0 where
   pub no-letter : Tally.isLetter c ≡ false
   pub no-number : Tally.inNumber c ≡ false
 
-bracketed : {s t u r : Bytes} (n d k byte end : ℕ) → Tally.mark byte ≡ Tally.opens → Stands byte → Tally.mark end ≡ Tally.closes → Stands end → Structural byte s t → Counted (n + 1) (d + 1) (n + 1 + k) Tally.outside t u → Structural end u r → Counted n d (n + (1 + k)) Tally.outside s r
+bracketed :
+    {s t u r : Bytes} (n d k byte end : ℕ) → Tally.mark byte ≡ Tally.opens → Stands byte → Tally.mark end ≡ Tally.closes → Stands end →
+    Structural byte s t → Counted (n + 1) (d + 1) (n + 1 + k) Tally.outside t u → Structural end u r →
+    Counted n d (n + (1 + k)) Tally.outside s r
 bracketed {r = r} n d k byte end o p c x a h b =
     record {
       ending = Tally.outside;
@@ -266,8 +314,12 @@ mutual
   spells-counted n d (Spells.isFalse e) = record { ending = Tally.word; settled = tt; same = ap (tallied (clear n d)) e }
   spells-counted n d (Spells.isNumber t e) = number-counted n d t
   spells-counted n d (Spells.isText t) = record { ending = Tally.outside; settled = tt; same = string-counted n d t }
-  spells-counted n d (Spells.isArray {vs} o t c) = bracketed n d (nodesIn vs) 91 93 refl (record { no-letter = refl; no-number = refl }) refl (record { no-letter = refl; no-number = refl }) o (elements-counted (n + 1) (d + 1) t) c
-  spells-counted n d (Spells.isObject {ms} o t c) = bracketed n d (nodesOf ms) 123 125 refl (record { no-letter = refl; no-number = refl }) refl (record { no-letter = refl; no-number = refl }) o (members-counted (n + 1) (d + 1) t) c
+  spells-counted n d (Spells.isArray {vs} o t c) =
+      bracketed n d (nodesIn vs) 91 93 refl (record { no-letter = refl; no-number = refl }) refl
+      (record { no-letter = refl; no-number = refl }) o (elements-counted (n + 1) (d + 1) t) c
+  spells-counted n d (Spells.isObject {ms} o t c) =
+      bracketed n d (nodesOf ms) 123 125 refl (record { no-letter = refl; no-number = refl }) refl
+      (record { no-letter = refl; no-number = refl }) o (members-counted (n + 1) (d + 1) t) c
 
   elements-counted : {vs : Values} {s r : Bytes} (n d : ℕ) → Elements vs s r → Counted n d (n + nodesIn vs) Tally.outside s r
   elements-counted n d Grammar.noElement = counted-at (omega arith) (record { ending = Tally.outside; settled = tt; same = refl })
@@ -287,7 +339,8 @@ mutual
   more-members-counted : {ms : Members} {s r : Bytes} (n d : ℕ) (e : Tally.Ending) → Settled e → MoreMembers ms s r → Counted n d (n + nodesOf ms) e s r
   more-members-counted n d e k Grammar.lastMember = counted-at (omega arith) (record { ending = e; settled = k; same = refl })
   more-members-counted n d e k (Grammar.nextMember {v = v} {ms} b q c h t) =
-      behind-of (structural-counted n d e k refl refl n d refl b ∙ string-counted n d q ∙ structural-counted (n + 1) d Tally.outside tt refl refl (n + 1) d refl c) (both (spells-counted (n + 1) d h) λ f l.
+      behind-of (structural-counted n d e k refl refl n d refl b ∙ string-counted n d q ∙ structural-counted (n + 1) d Tally.outside tt
+      refl refl (n + 1) d refl c) (both (spells-counted (n + 1) d h) λ f l.
       counted-at (omega arith) (more-members-counted (n + 1 + nodes v) d f l t))
 
 -- Over a JSON text so many nodes have begun as its tree has, and no bracket is open.
@@ -339,5 +392,6 @@ one-place t n (x ∷ p) [] c d r u e a b =
 one-place t n (x ∷ p) (y ∷ q) c d r u e a b =
     let i : x ≡ y = cc in
     let j : p ++ (c ∷ r) ≡ q ++ (d ∷ u) = cc in
-    let k = one-place (further t x) n p q c d r u j (record { before = a .before; with-it = a .with-it }) (subst (λ (z : ℕ). Begins (further t z) n q d) (sym i) (record { before = b .before; with-it = b .with-it })) in
+    let k = one-place (further t x) n p q c d r u j (record { before = a .before; with-it = a .with-it })
+    (subst (λ (z : ℕ). Begins (further t z) n q d) (sym i) (record { before = b .before; with-it = b .with-it })) in
     cc

@@ -59,9 +59,16 @@ module _ (s : Bytes) (at u : ℕ) where
   unfolding before
   raw-byte e b q t = record { byte = q; onText = record { stop = e; text = t; few = omega arith }; falls = omega (arith, t .order, t .upto) }
 
-  pub of-escape : (e v k left b : ℕ) → textAt s at ≡ encode v ++ textAt s k → Text s k e → at + 2 ≤ k → left ≤ 3 → encode v ≡ b ∷ tails left v → Took s at u 0 b k v left
+  pub of-escape :
+      (e v k left b : ℕ) → textAt s at ≡ encode v ++ textAt s k → Text s k e → at + 2 ≤ k → left ≤ 3 → encode v ≡ b ∷ tails left v →
+      Took s at u 0 b k v left
   unfolding before
-  of-escape e v k left b q t h f g = record { byte = q ∙ ap {B = Bytes} (λ l. l ++ textAt s k) g; onText = record { stop = e; text = t; few = f }; falls = omega (arith, t .order, t .upto) }
+  of-escape e v k left b q t h f g =
+      record {
+        byte = q ∙ ap {B = Bytes} (λ l. l ++ textAt s k) g;
+        onText = record { stop = e; text = t; few = f };
+        falls = omega (arith, t .order, t .upto);
+      }
 
 -- the same by what code has tested
 module _ (s : Bytes) (at u left : ℕ) (o : OnText s at left) where
@@ -108,7 +115,9 @@ module _ (s : Bytes) (at u left : ℕ) (o : OnText s at left) where
         go (raw i j k t) = absurd (not-raw e j)
         go (written v b i j k t l) = let n : _≡_ {A = ℕ} 0 1 = cc in absurd (omega arith)
 
-    pub turn-escape : (v p n b : ℕ) → getD s at 0 ≡ 92 → escaped (drop (at + 1) s) ≡ ok (record { got = v; rest = drop p s }) → p ≤ length s → n ≤ 3 → encode v ≡ b ∷ tails n v → Took s at u left b p v n
+    pub turn-escape :
+        (v p n b : ℕ) → getD s at 0 ≡ 92 → escaped (drop (at + 1) s) ≡ ok (record { got = v; rest = drop p s }) → p ≤ length s → n ≤ 3 →
+        encode v ≡ b ∷ tails n v → Took s at u left b p v n
     turn-escape v p n b e q h m f = go (text-view s at (o .stop) (o .text))
       where
         go : TextView s at (o .stop) → Took s at u left b p v n
@@ -248,7 +257,11 @@ module _ {s : Bytes} {a b n : ℕ} (l : Abreast s a b n) where
         let g′ : getD s (b + n) 0 ≡ 92 → ⊥ = λ q. g (e ∙ q) in
         let x : a + (n + 1) ≡ a + n + 1 = omega arith in
         let y : b + (n + 1) ≡ b + n + 1 = omega arith in
-        record { onA = rw x (text-behind (l .onA) f g); onB = rw y (text-behind (l .onB) f′ g′); same = l .same ∙ order-on (text-begins (l .onA) f g) (text-begins (l .onB) f′ g′) e ∙ rw (x, y) }
+        record {
+          onA = rw x (text-behind (l .onA) f g);
+          onB = rw y (text-behind (l .onB) f′ g′);
+          same = l .same ∙ order-on (text-begins (l .onA) f g) (text-begins (l .onB) f′ g′) e ∙ rw (x, y);
+        }
 
     module _ (f′ : getD s (b + n) 0 ≡ 34 → ⊥) (g′ : getD s (b + n) 0 ≡ 92 → ⊥) where
       pub abreast-less : getD s (a + n) 0 < getD s (b + n) 0 → orderBytes (textAt s a) (textAt s b) ≡ Ordering·lt

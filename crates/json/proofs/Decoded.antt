@@ -11,7 +11,32 @@ use Rattle.json.specs.Bytes.{Bytes}
 use Rattle.json.specs.Fits.{Fits, FitsIn, FitsLeaf, FitsOf, Text, fitsArr, fitsField, fitsLeaf, fitsNode, fitsObj}
 use Rattle.json.specs.Held.{FieldsAt, NodeAt, NodesAt}
 use Rattle.json.specs.Json.{array, object}
-use Rattle.json.specs.Spans.{Fields, Node, Nodes, Plain, arr, deep, erase, eraseIn, eraseOf, field, isFalse, isNull, isNumber, isText, isTrue, leaf, noField, noNode, node, obj, plain, size, sizeIn, sizeOf}
+use Rattle.json.specs.Spans.{
+  Fields,
+  Node,
+  Nodes,
+  Plain,
+  arr,
+  deep,
+  erase,
+  eraseIn,
+  eraseOf,
+  field,
+  isFalse,
+  isNull,
+  isNumber,
+  isText,
+  isTrue,
+  leaf,
+  noField,
+  noNode,
+  node,
+  obj,
+  plain,
+  size,
+  sizeIn,
+  sizeOf,
+}
 use Rattle.json.specs.Table.{afterAt, code, endAt, kind, kindAt, membersBy, plainKind, rows, rowsIn, rowsOf, shaped, startAt, valueBy, valuesBy}
 use borrow.Author.Tests.{le-ltb, lt-ltb}
 
@@ -111,11 +136,35 @@ module _ (s : Bytes) (w : List ℕ) where
 
   pub arr-parts : (left n a e : ℕ) (ts : Nodes) → NodeAt s w left n (arr a e ts) → (1 ≤ left) × NodesAt s w (left - 1) (n + 1) (n + 1 + sizeIn ts) ts
   unfolding rows deep
-  arr-parts left n a e ts h = (omega (arith, h .shallow), record { words = (h .words .0, rest w (3 * n) (3 * (n + 1)) ((8 * a + 5) ∷ e ∷ (n + 1 + sizeIn ts) ∷ []) (rowsIn ts (n + 1)) (h .words .0) (h .words .1) (omega arith)); upto = refl; shallow = omega (arith, h .shallow); fits = arr-fits (h .fits) })
+  arr-parts left n a e ts h = (
+    omega (arith, h .shallow),
+    record {
+      words = (
+        h .words .0,
+        rest w (3 * n) (3 * (n + 1)) ((8 * a + 5) ∷ e ∷ (n + 1 + sizeIn ts) ∷ []) (rowsIn ts (n + 1)) (h .words .0)
+            (h .words .1) (omega arith),
+      );
+      upto = refl;
+      shallow = omega (arith, h .shallow);
+      fits = arr-fits (h .fits);
+    },
+  )
 
   pub obj-parts : (left n a e : ℕ) (fs : Fields) → NodeAt s w left n (obj a e fs) → (1 ≤ left) × FieldsAt s w (left - 1) (n + 1) (n + 1 + sizeOf fs) fs
   unfolding rows deep
-  obj-parts left n a e fs h = (omega (arith, h .shallow), record { words = (h .words .0, rest w (3 * n) (3 * (n + 1)) ((8 * a + 6) ∷ e ∷ (n + 1 + sizeOf fs) ∷ []) (rowsOf fs (n + 1)) (h .words .0) (h .words .1) (omega arith)); upto = refl; shallow = omega (arith, h .shallow); fits = obj-fits (h .fits) })
+  obj-parts left n a e fs h = (
+    omega (arith, h .shallow),
+    record {
+      words = (
+        h .words .0,
+        rest w (3 * n) (3 * (n + 1)) ((8 * a + 6) ∷ e ∷ (n + 1 + sizeOf fs) ∷ []) (rowsOf fs (n + 1)) (h .words .0)
+            (h .words .1) (omega arith),
+      );
+      upto = refl;
+      shallow = omega (arith, h .shallow);
+      fits = obj-fits (h .fits);
+    },
+  )
 
   pub node-after : (left n : ℕ) (t : Node) → NodeAt s w left n t → afterAt w n ≡ n + size t
   unfolding size
@@ -129,31 +178,50 @@ module _ (s : Bytes) (w : List ℕ) where
       let f = head-fits (h .fits) in
       let r = h .words .0 in (
         record { words = (rowsIn ts (k + size t) ++ r, h .words .1 ∙ append-assoc (rows t k) (rowsIn ts (k + size t)) r); shallow = omega (arith, h .shallow); fits = f .0 },
-        record { words = (r, rest w (3 * k) (3 * (k + size t)) (rows t k) (rowsIn ts (k + size t)) r (h .words .1) (omega (arith, length-rows t k))); upto = omega (arith, h .upto); shallow = omega (arith, h .shallow); fits = f .1 },
+        record {
+          words = (
+            r,
+            rest w (3 * k) (3 * (k + size t)) (rows t k) (rowsIn ts (k + size t)) r (h .words .1)
+                (omega (arith, length-rows t k)),
+          );
+          upto = omega (arith, h .upto);
+          shallow = omega (arith, h .shallow);
+          fits = f .1;
+        },
       )
 
-  pub fields-parts : (left k e a b : ℕ) (t : Node) (fs : Fields) → FieldsAt s w left k e (field a b t fs) → Row w k a 4 b (k + 1) × Text s a b × NodeAt s w left (k + 1) t × FieldsAt s w left (k + 1 + size t) e fs
+  pub fields-parts : (left k e a b : ℕ) (t : Node) (fs : Fields) → FieldsAt s w left k e (field a b t fs) →
+      Row w k a 4 b (k + 1) × Text s a b × NodeAt s w left (k + 1) t × FieldsAt s w left (k + 1 + size t) e fs
   unfolding rows size deep
   fields-parts left k e a b t fs h =
       let f = field-fits (h .fits) in
       let r = h .words .0 in
       let us = rowsOf fs (k + 1 + size t) in
-      let z : drop (3 * (k + 1)) w ≡ (rows t (k + 1) ++ us) ++ r = rest w (3 * k) (3 * (k + 1)) ((8 * a + 4) ∷ b ∷ (k + 1) ∷ []) (rows t (k + 1) ++ us) r (h .words .1) (omega arith) in (
+      let z : drop (3 * (k + 1)) w ≡
+      (rows t (k + 1) ++ us) ++
+      r = rest w (3 * k) (3 * (k + 1)) ((8 * a + 4) ∷ b ∷ (k + 1) ∷ []) (rows t (k + 1) ++ us) r (h .words .1) (omega arith) in (
         row w k a 4 b (k + 1) ((rows t (k + 1) ++ us) ++ r) (omega arith) (h .words .1),
         f .0,
         record { words = (us ++ r, z ∙ append-assoc (rows t (k + 1)) us r); shallow = omega (arith, h .shallow); fits = f .1 },
-        record { words = (r, rest w (3 * (k + 1)) (3 * (k + 1 + size t)) (rows t (k + 1)) us r z (omega (arith, length-rows t (k + 1)))); upto = omega (arith, h .upto); shallow = omega (arith, h .shallow); fits = f .2 },
+        record {
+          words = (r, rest w (3 * (k + 1)) (3 * (k + 1 + size t)) (rows t (k + 1)) us r z (omega (arith, length-rows t (k + 1))));
+          upto = omega (arith, h .upto);
+          shallow = omega (arith, h .shallow);
+          fits = f .2;
+        },
       )
 
   -- ---- the tree is read back
-  arr-value : (left n a e : ℕ) (ts : Nodes) → NodeAt s w (suc left) n (arr a e ts) → valueBy (suc left) s w n ≡ array (valuesBy (valueBy left s w) w (sizeIn ts) (n + 1) (n + 1 + sizeIn ts))
+  arr-value : (left n a e : ℕ) (ts : Nodes) → NodeAt s w (suc left) n (arr a e ts) →
+      valueBy (suc left) s w n ≡ array (valuesBy (valueBy left s w) w (sizeIn ts) (n + 1) (n + 1 + sizeIn ts))
   unfolding valueBy shaped
   arr-value left n a e ts h =
       let r = arr-row (suc left) n a e ts h in
       let q : n + 1 + sizeIn ts - (n + 1) ≡ sizeIn ts = omega arith in
       rw (r .isKind, r .isAfter, q)
 
-  obj-value : (left n a e : ℕ) (fs : Fields) → NodeAt s w (suc left) n (obj a e fs) → valueBy (suc left) s w n ≡ object (membersBy (valueBy left s w) s w (sizeOf fs) (n + 1) (n + 1 + sizeOf fs))
+  obj-value : (left n a e : ℕ) (fs : Fields) → NodeAt s w (suc left) n (obj a e fs) →
+      valueBy (suc left) s w n ≡ object (membersBy (valueBy left s w) s w (sizeOf fs) (n + 1) (n + 1 + sizeOf fs))
   unfolding valueBy shaped
   obj-value left n a e fs h =
       let r = obj-row (suc left) n a e fs h in
@@ -177,9 +245,17 @@ module _ (s : Bytes) (w : List ℕ) where
     pub decoded : (t : Node) (left n : ℕ) → NodeAt s w left n t → valueBy left s w n ≡ erase s t
     decoded (leaf k a e) left n h = leaf-value left n k a e h
     decoded (arr a e ts) zero n h = absurd (omega (arith, h .shallow))
-    decoded (arr a e ts) (suc left) n h = arr-value left n a e ts h ∙ ap array (decodedIn ts left (n + 1) (n + 1 + sizeIn ts) (sizeIn ts) (omega arith) (let q : suc left - 1 ≡ left = omega arith in rw q at (arr-parts (suc left) n a e ts h .1)))
+    decoded (arr a e ts) (suc left) n h =
+        arr-value left n a e ts h ∙
+        ap array
+        (decodedIn ts left (n + 1) (n + 1 + sizeIn ts) (sizeIn ts) (omega arith)
+        (let q : suc left - 1 ≡ left = omega arith in rw q at (arr-parts (suc left) n a e ts h .1)))
     decoded (obj a e fs) zero n h = absurd (omega (arith, h .shallow))
-    decoded (obj a e fs) (suc left) n h = obj-value left n a e fs h ∙ ap object (decodedOf fs left (n + 1) (n + 1 + sizeOf fs) (sizeOf fs) (omega arith) (let q : suc left - 1 ≡ left = omega arith in rw q at (obj-parts (suc left) n a e fs h .1)))
+    decoded (obj a e fs) (suc left) n h =
+        obj-value left n a e fs h ∙
+        ap object
+        (decodedOf fs left (n + 1) (n + 1 + sizeOf fs) (sizeOf fs) (omega arith)
+        (let q : suc left - 1 ≡ left = omega arith in rw q at (obj-parts (suc left) n a e fs h .1)))
 
     pub decodedIn : (ts : Nodes) (left k e m : ℕ) → sizeIn ts ≤ m → NodesAt s w left k e ts → valuesBy (valueBy left s w) w m k e ≡ eraseIn s ts
     decodedIn noNode left k e zero l h = refl

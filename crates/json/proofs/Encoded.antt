@@ -24,12 +24,30 @@ lead-2 : (c : ℕ) → 194 ≤ c → c ≤ 223 → lead c ≡ tail 128 191 0
 lead-2 c h k = let a : 128 ≤ c = omega arith in rw (le-ltb c 128 a, between-of 194 223 c h k, choose)
 
 lead-3 : (c : ℕ) → 225 ≤ c → c ≢ 237 → c ≤ 239 → lead c ≡ tail 128 191 1
-lead-3 c h q k = let a : 128 ≤ c = omega arith in rw (le-ltb c 128 a, between-out 194 223 c (λ i j. omega arith), ne-eqb c 224 (λ e. omega arith), ne-eqb c 237 q, between-of 225 239 c h k, choose)
+lead-3 c h q k =
+    let a : 128 ≤ c = omega arith in rw (
+      le-ltb c 128 a,
+      between-out 194 223 c (λ i j. omega arith),
+      ne-eqb c 224 (λ e. omega arith),
+      ne-eqb c 237 q,
+      between-of 225 239 c h
+          k,
+      choose,
+    )
 
 lead-4 : (c : ℕ) → 241 ≤ c → c ≤ 243 → lead c ≡ tail 128 191 2
 lead-4 c h k =
     let a : 128 ≤ c = omega arith in
-    rw (le-ltb c 128 a, between-out 194 223 c (λ i j. omega arith), ne-eqb c 224 (λ e. omega arith), ne-eqb c 237 (λ e. omega arith), between-out 225 239 c (λ i j. omega arith), ne-eqb c 240 (λ e. omega arith), between-of 241 243 c h k, choose)
+    rw (
+      le-ltb c 128 a,
+      between-out 194 223 c (λ i j. omega arith),
+      ne-eqb c 224 (λ e. omega arith),
+      ne-eqb c 237 (λ e. omega arith),
+      between-out 225 239 c (λ i j. omega arith),
+      ne-eqb c 240 (λ e. omega arith),
+      between-of 241 243 c h k,
+      choose,
+    )
 
 bits-1 : (c : ℕ) → c < 128 → leadBits c ≡ c
 bits-1 c h = rw (lt-ltb c 128 h, choose)
@@ -78,7 +96,12 @@ begins-with c y h a w = rw (between-out 128 191 c h, scalarsFrom) refl
 
 coded-1 : (u : ℕ) → u < 128 → Coded u (u ∷ [])
 unfolding utf8 scalars
-coded-1 u h = record { utf8-on = λ w. ap (λ (e : Expect). utf8 e w) (lead-1 u h); value = λ w. ap (λ (v : ℕ). scalarsFrom v w) (bits-1 u h); begins = begins-with u [] (λ i j. omega arith) }
+coded-1 u h =
+    record {
+      utf8-on = λ w. ap (λ (e : Expect). utf8 e w) (lead-1 u h);
+      value = λ w. ap (λ (v : ℕ). scalarsFrom v w) (bits-1 u h);
+      begins = begins-with u [] (λ i j. omega arith);
+    }
 
 coded-2 : (c d u : ℕ) → 194 ≤ c → c ≤ 223 → 128 ≤ d → d ≤ 191 → (c - 192) * 64 + (d - 128) ≡ u → Coded u (c ∷ d ∷ [])
 unfolding utf8 scalars
@@ -89,21 +112,38 @@ coded-2 c d u h k p q e =
       begins = begins-with c (d ∷ []) (λ i j. omega arith);
     }
 
-coded-3 : (low high c d e u : ℕ) → lead c ≡ tail low high 1 → 224 ≤ c → c ≤ 239 → low ≤ d → d ≤ high → 128 ≤ d → d ≤ 191 → 128 ≤ e → e ≤ 191 → ((c - 224) * 64 + (d - 128)) * 64 + (e - 128) ≡ u → Coded u (c ∷ d ∷ e ∷ [])
+coded-3 :
+    (low high c d e u : ℕ) → lead c ≡ tail low high 1 → 224 ≤ c → c ≤ 239 → low ≤ d → d ≤ high → 128 ≤ d → d ≤ 191 → 128 ≤ e → e ≤ 191 →
+    ((c - 224) * 64 + (d - 128)) * 64 + (e - 128) ≡ u → Coded u (c ∷ d ∷ e ∷ [])
 unfolding utf8 scalars
 coded-3 low high c d e u l h k a b p q r t i =
     record {
       utf8-on = λ w. ap (λ (x : Expect). utf8 x (d ∷ e ∷ w)) l ∙ one-tail low high 1 d (e ∷ w) a b ∙ one-tail 128 191 0 e w r t;
-      value = λ w. ap (λ (v : ℕ). scalarsFrom v (d ∷ e ∷ w)) (bits-3 c h (omega arith)) ∙ six-bits (c - 224) d (e ∷ w) p q ∙ six-bits ((c - 224) * 64 + (d - 128)) e w r t ∙ ap (λ (v : ℕ). scalarsFrom v w) i;
+      value =
+          λ w. ap (λ (v : ℕ). scalarsFrom v (d ∷ e ∷ w)) (bits-3 c h (omega arith)) ∙
+          six-bits (c - 224) d (e ∷ w) p q ∙
+          six-bits ((c - 224) * 64 + (d - 128)) e w r t ∙
+          ap (λ (v : ℕ). scalarsFrom v w) i;
       begins = begins-with c (d ∷ e ∷ []) (λ x y. omega arith);
     }
 
-coded-4 : (low high c d e f u : ℕ) → lead c ≡ tail low high 2 → 240 ≤ c → low ≤ d → d ≤ high → 128 ≤ d → d ≤ 191 → 128 ≤ e → e ≤ 191 → 128 ≤ f → f ≤ 191 → (((c - 240) * 64 + (d - 128)) * 64 + (e - 128)) * 64 + (f - 128) ≡ u → Coded u (c ∷ d ∷ e ∷ f ∷ [])
+coded-4 :
+    (low high c d e f u : ℕ) → lead c ≡ tail low high 2 → 240 ≤ c → low ≤ d → d ≤ high → 128 ≤ d → d ≤ 191 → 128 ≤ e → e ≤ 191 → 128 ≤ f →
+    f ≤ 191 → (((c - 240) * 64 + (d - 128)) * 64 + (e - 128)) * 64 + (f - 128) ≡ u → Coded u (c ∷ d ∷ e ∷ f ∷ [])
 unfolding utf8 scalars
 coded-4 low high c d e f u l h a b p q r t m n i =
     record {
-      utf8-on = λ w. ap (λ (x : Expect). utf8 x (d ∷ e ∷ f ∷ w)) l ∙ one-tail low high 2 d (e ∷ f ∷ w) a b ∙ one-tail 128 191 1 e (f ∷ w) r t ∙ one-tail 128 191 0 f w m n;
-      value = λ w. ap (λ (v : ℕ). scalarsFrom v (d ∷ e ∷ f ∷ w)) (bits-4 c h) ∙ six-bits (c - 240) d (e ∷ f ∷ w) p q ∙ six-bits ((c - 240) * 64 + (d - 128)) e (f ∷ w) r t ∙ six-bits (((c - 240) * 64 + (d - 128)) * 64 + (e - 128)) f w m n ∙ ap (λ (v : ℕ). scalarsFrom v w) i;
+      utf8-on =
+          λ w. ap (λ (x : Expect). utf8 x (d ∷ e ∷ f ∷ w)) l ∙
+          one-tail low high 2 d (e ∷ f ∷ w) a b ∙
+          one-tail 128 191 1 e (f ∷ w) r t ∙
+          one-tail 128 191 0 f w m n;
+      value =
+          λ w. ap (λ (v : ℕ). scalarsFrom v (d ∷ e ∷ f ∷ w)) (bits-4 c h) ∙
+          six-bits (c - 240) d (e ∷ f ∷ w) p q ∙
+          six-bits ((c - 240) * 64 + (d - 128)) e (f ∷ w) r t ∙
+          six-bits (((c - 240) * 64 + (d - 128)) * 64 + (e - 128)) f w m n ∙
+          ap (λ (v : ℕ). scalarsFrom v w) i;
       begins = begins-with c (d ∷ e ∷ f ∷ []) (λ x y. omega arith);
     }
 
@@ -136,8 +176,11 @@ coded u k = go (lengthOf u)
     is : {x : Bytes} → encode u ≡ x → Coded u x → Coded u (encode u)
     is e h = subst (λ y. Coded u y) (sym e) h
 
-    three-bytes : (low high : ℕ) → lead (224 + u / 4096) ≡ tail low high 1 → low ≤ 128 + u / 64 % 64 → 128 + u / 64 % 64 ≤ high → u < 65536 → Coded u ((224 + u / 4096) ∷ tails 2 u)
-    three-bytes low high e a b l = coded-3 low high (224 + u / 4096) (128 + u / 64 % 64) (128 + u % 64) u e (omega arith) (omega arith) a b (omega arith) (omega arith) (omega arith) (omega arith) (omega arith)
+    three-bytes : (low high : ℕ) → lead (224 + u / 4096) ≡ tail low high 1 → low ≤ 128 + u / 64 % 64 → 128 + u / 64 % 64 ≤ high → u < 65536 →
+        Coded u ((224 + u / 4096) ∷ tails 2 u)
+    three-bytes low high e a b l =
+        coded-3 low high (224 + u / 4096) (128 + u / 64 % 64) (128 + u % 64) u e (omega arith) (omega arith) a b (omega arith) (omega arith)
+        (omega arith) (omega arith) (omega arith)
 
     -- the surrogates are left out
     below-surrogates : 224 + u / 4096 ≡ 237 → u < 55296
@@ -157,10 +200,12 @@ coded u k = go (lengthOf u)
         let c = lead-3 (224 + u / 4096) (omega (arith, eqb-no (224 + u / 4096) 224 p)) (eqb-no (224 + u / 4096) 237 q) (omega arith) in
         three-bytes 128 191 c (omega arith) (omega arith) l
 
-    four-bytes : (low high : ℕ) → lead (240 + u / 262144) ≡ tail low high 2 → low ≤ 128 + u / 4096 % 64 → 128 + u / 4096 % 64 ≤ high → Coded u ((240 + u / 262144) ∷ tails 3 u)
+    four-bytes : (low high : ℕ) → lead (240 + u / 262144) ≡ tail low high 2 → low ≤ 128 + u / 4096 % 64 → 128 + u / 4096 % 64 ≤ high →
+        Coded u ((240 + u / 262144) ∷ tails 3 u)
     four-bytes low high e a b =
         let total = sum-4 u in
-        coded-4 low high (240 + u / 262144) (128 + u / 4096 % 64) (128 + u / 64 % 64) (128 + u % 64) u e (omega arith) a b (omega arith) (omega arith) (omega arith) (omega arith) (omega arith) (omega arith) (omega arith)
+        coded-4 low high (240 + u / 262144) (128 + u / 4096 % 64) (128 + u / 64 % 64) (128 + u % 64) u e (omega arith) a b (omega arith)
+        (omega arith) (omega arith) (omega arith) (omega arith) (omega arith) (omega arith)
 
     four : 65536 ≤ u → (a b : Bool) → eqb (240 + u / 262144) 240 ≡ a → eqb (240 + u / 262144) 244 ≡ b → Coded u ((240 + u / 262144) ∷ tails 3 u)
     four h true b p q = let c = eqb-true (240 + u / 262144) 240 p in four-bytes 144 191 (ap lead c) (omega arith) (omega arith)
@@ -254,18 +299,25 @@ data Leads (c : ℕ) : Expect → Type 0 where
 lead-view : (c : ℕ) → Leads c (lead c)
 lead-view c = go (ltb c 128) (between 194 223 c) (eqb c 224) (eqb c 237) (between 225 239 c) (eqb c 240) (between 241 243 c) (eqb c 244) refl refl refl refl refl refl refl refl
   where
-    go : (a b d e f g h i : Bool) → ltb c 128 ≡ a → between 194 223 c ≡ b → eqb c 224 ≡ d → eqb c 237 ≡ e → between 225 239 c ≡ f → eqb c 240 ≡ g → between 241 243 c ≡ h → eqb c 244 ≡ i → Leads c (lead c)
+    go : (a b d e f g h i : Bool) → ltb c 128 ≡ a → between 194 223 c ≡ b → eqb c 224 ≡ d → eqb c 237 ≡ e → between 225 239 c ≡ f →
+        eqb c 240 ≡ g → between 241 243 c ≡ h → eqb c 244 ≡ i → Leads c (lead c)
     go true b d e f g h i p1 p2 p3 p4 p5 p6 p7 p8 = rw (p1, choose) (leads-1 (leb-le p1))
     go false true d e f g h i p1 p2 p3 p4 p5 p6 p7 p8 = let k = between-in 194 223 c p2 in rw (p1, p2, choose) (leads-2 (k .0) (k .1))
     go false false true e f g h i p1 p2 p3 p4 p5 p6 p7 p8 =
         let k = eqb-true c 224 p3 in
-        rw (p1, p2, p3, choose) (leads-3 {low = 160} {high = 191} (omega arith) (omega arith) (omega arith) (omega arith) λ x y l m n o. (omega arith, between-out 55296 57343 (value-3 c x y) (λ s t. omega arith)))
+        rw (p1, p2, p3, choose)
+        (leads-3 {low = 160} {high = 191} (omega arith) (omega arith) (omega arith) (omega arith) λ x y l m n o.
+        (omega arith, between-out 55296 57343 (value-3 c x y) (λ s t. omega arith)))
     go false false false true f g h i p1 p2 p3 p4 p5 p6 p7 p8 =
         let k = eqb-true c 237 p4 in
-        rw (p1, p2, p3, p4, choose) (leads-3 {low = 128} {high = 159} (omega arith) (omega arith) (omega arith) (omega arith) λ x y l m n o. (omega arith, between-out 55296 57343 (value-3 c x y) (λ s t. omega arith)))
+        rw (p1, p2, p3, p4, choose)
+        (leads-3 {low = 128} {high = 159} (omega arith) (omega arith) (omega arith) (omega arith) λ x y l m n o.
+        (omega arith, between-out 55296 57343 (value-3 c x y) (λ s t. omega arith)))
     go false false false false true g h i p1 p2 p3 p4 p5 p6 p7 p8 =
         let k = between-in 225 239 c p5 in
-        rw (p1, p2, p3, p4, p5, choose) (leads-3 {low = 128} {high = 191} (omega arith) (omega arith) (omega arith) (omega arith) λ x y l m n o. (omega arith, between-out 55296 57343 (value-3 c x y) (λ s t. eqb-no c 237 p4 (omega arith))))
+        rw (p1, p2, p3, p4, p5, choose)
+        (leads-3 {low = 128} {high = 191} (omega arith) (omega arith) (omega arith) (omega arith) λ x y l m n o.
+        (omega arith, between-out 55296 57343 (value-3 c x y) (λ s t. eqb-no c 237 p4 (omega arith))))
     go false false false false false true h i p1 p2 p3 p4 p5 p6 p7 p8 =
         let k = eqb-true c 240 p6 in
         rw (p1, p2, p3, p4, p5, p6, choose) (leads-4 {low = 144} {high = 191} (omega arith) (omega arith) (omega arith) λ x y z l m n o s t. (omega arith, omega arith))

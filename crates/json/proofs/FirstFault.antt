@@ -77,14 +77,19 @@ limit-stays p q l e t = go (parse-local p)
     go : ParseLocal p → parse (p ++ t) ≡ refused q
     go (took v used r i again u m) = ok-not-refused v q (sym (ap parse i ∙ again r (Outcome.follows-self r)) ∙ e)
     go (cut i g) = absurd (limit-not-four l (refused-injective (sym e ∙ i)))
-    go (fault r good c x i again quiet g u edge) = ap parse (ap (λ (y : Bytes). y ++ t) i ∙ append-assoc good (c ∷ x) t) ∙ again (x ++ t) ∙ ap refused (refused-injective (sym (ap parse i ∙ again x) ∙ e))
+    go (fault r good c x i again quiet g u edge) =
+        ap parse (ap (λ (y : Bytes). y ++ t) i ∙ append-assoc good (c ∷ x) t) ∙
+        again (x ++ t) ∙
+        ap refused (refused-injective (sym (ap parse i ∙ again x) ∙ e))
 
 -- every beginning of a beginning can be continued
 pub shorter : (p t : Bytes) → Continues (p ++ t) → Continues p
 shorter p t k = record { more = t ++ k .more; tree = k .tree; isJson = subst (λ (x : Bytes). JsonText (k .tree) x) (append-assoc p t (k .more)) (k .isJson) }
 
 not-continued : (good : Bytes) (c : ℕ) → ((x : Bytes) → parse (good ++ (c ∷ x)) ≡ refused notJson) → ¬ Continues (good ++ (c ∷ []))
-not-continued good c again k = never-four (good ++ (c ∷ k .more)) (k .tree) (subst (λ (x : Bytes). JsonText (k .tree) x) (append-assoc good (c ∷ []) (k .more)) (k .isJson)) (again (k .more))
+not-continued good c again k =
+    never-four (good ++ (c ∷ k .more)) (k .tree)
+    (subst (λ (x : Bytes). JsonText (k .tree) x) (append-assoc good (c ∷ []) (k .more)) (k .isJson)) (again (k .more))
 
 -- what follows the byte of 7 need not pass 5
 spares-nodes : {t : Tally} {c : ℕ} {q : Refusal} (m : StandsAt t c q) → q ≡ tooManyNodes → spares m ≡ true
@@ -115,7 +120,8 @@ four s e = go (parse-local s)
         }
     go (fault r good c x i again quiet g u edge) = at (refused-injective (sym (ap parse i ∙ again x) ∙ e)) u again
       where
-        at : {q : Refusal} → q ≡ notJson → Shown (tallied nothing good) c (λ i. Goes maxDepth i (good ++ (c ∷ []))) q → ((t : Bytes) → parse (good ++ (c ∷ t)) ≡ refused q) → NotJson s
+        at : {q : Refusal} → q ≡ notJson → Shown (tallied nothing good) c (λ i. Goes maxDepth i (good ++ (c ∷ []))) q →
+            ((t : Bytes) → parse (good ++ (c ∷ t)) ≡ refused q) → NotJson s
         at h Outcome.dead stays =
             record {
               good = good;
@@ -150,7 +156,8 @@ five-to-eight s q l e = go (parse-local s)
         ascii-behind : (w : Bytes) → isAscii c ≡ true → allAscii w ≡ true → allAscii (c ∷ w) ≡ true
         ascii-behind w a b = rw (a, allAscii) b
 
-        at : {a : Refusal} → Shown (tallied nothing good) c (λ i. Goes maxDepth i (good ++ (c ∷ []))) a → Limit a → ((t : Bytes) → parse (good ++ (c ∷ t)) ≡ refused a) → Past a s
+        at : {a : Refusal} → Shown (tallied nothing good) c (λ i. Goes maxDepth i (good ++ (c ∷ []))) a → Limit a →
+            ((t : Bytes) → parse (good ++ (c ∷ t)) ≡ refused a) → Past a s
         at Outcome.dead m h = absurd (limit-not-four m refl)
         at {a} (Outcome.past n k) m h =
             record {
@@ -160,7 +167,9 @@ five-to-eight s q l e = go (parse-local s)
               parts = i;
               stands = n;
               continues = k .0;
-              decoded = λ d. ap (utf8 scalar) (append-assoc good (c ∷ []) (k .0 .more)) ∙ more-utf8 good (c ∷ k .0 .more) (whole d) (ascii-behind (k .0 .more) (stands-ascii n) (k .2));
+              decoded =
+                  λ d. ap (utf8 scalar) (append-assoc good (c ∷ []) (k .0 .more)) ∙
+                  more-utf8 good (c ∷ k .0 .more) (whole d) (ascii-behind (k .0 .more) (stands-ascii n) (k .2));
               tie = λ j. sparing-deep (k .1 (spares-nodes n j));
               whatever = h;
               passes = λ t v j. passes-limit-of (good ++ (c ∷ t)) v a j (h t);
@@ -215,7 +224,14 @@ not-read s n v t = go (n .rest) refl
   where
     go : (r : Bytes) → n .rest ≡ r → ⊥
     go [] e = n .over e v t
-    go (c ∷ r) e = n .dead c r e (record { more = r; tree = v; isJson = subst (λ (x : Bytes). JsonText v x) (n .parts ∙ ap (λ (x : Bytes). n .good ++ x) e ∙ sym (append-assoc (n .good) (c ∷ []) r)) t })
+    go (c ∷ r) e =
+        n .dead c r e
+        (record {
+          more = r;
+          tree = v;
+          isJson = subst (λ (x : Bytes). JsonText v x)
+              (n .parts ∙ ap (λ (x : Bytes). n .good ++ x) e ∙ sym (append-assoc (n .good) (c ∷ []) r)) t;
+        })
 
 answered : (s : Bytes) (q : Refusal) → FirstFault s q → json s ≡ refused q
 unfolding json

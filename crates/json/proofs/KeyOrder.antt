@@ -19,7 +19,9 @@ unfolding membersBy namesBy valued
 entries-by f s w zero k e = refl
 entries-by f s w (suc m) k e = go (ltb k e) refl (entries-by f s w m (afterAt w (k + 1)) e)
   where
-    go : (b : Bool) → ltb k e ≡ b → entries (membersBy f s w m (afterAt w (k + 1)) e) ≡ valued (λ j. f (j + 1)) (namesBy s w m (afterAt w (k + 1)) e) → entries (membersBy f s w (suc m) k e) ≡ valued (λ j. f (j + 1)) (namesBy s w (suc m) k e)
+    go : (b : Bool) → ltb k e ≡ b →
+        entries (membersBy f s w m (afterAt w (k + 1)) e) ≡ valued (λ j. f (j + 1)) (namesBy s w m (afterAt w (k + 1)) e) →
+        entries (membersBy f s w (suc m) k e) ≡ valued (λ j. f (j + 1)) (namesBy s w (suc m) k e)
     go true q below = rw (q, membersBy, namesBy) (ap {B = List (Bytes × Value)} (λ l. (textAt s (startAt w k), f (k + 1)) ∷ l) below)
     go false q below = rw (q, membersBy, namesBy)
 

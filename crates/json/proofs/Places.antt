@@ -22,21 +22,33 @@ abbrev full : Bytes → Bytes
 full s = ascii "[" ++ times 4095 (ascii "0,") s
 
 -- the first byte of node 4,097 shows it, whether the node can be finished or not; where none begins, it is 4
-nodes : Answers ((full (ascii "tx"), tooManyNodes) ∷ (full (ascii "-x"), tooManyNodes) ∷ (full (ascii "\""), tooManyNodes) ∷ (full (ascii "\"\\ud800\""), tooManyNodes) ∷ (full (ascii "x"), notJson) ∷ (full (ascii "]"), notJson) ∷ [])
+nodes : Answers
+    ((full (ascii "tx"), tooManyNodes) ∷ (full (ascii "-x"), tooManyNodes) ∷ (full (ascii "\""), tooManyNodes) ∷
+    (full (ascii "\"\\ud800\""), tooManyNodes) ∷ (full (ascii "x"), notJson) ∷ (full (ascii "]"), notJson) ∷ [])
 unfolding parse
 nodes = (refl, (refl, (refl, (refl, (refl, (refl, tt))))))
 
 -- so does byte 256 of a number, even where the number never ends
-numbers : Answers ((times 255 (ascii "1") (ascii "."), numberTooLong) ∷ (times 255 (ascii "1") (ascii "e"), numberTooLong) ∷ (times 254 (ascii "1") (ascii "e+"), numberTooLong) ∷ (times 254 (ascii "1") (ascii ".x"), notJson) ∷ (times 254 (ascii "1") (ascii "ex"), notJson) ∷ (times 255 (ascii "1") (ascii "-"), notJson) ∷ (times 255 (ascii "1") (ascii "x"), notJson) ∷ (ascii "0" ++ times 300 (ascii "1") [], notJson) ∷ [])
+numbers : Answers
+    ((times 255 (ascii "1") (ascii "."), numberTooLong) ∷ (times 255 (ascii "1") (ascii "e"), numberTooLong) ∷
+    (times 254 (ascii "1") (ascii "e+"), numberTooLong) ∷ (times 254 (ascii "1") (ascii ".x"), notJson) ∷
+    (times 254 (ascii "1") (ascii "ex"), notJson) ∷ (times 255 (ascii "1") (ascii "-"), notJson) ∷
+    (times 255 (ascii "1") (ascii "x"), notJson) ∷ (ascii "0" ++ times 300 (ascii "1") [], notJson) ∷ [])
 unfolding parse
 numbers = (refl, (refl, (refl, (refl, (refl, (refl, (refl, (refl, tt))))))))
 
 -- bracket 65 that is node 4,097, bracket 65 where no value may stand, a repeated name that is node 4,097
-ties : Answers ((times 65 (ascii "[") [], tooDeep) ∷ (times 64 (ascii "[") (times 4032 (ascii "0,") (ascii "[")), tooDeep) ∷ (times 64 (ascii "[") (times 4032 (ascii "0,") (ascii "0")), tooManyNodes) ∷ (times 64 (ascii "[") (ascii "1["), notJson) ∷ (ascii "{\"a\":[" ++ times 4092 (ascii "0,") (ascii "0],\"a\""), tooManyNodes) ∷ (ascii "{\"a\":[" ++ times 4091 (ascii "0,") (ascii "0],\"a\""), repeatedName) ∷ [])
+ties : Answers
+    ((times 65 (ascii "[") [], tooDeep) ∷ (times 64 (ascii "[") (times 4032 (ascii "0,") (ascii "[")), tooDeep) ∷
+    (times 64 (ascii "[") (times 4032 (ascii "0,") (ascii "0")), tooManyNodes) ∷ (times 64 (ascii "[") (ascii "1["), notJson) ∷
+    (ascii "{\"a\":[" ++ times 4092 (ascii "0,") (ascii "0],\"a\""), tooManyNodes) ∷
+    (ascii "{\"a\":[" ++ times 4091 (ascii "0,") (ascii "0],\"a\""), repeatedName) ∷ [])
 unfolding parse
 ties = (refl, (refl, (refl, (refl, (refl, (refl, tt))))))
 
 -- a repeated name needs its closing quote, and nothing behind it; names compare as decoded
-names : Answers ((ascii "{\"a\":1,\"a\"", repeatedName) ∷ (ascii "{\"a\":1,\"\\u0061\":1}", repeatedName) ∷ (ascii "{\"a\":1,\"a", notJson) ∷ (ascii "{\"a\":1,\"a\\ud800\":1}", notJson) ∷ (ascii "{\"a\":1 \"a\":2}", notJson) ∷ [])
+names : Answers
+    ((ascii "{\"a\":1,\"a\"", repeatedName) ∷ (ascii "{\"a\":1,\"\\u0061\":1}", repeatedName) ∷ (ascii "{\"a\":1,\"a", notJson) ∷
+    (ascii "{\"a\":1,\"a\\ud800\":1}", notJson) ∷ (ascii "{\"a\":1 \"a\":2}", notJson) ∷ [])
 unfolding parse
 names = (refl, (refl, (refl, (refl, (refl, tt)))))

@@ -12,7 +12,23 @@ use Rattle.json.proofs.Ascii.{all-append, allAscii, hex-ascii, isAscii,
 use Rattle.json.proofs.Complete.{chars-complete, escape-length, high-unit, plain-unit}
 use Rattle.json.proofs.Laws.{bind-ok, bind-same, eqb-true, ok-not-refused}
 use Rattle.json.proofs.Outcome.{Outcome, all-read, bind, cut, dead, done, early, ext, step, step-any, stopped, weaken}
-use Rattle.json.proofs.Sound.{CharView, Unit16View, between-in, between-of, between-out, char-view, escape-sound, isBackslash, isControl, isHigh, isLow, isOther, isPlain, isQuote, unit16-view}
+use Rattle.json.proofs.Sound.{
+  CharView,
+  Unit16View,
+  between-in,
+  between-of,
+  between-out,
+  char-view,
+  escape-sound,
+  isBackslash,
+  isControl,
+  isHigh,
+  isLow,
+  isOther,
+  isPlain,
+  isQuote,
+  unit16-view,
+}
 use Rattle.json.proofs.Tokens.{Completes, Either, Takes, behind, finish, readOf, regroup, word-local}
 use Rattle.json.specs.Bytes.{Bytes, ascii, between, choose}
 use Rattle.json.specs.Grammar.{Chars, Escape, Hex, close, noHex, oneHex, pair, simple, unescaped, unit}
@@ -56,13 +72,16 @@ hexDigit-small c d e = go (between 48 57 c) (between 65 70 c) (between 97 102 c)
     go false false false p q r = none-some (rw (p, q, r, choose) at e)
 
 -- digits that are refused whatever number they make
-hex-dead : (f : Read ℕ → Result (Read Bytes)) (n u : ℕ) → ((v : ℕ) (r : Bytes) → lowest n u ≤ v → v ≤ highest n u → f (readOf v r) ≡ refused notJson) → (t : Bytes) → (hex n u t >>= f) ≡ refused notJson
+hex-dead : (f : Read ℕ → Result (Read Bytes)) (n u : ℕ) →
+    ((v : ℕ) (r : Bytes) → lowest n u ≤ v → v ≤ highest n u → f (readOf v r) ≡ refused notJson) → (t : Bytes) →
+    (hex n u t >>= f) ≡ refused notJson
 unfolding hex
 hex-dead f zero u h t = h u t (omega arith) (omega arith)
 hex-dead f (suc n) u h [] = refl
 hex-dead f (suc n) u h (c ∷ t) = go (λ d k. hex-dead f n (u * 16 + d) k t) (hexDigit c) refl
   where
-    go : ((d : ℕ) → ((v : ℕ) (r : Bytes) → lowest n (u * 16 + d) ≤ v → v ≤ highest n (u * 16 + d) → f (readOf v r) ≡ refused notJson) → (hex n (u * 16 + d) t >>= f) ≡ refused notJson) → (o : Option ℕ) → hexDigit c ≡ o → (hex (suc n) u (c ∷ t) >>= f) ≡ refused notJson
+    go : ((d : ℕ) → ((v : ℕ) (r : Bytes) → lowest n (u * 16 + d) ≤ v → v ≤ highest n (u * 16 + d) → f (readOf v r) ≡ refused notJson) →
+        (hex n (u * 16 + d) t >>= f) ≡ refused notJson) → (o : Option ℕ) → hexDigit c ≡ o → (hex (suc n) u (c ∷ t) >>= f) ≡ refused notJson
     go below none q = rw (q, hex) refl
     go below (some d) q =
         rw (q, hex) (below d λ v r a b.
@@ -88,9 +107,15 @@ module _ (f : Read ℕ → Result (Read Bytes)) (Then : ℕ → Bytes → Bytes 
   hex-local st alive k (suc n) u l a [] = cut refl (k .opens (suc n) u l a)
   hex-local st alive k (suc n) u l a (c ∷ s) = go (λ d e. hex-local (further st c) alive k n (u * 16 + d) (omega arith) e s) (hexDigit c) refl
     where
-      digit : (d : ℕ) → hexDigit c ≡ some d → (alive n (u * 16 + d) ≡ true → HexLocal (further st c) n (u * 16 + d) s) → (b : Bool) → alive n (u * 16 + d) ≡ b → HexLocal st (suc n) u (c ∷ s)
-      digit d q below true e = step c s (hex-ascii c d q) (λ x. rw (q, hex) refl) (weaken (λ i g. behind (c ∷ []) (λ x. x) λ x z r h. (h .0, h .1, oneHex q (h .2), h .3)) (λ x w h r. let i = h r in (i .0, i .1, oneHex q (i .2), i .3)) (below e))
-      digit d q below false e = stopped notJson c s (λ x. rw (q, hex) (hex-dead f n (u * 16 + d) (λ v r. k .kills n (u * 16 + d) v r (omega arith) e) x)) early (k .opens (suc n) u l a) dead
+      digit : (d : ℕ) → hexDigit c ≡ some d → (alive n (u * 16 + d) ≡ true → HexLocal (further st c) n (u * 16 + d) s) → (b : Bool) →
+          alive n (u * 16 + d) ≡ b → HexLocal st (suc n) u (c ∷ s)
+      digit d q below true e =
+          step c s (hex-ascii c d q) (λ x. rw (q, hex) refl)
+          (weaken (λ i g. behind (c ∷ []) (λ x. x) λ x z r h. (h .0, h .1, oneHex q (h .2), h .3))
+          (λ x w h r. let i = h r in (i .0, i .1, oneHex q (i .2), i .3)) (below e))
+      digit d q below false e =
+          stopped notJson c s (λ x. rw (q, hex) (hex-dead f n (u * 16 + d) (λ v r. k .kills n (u * 16 + d) v r (omega arith) e) x)) early
+          (k .opens (suc n) u l a) dead
 
       go : ((d : ℕ) → alive n (u * 16 + d) ≡ true → HexLocal (further st c) n (u * 16 + d) s) → (o : Option ℕ) → hexDigit c ≡ o → HexLocal st (suc n) u (c ∷ s)
       go below none q = stopped notJson c s (λ x. rw (q, hex) refl) early (k .opens (suc n) u l a) dead
@@ -140,14 +165,23 @@ unfolding lowest-low
 low-outside zero u v l e p q = between-out 56320 57343 v λ a b. absurd (true≢false (sym (between-of 56320 57343 u (omega arith) (omega arith)) ∙ e))
 low-outside (suc zero) u v l e p q = between-out 56320 57343 v λ a b. absurd (true≢false (sym (between-of 56320 57343 (u * 16 + 0) (omega arith) (omega arith)) ∙ e))
 low-outside (suc (suc zero)) u v l e p q = between-out 56320 57343 v λ a b. absurd (true≢false (sym (between-of 56320 57343 ((u * 16 + 0) * 16 + 0) (omega arith) (omega arith)) ∙ e))
-low-outside (suc (suc (suc zero))) u v l e p q = between-out 56320 57343 v λ a b. absurd (true≢false (sym (between-of 56320 57343 (((u * 16 + 12) * 16 + 0) * 16 + 0) (omega arith) (omega arith)) ∙ e))
+low-outside (suc (suc (suc zero))) u v l e p q =
+    between-out 56320 57343 v λ a b. absurd
+    (true≢false (sym (between-of 56320 57343 (((u * 16 + 12) * 16 + 0) * 16 + 0) (omega arith) (omega arith)) ∙ e))
 low-outside (suc (suc (suc (suc n)))) u v l e p q = absurd (omega arith)
 
 low-units : (high : ℕ) → Units (lowHalf high) (LowThen high) isLowest
 unfolding lowHalf lowest-low
 low-units high =
     record {
-      opens = λ n u l a. record { end = lowEnd n; what = encode (65536 + (high - 55296) * 1024 + (lowest-low n u - 56320)); spelled = λ r. (lowest-low n u, r, lowEnd-hex n u r l, (a, refl, refl)); plain = lowEnd-ascii n };
+      opens =
+          λ n u l a.
+          record {
+            end = lowEnd n;
+            what = encode (65536 + (high - 55296) * 1024 + (lowest-low n u - 56320));
+            spelled = λ r. (lowest-low n u, r, lowEnd-hex n u r l, (a, refl, refl));
+            plain = lowEnd-ascii n;
+          };
       kills = λ n u v r l a p q. rw (low-outside n u v l a p q, lowHalf) refl;
       last = λ st v s a. ext (λ x h. rw (a, lowHalf) refl) (done (encode (65536 + (high - 55296) * 1024 + (v - 56320))) s (λ r. (a, refl, refl)));
     }
@@ -206,7 +240,9 @@ dc00 v r = (56320, r, oneHex refl (oneHex refl (oneHex refl (oneHex refl noHex))
 high-local : (st : Tally) (v : ℕ) → between 55296 56319 v ≡ true → (s : Bytes) → Outcome st readOf (highHalf v) (Either (Completes (UnitThen v))) (Takes (UnitThen v)) s
 unfolding highHalf lowest-low
 high-local st v b s =
-    bind (λ t. hex 4 0 t >>= lowHalf v) s (word-local st (ascii "\\u") refl s) (λ i g. finish (ascii "dc00") refl (λ x. encode (65536 + (v - 55296) * 1024 + (56320 - 56320))) λ x z r h. paired b h (dc00 v r)) (λ d. early) λ d used r e t w.
+    bind (λ t. hex 4 0 t >>= lowHalf v) s (word-local st (ascii "\\u") refl s)
+    (λ i g. finish (ascii "dc00") refl (λ x. encode (65536 + (v - 55296) * 1024 + (56320 - 56320))) λ x z r h. paired b h (dc00 v r))
+    (λ d. early) λ d used r e t w.
     weaken
     (λ i g. behind used (λ x. x) λ x z w h. paired b (t z) h)
     (λ x w h y. regroup (λ (z : Bytes). UnitThen v x z y) used w y (paired b (t (w ++ y)) (h y)))
@@ -222,11 +258,21 @@ unit-units =
     }
   where
     first : (n u : ℕ) {k : Strings.Unit16} → Unit16View (lowest n u) k → between 56320 57343 (lowest n u) ≡ false → Completes (HexThen ofUnit UnitThen n u) []
-    first n u (isHigh b) a = record { end = zeros n ++ ascii "\\udc00"; what = encode (65536 + (lowest n u - 55296) * 1024 + (56320 - 56320)); spelled = λ r. regroup (λ (z : Bytes). HexThen ofUnit UnitThen n u (encode (65536 + (lowest n u - 55296) * 1024 + (56320 - 56320))) z r) (zeros n) (ascii "\\udc00") r (lowest n u, ascii "\\udc00" ++ r, zeros-hex n u (ascii "\\udc00" ++ r), paired b refl (dc00 (lowest n u) r)); plain = all-append (zeros n) (ascii "\\udc00") (zeros-ascii n) refl }
+    first n u (isHigh b) a =
+        record {
+          end = zeros n ++ ascii "\\udc00";
+          what = encode (65536 + (lowest n u - 55296) * 1024 + (56320 - 56320));
+          spelled = λ r. regroup
+              (λ (z : Bytes). HexThen ofUnit UnitThen n u (encode (65536 + (lowest n u - 55296) * 1024 + (56320 - 56320))) z r) (zeros n)
+              (ascii "\\udc00") r
+              (lowest n u, ascii "\\udc00" ++ r, zeros-hex n u (ascii "\\udc00" ++ r), paired b refl (dc00 (lowest n u) r));
+          plain = all-append (zeros n) (ascii "\\udc00") (zeros-ascii n) refl;
+        }
     first n u (isLow b) a = absurd (true≢false (sym b ∙ a))
     first n u (isPlain b) a = record { end = zeros n; what = encode (lowest n u); spelled = λ r. (lowest n u, r, zeros-hex n u r, alone b refl); plain = zeros-ascii n }
 
-    second : (st : Tally) (v : ℕ) (s : Bytes) {k : Strings.Unit16} → Unit16View v k → between 56320 57343 v ≡ false → Outcome st readOf (λ x. ofUnit (readOf v x)) (Either (Completes (UnitThen v))) (Takes (UnitThen v)) s
+    second : (st : Tally) (v : ℕ) (s : Bytes) {k : Strings.Unit16} → Unit16View v k → between 56320 57343 v ≡ false →
+        Outcome st readOf (λ x. ofUnit (readOf v x)) (Either (Completes (UnitThen v))) (Takes (UnitThen v)) s
     second st v s (isHigh b) a = ext (λ x h. rw (high-unit v b, ofUnit) refl) (high-local st v b s)
     second st v s (isLow b) a = absurd (true≢false (sym b ∙ a))
     second st v s (isPlain b) a = ext (λ x h. rw (plain-unit v b, ofUnit) refl) (done (encode v) s (λ r. alone b refl))
@@ -242,7 +288,10 @@ escape-local st (c ∷ s) = go (simpleEscape c) refl
   where
     isU : (b : Bool) → eqb c 117 ≡ b → simpleEscape c ≡ none → Outcome st readOf escape (Either (Completes Escape)) (Takes Escape) (c ∷ s)
     isU true p q =
-        subst (λ (d : ℕ). Outcome st readOf escape (Either (Completes Escape)) (Takes Escape) (d ∷ s)) (sym (eqb-true c 117 p)) (step 117 s refl (λ x. refl) (weaken (λ i g. behind (117 ∷ []) (λ x. x) λ x z r h. unit-escape h) (λ x w h r. unit-escape (h r)) (hex-local ofUnit UnitThen (further st 117) notLow unit-units 4 0 (omega arith) refl s)))
+        subst (λ (d : ℕ). Outcome st readOf escape (Either (Completes Escape)) (Takes Escape) (d ∷ s)) (sym (eqb-true c 117 p))
+        (step 117 s refl (λ x. refl)
+        (weaken (λ i g. behind (117 ∷ []) (λ x. x) λ x z r h. unit-escape h) (λ x w h r. unit-escape (h r))
+        (hex-local ofUnit UnitThen (further st 117) notLow unit-units 4 0 (omega arith) refl s)))
     isU false p q = stopped notJson c s (λ x. rw (q, escape, p) refl) early escape-opens dead
 
     go : (o : Option ℕ) → simpleEscape c ≡ o → Outcome st readOf escape (Either (Completes Escape)) (Takes Escape) (c ∷ s)
@@ -306,7 +355,10 @@ abbrev pub CharsLocal : Tally → Bytes → Type 0
 CharsLocal st s = Outcome st readOf charsOf (Either LongChars) (Takes Chars) s
 
 escaped-opens : (c : ℕ) → c ≡ 92 → (g : Bytes) → Completes Escape g → LongChars (c ∷ g)
-escaped-opens c p g k n = behind (c ∷ []) (λ x. x) (λ x z r h. h) (finish {R = Escape} {S = λ x z r. Chars x (c ∷ z) r × (n ≤ length x)} (pad n) (pad-ascii n) (λ x. x ++ letters n) (λ x z r h. (Chars.escape p h (pad-spells n r) refl, omega (arith, length-append x (letters n), letters-length n))) k)
+escaped-opens c p g k n =
+    behind (c ∷ []) (λ x. x) (λ x z r h. h)
+    (finish {R = Escape} {S = λ x z r. Chars x (c ∷ z) r × (n ≤ length x)} (pad n) (pad-ascii n) (λ x. x ++ letters n)
+    (λ x z r h. (Chars.escape p h (pad-spells n r) refl, omega (arith, length-append x (letters n), letters-length n))) k)
 
 -- a string is refused at an ASCII byte, or behind one
 refused-ascii : {A : Type 0} (f : Read Bytes → A) (q : Refusal) (d : ℕ) → (charsOf (d ∷ 34 ∷ []) >>= λ r. ok (f r)) ≡ refused q → isAscii d ≡ true
@@ -328,12 +380,30 @@ chars-below (suc m) st (c ∷ s) l = go (λ x t h. chars-below m x t h) (char-vi
     go below (isBackslash p) q =
         step c s (rw p refl) (λ x. rw (q, chars) (bind-same (escape x) _ (λ e. charsOf (e .rest) >>= λ r. ok (record { got = e .got ++ r .got; rest = r .rest })) λ e i.
         let h = escape-length (escape-sound x e i) in
-        ap (λ (y : Result (Read Bytes)). y >>= λ r. ok (record { got = e .got ++ r .got; rest = r .rest })) (chars-steps (length x) (length (e .rest)) (e .rest) (omega arith) (omega arith)))) (bind (λ e. charsOf (e .rest) >>= λ r. ok (record { got = e .got ++ r .got; rest = r .rest })) s (escape-local (further st c) s) (λ i g k. escaped-opens c p g k) (λ b. early) λ b used r e t o.
-        bind (λ d. ok (record { got = b ++ d .got; rest = d .rest })) r (below (tallied (further st c) used) r (omega (arith, ap length e, length-append used r))) (λ i g k n. behind (c ∷ used) (λ x. b ++ x) (λ x z w h. (Chars.escape p (t z) (h .0) refl, omega (arith, h .1, length-append b x))) (k n)) (λ d. all-read (b ++ d)) λ d more w i h o′.
+        ap (λ (y : Result (Read Bytes)). y >>= λ r. ok (record { got = e .got ++ r .got; rest = r .rest })) (chars-steps (length x)
+        (length (e .rest)) (e .rest) (omega arith) (omega arith)))) (bind (λ e. charsOf (e .rest) >>= λ r. ok (record {
+          got = e .got ++
+              r .got;
+          rest = r .rest;
+        })) s (escape-local (further st c) s) (λ i g k. escaped-opens c p g k) (λ b. early) λ b used r e t o.
+        bind (λ d. ok (record { got = b ++ d .got; rest = d .rest })) r
+        (below (tallied (further st c) used) r (omega (arith, ap length e, length-append used r)))
+        (λ i g k n. behind (c ∷ used) (λ x. b ++ x)
+        (λ x z w h. (Chars.escape p (t z) (h .0) refl, omega (arith, h .1, length-append b x))) (k n)) (λ d. all-read (b ++ d)) λ d more
+        w i h o′.
         done (b ++ d) w (rw (append-nil more) λ y. regroup (λ (z : Bytes). Chars (b ++ d) (c ∷ z) y) used more y (Chars.escape p (t (more ++ y)) (h y) refl)))
     go below isControl q = stopped notJson c s (λ x. rw (q, chars) refl) early chars-opens dead
     go below (isOther p) q =
-        step-any c s (λ x. rw (q, chars) refl) (λ b e h. ok-not-refused (readOf b []) notJson (sym h)) (λ r d e h. refused-ascii (λ y. record { got = c ∷ y .got; rest = y .rest }) r d (h (34 ∷ []))) (bind (λ r. ok (record { got = c ∷ r .got; rest = r .rest })) s (below (further st c) s (omega arith)) (λ i g k n. behind (c ∷ []) (λ x. c ∷ x) (λ x z r h. (unescaped p (h .0), omega (arith, h .1))) (k n)) (λ b. all-read (c ∷ b)) λ b used r e t o.
+        step-any c s (λ x. rw (q, chars) refl) (λ b e h. ok-not-refused (readOf b []) notJson (sym h)) (λ r d e h. refused-ascii (λ y.
+        record { got = c ∷ y .got; rest = y .rest }) r d (h (34 ∷ []))) (bind (λ r. ok (record { got = c ∷ r .got; rest = r .rest })) s
+        (below (further st c) s (omega arith)) (λ i g k n. behind (c ∷ []) (λ x. c ∷ x) (λ x z r h. (
+          unescaped p (h .0),
+          omega (
+            arith,
+            h
+                .1,
+          ),
+        )) (k n)) (λ b. all-read (c ∷ b)) λ b used r e t o.
         done (c ∷ b) r (rw (append-nil used) (λ z. unescaped p (t z))))
 
 pub chars-local : (st : Tally) (s : Bytes) → CharsLocal st s

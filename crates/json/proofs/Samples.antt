@@ -23,7 +23,8 @@ words : rows tree 0 ≡ 6 ∷ 22 ∷ 5 ∷ 20 ∷ 3 ∷ 2 ∷ 61 ∷ 20 ∷ 5 �
 unfolding rows
 words = refl
 
-back : valueAt sheet (6 ∷ 22 ∷ 5 ∷ 20 ∷ 3 ∷ 2 ∷ 61 ∷ 20 ∷ 5 ∷ 67 ∷ 9 ∷ 4 ∷ 100 ∷ 18 ∷ 5 ∷ []) 0 ≡ object (member (ascii "a") (array (cons (number (ascii "1")) (cons (text (195 ∷ 169 ∷ [])) nil))) empty)
+back : valueAt sheet (6 ∷ 22 ∷ 5 ∷ 20 ∷ 3 ∷ 2 ∷ 61 ∷ 20 ∷ 5 ∷ 67 ∷ 9 ∷ 4 ∷ 100 ∷ 18 ∷ 5 ∷ []) 0 ≡
+    object (member (ascii "a") (array (cons (number (ascii "1")) (cons (text (195 ∷ 169 ∷ [])) nil))) empty)
 unfolding valueAt
 back = refl
 

@@ -148,7 +148,8 @@ unfolding put valued
 put-valued f x [] = refl
 put-valued {A} {B} f x (y ∷ ys) = go (orderBytes (x .0) (y .0)) refl (put-valued f x ys)
   where
-    go : (o : Ordering) → orderBytes (x .0) (y .0) ≡ o → put (x .0, f (x .1)) (valued f ys) ≡ valued f (put x ys) → put (x .0, f (x .1)) (valued f (y ∷ ys)) ≡ valued f (put x (y ∷ ys))
+    go : (o : Ordering) → orderBytes (x .0) (y .0) ≡ o → put (x .0, f (x .1)) (valued f ys) ≡ valued f (put x ys) →
+        put (x .0, f (x .1)) (valued f (y ∷ ys)) ≡ valued f (put x (y ∷ ys))
     go Ordering·lt e below = rw (e, put)
     go Ordering·eq e below = rw (e, put)
     go Ordering·gt e below = rw (e, put) (ap {B = List (Bytes × B)} (λ l. (y .0, f (y .1)) ∷ l) below)

@@ -12,7 +12,49 @@ use lib.ListN.{length}
 use Rattle.json.proofs.Laws.{eqb-no, eqb-true, holds-of, leb-true, ok-injective, sameBytes-refl, sameBytes-true}
 use Rattle.json.specs.Bytes.{Bytes, ascii, between, choose, isOneOf, sameBytes}
 use Rattle.json.specs.Grammar
-use Rattle.json.specs.Grammar.{Chars, Digits, Elements, Escape, Exp, Frac, Hex, Int, MembersOf, MoreElements, MoreMembers, Number, Sign, SomeDigits, Spells, Structural, Within, Ws, close, exp, frac, isUnescaped, minus, noDigit, noExp, noFrac, noHex, noMinus, noSign, noSpace, nonzero, oneDigit, oneHex, pair, sign, simple, someDigits, space, structural, unescaped, unit}
+use Rattle.json.specs.Grammar.{
+  Chars,
+  Digits,
+  Elements,
+  Escape,
+  Exp,
+  Frac,
+  Hex,
+  Int,
+  MembersOf,
+  MoreElements,
+  MoreMembers,
+  Number,
+  Sign,
+  SomeDigits,
+  Spells,
+  Structural,
+  Within,
+  Ws,
+  close,
+  exp,
+  frac,
+  isUnescaped,
+  minus,
+  noDigit,
+  noExp,
+  noFrac,
+  noHex,
+  noMinus,
+  noSign,
+  noSpace,
+  nonzero,
+  oneDigit,
+  oneHex,
+  pair,
+  sign,
+  simple,
+  someDigits,
+  space,
+  structural,
+  unescaped,
+  unit,
+}
 use Rattle.json.specs.Json.{Members, Value, Values, array, bool, cons, empty, keys, member, nil, null, number, object, text}
 use Rattle.json.specs.Limits
 use Rattle.json.specs.Limits.{depth, depthIn, depthOf, nodes, nodesIn, nodesOf, tidy, tidyIn, tidyOf}
@@ -23,7 +65,26 @@ use Rattle.json.specs.Reader.{Parsed}
 use Rattle.json.specs.Refusal.{Refusal, Result, notJson, numberTooLong, ok, refused, repeatedName, tooManyNodes, _>>=_}
 use Rattle.json.specs.Scan.{Read, expect, isSpace, skip, word}
 use Rattle.json.specs.Strings
-use Rattle.json.specs.Strings.{backslash, char, chars, control, escape, hex, hexDigit, highHalf, highUnit, lowHalf, lowUnit, ofUnit, other, plainUnit, quote, simpleEscape, unicode, unit16}
+use Rattle.json.specs.Strings.{
+  backslash,
+  char,
+  chars,
+  control,
+  escape,
+  hex,
+  hexDigit,
+  highHalf,
+  highUnit,
+  lowHalf,
+  lowUnit,
+  ofUnit,
+  other,
+  plainUnit,
+  quote,
+  simpleEscape,
+  unicode,
+  unit16,
+}
 use Rattle.json.specs.Utf8
 use Rattle.json.specs.Utf8.{encode}
 
@@ -133,11 +194,14 @@ unit16-view u = go (between 55296 56319 u) (between 56320 57343 u) refl refl
     go false true p q = rw (p, q, choose) (isLow q)
     go false false p q = rw (p, q, choose) (isPlain (outside p q))
 
-lowHalf-sound : (high : ℕ) (low : Read ℕ) (x : Read Bytes) → lowHalf high low ≡ ok x → (between 56320 57343 (low .got) ≡ true) × (x .got ≡ encode (65536 + (high - 55296) * 1024 + (low .got - 56320))) × (x .rest ≡ low .rest)
+lowHalf-sound : (high : ℕ) (low : Read ℕ) (x : Read Bytes) → lowHalf high low ≡ ok x →
+    (between 56320 57343 (low .got) ≡ true) × (x .got ≡ encode (65536 + (high - 55296) * 1024 + (low .got - 56320))) × (x .rest ≡ low .rest)
 unfolding lowHalf
 lowHalf-sound high low x e = go (between 56320 57343 (low .got)) refl
   where
-    go : (b : Bool) → between 56320 57343 (low .got) ≡ b → (between 56320 57343 (low .got) ≡ true) × (x .got ≡ encode (65536 + (high - 55296) * 1024 + (low .got - 56320))) × (x .rest ≡ low .rest)
+    go : (b : Bool) → between 56320 57343 (low .got) ≡ b →
+        (between 56320 57343 (low .got) ≡ true) × (x .got ≡ encode (65536 + (high - 55296) * 1024 + (low .got - 56320))) ×
+        (x .rest ≡ low .rest)
     go true q = let z = ok-injective (rw (q, lowHalf) at e) in (q, ap (λ (y : Read Bytes). y .got) (sym z), ap (λ (y : Read Bytes). y .rest) (sym z))
     go false q = not-ok notJson (rw (q, lowHalf) at e)
 
@@ -243,7 +307,8 @@ pub data DigitView (c : ℕ) : Numerals.Digit → Type 0 where
 pub digit-view : (c : ℕ) → DigitView c (digit c)
 digit-view c = go (eqb c 48) (between 49 57 c) (eqb c 45) (eqb c 43) (eqb c 46) (eqb c 69) (eqb c 101) refl refl refl refl refl refl refl
   where
-    go : (a b d f g h i : Bool) → eqb c 48 ≡ a → between 49 57 c ≡ b → eqb c 45 ≡ d → eqb c 43 ≡ f → eqb c 46 ≡ g → eqb c 69 ≡ h → eqb c 101 ≡ i → DigitView c (digit c)
+    go : (a b d f g h i : Bool) → eqb c 48 ≡ a → between 49 57 c ≡ b → eqb c 45 ≡ d → eqb c 43 ≡ f → eqb c 46 ≡ g → eqb c 69 ≡ h →
+        eqb c 101 ≡ i → DigitView c (digit c)
     go true b d f g h i p1 p2 p3 p4 p5 p6 p7 = rw (p1, choose) (vZero (eqb-true c 48 p1))
     go false true d f g h i p1 p2 p3 p4 p5 p6 p7 = rw (p1, p2, choose) (vNonzero p2)
     go false false true f g h i p1 p2 p3 p4 p5 p6 p7 = rw (p1, p2, p3, choose) (vMinus (eqb-true c 45 p3))
@@ -352,17 +417,26 @@ digits-sound p left [] x e = go (complete p) refl
 digits-sound p left (c ∷ s) x e = go (λ m y h. digits-sound (onward p (digit c)) m s y h) (isStop (onward p (digit c))) refl
   where
     ended : (b : Bool) → complete p ≡ b → isStop (onward p (digit c)) ≡ true → NumberRead p left (c ∷ s) x
-    ended true q t = subst (λ (y : Read Bytes). NumberRead p left (c ∷ s) y) (ok-injective (rw (t, digits, q) at e)) (record { spelled = from-end (c ∷ s) p q; chars = refl; short = omega arith })
+    ended true q t =
+        subst (λ (y : Read Bytes). NumberRead p left (c ∷ s) y) (ok-injective (rw (t, digits, q) at e))
+        (record { spelled = from-end (c ∷ s) p q; chars = refl; short = omega arith })
     ended false q t = not-ok notJson (rw (t, digits, q) at e)
 
-    more : ((m : ℕ) (y : Read Bytes) → digits (onward p (digit c)) m s ≡ ok y → NumberRead (onward p (digit c)) m s y) → (b : Bool) → eqb left 0 ≡ b → isStop (onward p (digit c)) ≡ false → NumberRead p left (c ∷ s) x
+    more : ((m : ℕ) (y : Read Bytes) → digits (onward p (digit c)) m s ≡ ok y → NumberRead (onward p (digit c)) m s y) → (b : Bool) →
+        eqb left 0 ≡ b → isStop (onward p (digit c)) ≡ false → NumberRead p left (c ∷ s) x
     more below true q t = not-ok numberTooLong (rw (t, digits, q) at e)
     more below false q t =
         bind-with (digits (onward p (digit c)) (left - 1) s) _ (rw (t, digits, q) at e) λ y f g.
         let k = below (left - 1) y f in
-        subst (λ (z : Read Bytes). NumberRead p left (c ∷ s) z) (ok-injective g) (record { spelled = from-step c s (y .rest) p (digit c) (digit-view c) (k .spelled); chars = ap {B = Bytes} (λ z. c ∷ z) (k .chars); short = omega (arith, k .short, eqb-no left 0 q) })
+        subst (λ (z : Read Bytes). NumberRead p left (c ∷ s) z) (ok-injective g)
+        (record {
+          spelled = from-step c s (y .rest) p (digit c) (digit-view c) (k .spelled);
+          chars = ap {B = Bytes} (λ z. c ∷ z) (k .chars);
+          short = omega (arith, k .short, eqb-no left 0 q);
+        })
 
-    go : ((m : ℕ) (y : Read Bytes) → digits (onward p (digit c)) m s ≡ ok y → NumberRead (onward p (digit c)) m s y) → (b : Bool) → isStop (onward p (digit c)) ≡ b → NumberRead p left (c ∷ s) x
+    go : ((m : ℕ) (y : Read Bytes) → digits (onward p (digit c)) m s ≡ ok y → NumberRead (onward p (digit c)) m s y) → (b : Bool) →
+        isStop (onward p (digit c)) ≡ b → NumberRead p left (c ∷ s) x
     go below true t = ended (complete p) refl t
     go below false t = more below (eqb left 0) refl t
 
@@ -385,7 +459,16 @@ first-view c = go (eqb c 45) (eqb c 48) (between 49 57 c) refl refl refl
 pub number-of : (c : ℕ) (s r : Bytes) (p : Place) → FirstView c p → From p s r → Number (c ∷ s) r
 number-of c s r p (firstMinus e) h = record { afterMinus = s; afterInt = h .0; afterFrac = h .2 .0; hasMinus = minus e; hasInt = h .1; hasFrac = h .2 .1; hasExp = h .2 .2 }
 number-of c s r p (firstZero e) h = record { afterMinus = c ∷ s; afterInt = s; afterFrac = h .0; hasMinus = noMinus; hasInt = Int.zero e; hasFrac = h .1; hasExp = h .2 }
-number-of c s r p (firstNonzero e) h = record { afterMinus = c ∷ s; afterInt = h .0; afterFrac = h .2 .0; hasMinus = noMinus; hasInt = nonzero e (h .1); hasFrac = h .2 .1; hasExp = h .2 .2 }
+number-of c s r p (firstNonzero e) h =
+    record {
+      afterMinus = c ∷ s;
+      afterInt = h .0;
+      afterFrac = h .2 .0;
+      hasMinus = noMinus;
+      hasInt = nonzero e (h .1);
+      hasFrac = h .2 .1;
+      hasExp = h .2 .2;
+    }
 number-of c s r p firstNone h = absurd h
 
 -- how a value begins
@@ -402,7 +485,8 @@ pub data StartView (c : ℕ) : Reader.Start → Type 0 where
 pub start-view : (c : ℕ) → StartView c (Reader.start c)
 start-view c = go (eqb c 34) (eqb c 45) (between 48 57 c) (eqb c 91) (eqb c 123) (eqb c 110) (eqb c 116) (eqb c 102) refl refl refl refl refl refl refl refl
   where
-    go : (a b d f g h i j : Bool) → eqb c 34 ≡ a → eqb c 45 ≡ b → between 48 57 c ≡ d → eqb c 91 ≡ f → eqb c 123 ≡ g → eqb c 110 ≡ h → eqb c 116 ≡ i → eqb c 102 ≡ j → StartView c (Reader.start c)
+    go : (a b d f g h i j : Bool) → eqb c 34 ≡ a → eqb c 45 ≡ b → between 48 57 c ≡ d → eqb c 91 ≡ f → eqb c 123 ≡ g → eqb c 110 ≡ h →
+        eqb c 116 ≡ i → eqb c 102 ≡ j → StartView c (Reader.start c)
     go true b d f g h i j p1 p2 p3 p4 p5 p6 p7 p8 = rw (p1, choose) (textStart (eqb-true c 34 p1))
     go false true d f g h i j p1 p2 p3 p4 p5 p6 p7 p8 = rw (p1, p2, choose) (numberStart (inl (eqb-true c 45 p2)))
     go false false true f g h i j p1 p2 p3 p4 p5 p6 p7 p8 = rw (p1, p2, p3, choose) (numberStart (inr p3))
@@ -433,8 +517,18 @@ pub record ValueRead (left n : ℕ) (s : Bytes) (p : Parsed Value) : Type 0 wher
   pub isTidy : tidy Limits.maxNumber (p .tree) ≡ true
 
 -- a scalar: one node, no bracket
-scalar-read : (left n m : ℕ) (s to rest : Bytes) (v : Value) → (m ≡ n + 1) × (m ≤ Limits.maxNodes) → nodes v ≡ 1 → depth v ≡ 0 → tidy Limits.maxNumber v ≡ true → Spells v s to → Ws to rest → ValueRead left n s (record { tree = v; rest = rest; count = m })
-scalar-read left n m s to rest v c nv dv t sp w = record { to = to; spelled = sp; spaces = w; counted = c .0 ∙ ap (λ (k : ℕ). n + k) (sym nv); most = c .1; deep = omega (arith, dv); isTidy = t }
+scalar-read : (left n m : ℕ) (s to rest : Bytes) (v : Value) → (m ≡ n + 1) × (m ≤ Limits.maxNodes) → nodes v ≡ 1 → depth v ≡ 0 →
+    tidy Limits.maxNumber v ≡ true → Spells v s to → Ws to rest → ValueRead left n s (record { tree = v; rest = rest; count = m })
+scalar-read left n m s to rest v c nv dv t sp w =
+    record {
+      to = to;
+      spelled = sp;
+      spaces = w;
+      counted = c .0 ∙ ap (λ (k : ℕ). n + k) (sym nv);
+      most = c .1;
+      deep = omega (arith, dv);
+      isTidy = t;
+    }
 
 -- what follows a value in brackets
 pub data NextView (end : ℕ) (s : Bytes) : Reader.Next → Type 0 where
@@ -473,7 +567,8 @@ pub comma-elements : {vs : Values} {s t r : Bytes} → Structural 44 s t → Som
 comma-elements c (someElements p q) = Grammar.nextElement c p q
 
 pub data SomeMembers : Members → Bytes → Bytes → Type 0 where
-  someMembers : {k : Bytes} {v : Value} {ms : Members} {s t u w r : Bytes} → Grammar.String k s t → Structural 58 t u → Spells v u w → MoreMembers ms w r → SomeMembers (member k v ms) s r
+  someMembers : {k : Bytes} {v : Value} {ms : Members} {s t u w r : Bytes} → Grammar.String k s t → Structural 58 t u → Spells v u w →
+      MoreMembers ms w r → SomeMembers (member k v ms) s r
 
 pub comma-members : {ms : Members} {s t r : Bytes} → Structural 44 s t → SomeMembers ms t r → MoreMembers ms s r
 comma-members c (someMembers k d v q) = Grammar.nextMember c k d v q
@@ -527,7 +622,8 @@ items-sound left val vsound (suc f) n s p e =
               refused notJson
         ]
 
-    go : Below → (v : Parsed Value) → ValueRead left n s v → (k : Reader.Next) → NextView 93 (v .rest) k → Reader.next 93 (v .rest) ≡ k → After v (Reader.next 93 (v .rest)) ≡ ok p → ItemsRead left n s p
+    go : Below → (v : Parsed Value) → ValueRead left n s v → (k : Reader.Next) → NextView 93 (v .rest) k → Reader.next 93 (v .rest) ≡ k →
+        After v (Reader.next 93 (v .rest)) ≡ ok p → ItemsRead left n s p
     go below v r k (goesOn {t} q) i g =
         bind-with (Reader.items val f (v .count) (skip t)) _ (rw i at g) λ vs h j.
         let l = below (v .count) (skip t) vs h in
@@ -587,7 +683,9 @@ none-there k l ks names p q r = go (sameBytes k l) refl
     go true e = absurd (true≢false (sym q ∙ subst (λ (x : Bytes). isOneOf x names ≡ false) (sym (sameBytes-true k l e)) p))
     go false e = rw (e, isOneOf) r
 
-fields-sound : (left : ℕ) (val : Reader.Parser Value) → ParserSound left val → (f : ℕ) (names : List Bytes) (n : ℕ) (s : Bytes) (p : Parsed Members) → Reader.fields val f names n s ≡ ok p → FieldsRead left n names s p
+fields-sound :
+    (left : ℕ) (val : Reader.Parser Value) → ParserSound left val → (f : ℕ) (names : List Bytes) (n : ℕ) (s : Bytes) (p : Parsed Members) →
+    Reader.fields val f names n s ≡ ok p → FieldsRead left n names s p
 unfolding Reader.fields nodes depth tidy
 fields-sound left val vsound zero names n s p e = not-ok notJson e
 fields-sound left val vsound (suc f) names n s p e =
@@ -597,7 +695,9 @@ fields-sound left val vsound (suc f) names n s p e =
     bind-with (Reader.newName (k .got) names (k .rest)) _ e3 λ r f4 e4.
     bind-with (expect 58 (skip r)) _ e4 λ u f5 e5.
     bind-with (val m (skip u)) _ e5 λ v f6 e6.
-    named (λ ns j o q i. fields-sound left val vsound f ns j o q i) t m k r u v f1 (oneNode-sound n m f2) (chars-sound (length t) t k f3) (newName-sound (k .got) names (k .rest) r f4) (expect-sound 58 (skip r) u f5) (vsound m (skip u) v f6) (Reader.next 125 (v .rest)) (next-view 125 (v .rest)) refl e6
+    named (λ ns j o q i. fields-sound left val vsound f ns j o q i) t m k r u v f1 (oneNode-sound n m f2)
+    (chars-sound (length t) t k f3) (newName-sound (k .got) names (k .rest) r f4) (expect-sound 58 (skip r) u f5)
+    (vsound m (skip u) v f6) (Reader.next 125 (v .rest)) (next-view 125 (v .rest)) refl e6
   where
     Below : Type 0
     Below = (ns : List Bytes) (j : ℕ) (o : Bytes) (q : Parsed Members) → Reader.fields val f ns j o ≡ ok q → FieldsRead left j ns o q
@@ -614,7 +714,10 @@ fields-sound left val vsound (suc f) names n s p e =
               refused notJson
         ]
 
-    named : Below → (t : Bytes) (m : ℕ) (k : Read Bytes) (r u : Bytes) (v : Parsed Value) → expect 34 s ≡ ok t → (m ≡ n + 1) × (m ≤ Limits.maxNodes) → Chars (k .got) t (k .rest) → (isOneOf (k .got) names ≡ false) × (r ≡ k .rest) → skip r ≡ 58 ∷ u → ValueRead left m (skip u) v → (x : Reader.Next) → NextView 125 (v .rest) x → Reader.next 125 (v .rest) ≡ x → After v (k .got) (Reader.next 125 (v .rest)) ≡ ok p → FieldsRead left n names s p
+    named : Below → (t : Bytes) (m : ℕ) (k : Read Bytes) (r u : Bytes) (v : Parsed Value) → expect 34 s ≡ ok t →
+        (m ≡ n + 1) × (m ≤ Limits.maxNodes) → Chars (k .got) t (k .rest) → (isOneOf (k .got) names ≡ false) × (r ≡ k .rest) →
+        skip r ≡ 58 ∷ u → ValueRead left m (skip u) v → (x : Reader.Next) → NextView 125 (v .rest) x → Reader.next 125 (v .rest) ≡ x →
+        After v (k .got) (Reader.next 125 (v .rest)) ≡ ok p → FieldsRead left n names s p
     named below t m k r u v f1 c2 c3 c4 f5 y x w i g = go x w i g
       where
         name : Grammar.String (k .got) s (k .rest)
@@ -656,7 +759,8 @@ fields-sound left val vsound (suc f) names n s p e =
             })
         go x fails i g = not-ok notJson (rw i at g)
 
-literal-sound : (w : Bytes) (v : Value) (m : ℕ) (s : Bytes) (p : Parsed Value) → Reader.literal w v m s ≡ ok p → (t : Bytes) × (s ≡ w ++ t) × (record { tree = v; rest = skip t; count = m } ≡ p)
+literal-sound : (w : Bytes) (v : Value) (m : ℕ) (s : Bytes) (p : Parsed Value) → Reader.literal w v m s ≡ ok p →
+    (t : Bytes) × (s ≡ w ++ t) × (record { tree = v; rest = skip t; count = m } ≡ p)
 literal-sound w v m s p e = bind-with (word w s) _ e λ t f g. (t, word-sound w s t f, ok-injective g)
 
 -- behind an opening bracket
@@ -673,12 +777,39 @@ array-sound left val vsound n c s p q e = bind-with (Reader.oneNode n) _ e λ m 
     read : {x : Parsed Value} → x ≡ p → ValueRead (suc left) n (c ∷ s) x → ValueRead (suc left) n (c ∷ s) p
     read i r = subst (λ (y : Parsed Value). ValueRead (suc left) n (c ∷ s) y) i r
 
-    by : (m : ℕ) → (m ≡ n + 1) × (m ≤ Limits.maxNodes) → (o : Option Bytes) → Reader.isClosed 93 (skip s) ≡ o → (elim o [ some t ↦ ok (record { tree = array nil; rest = skip t; count = m }) | none ↦ (Reader.items val (length s) m (skip s) >>= λ vs. ok (record { tree = array (vs .tree); rest = vs .rest; count = vs .count })) ]) ≡ ok p → ValueRead (suc left) n (c ∷ s) p
-    by m b (some t) i g = read (ok-injective g) (record { to = skip t; spelled = Spells.isArray opening Grammar.noElement (structural-at noSpace (closed-sound 93 (skip s) t i)); spaces = noSpace; counted = omega (arith, b .0); most = b .1; deep = omega arith; isTidy = refl })
+    by : (m : ℕ) → (m ≡ n + 1) ×
+        (m ≤ Limits.maxNodes) → (o : Option Bytes) → Reader.isClosed 93 (skip s) ≡
+        o →
+        (elim o [
+          | some t ↦ ok (record { tree = array nil; rest = skip t; count = m })
+          | none ↦
+              (Reader.items val (length s) m (skip s) >>= λ vs. ok
+              (record { tree = array (vs .tree); rest = vs .rest; count = vs .count }))
+        ]) ≡ ok p → ValueRead (suc left) n (c ∷ s) p
+    by m b (some t) i g =
+        read (ok-injective g)
+        (record {
+          to = skip t;
+          spelled = Spells.isArray opening Grammar.noElement (structural-at noSpace (closed-sound 93 (skip s) t i));
+          spaces = noSpace;
+          counted = omega (arith, b .0);
+          most = b .1;
+          deep = omega arith;
+          isTidy = refl;
+        })
     by m b none i g =
         bind-with (Reader.items val (length s) m (skip s)) _ g λ vs f j.
         let l = items-sound left val vsound (length s) m (skip s) vs f in
-        read (ok-injective j) (record { to = vs .rest; spelled = Spells.isArray opening (some-elements (l .spelled)) (l .closing); spaces = noSpace; counted = omega (arith, b .0, l .counted); most = l .most; deep = omega (arith, l .deep); isTidy = l .isTidy })
+        read (ok-injective j)
+        (record {
+          to = vs .rest;
+          spelled = Spells.isArray opening (some-elements (l .spelled)) (l .closing);
+          spaces = noSpace;
+          counted = omega (arith, b .0, l .counted);
+          most = l .most;
+          deep = omega (arith, l .deep);
+          isTidy = l .isTidy;
+        })
 
 object-sound : (left : ℕ) (val : Reader.Parser Value) → ParserSound left val → BracketSound 123 (suc left) (Reader.objectRest val)
 unfolding Reader.objectRest nodes depth tidy
@@ -690,12 +821,39 @@ object-sound left val vsound n c s p q e = bind-with (Reader.oneNode n) _ e λ m
     read : {x : Parsed Value} → x ≡ p → ValueRead (suc left) n (c ∷ s) x → ValueRead (suc left) n (c ∷ s) p
     read i r = subst (λ (y : Parsed Value). ValueRead (suc left) n (c ∷ s) y) i r
 
-    by : (m : ℕ) → (m ≡ n + 1) × (m ≤ Limits.maxNodes) → (o : Option Bytes) → Reader.isClosed 125 (skip s) ≡ o → (elim o [ some t ↦ ok (record { tree = object empty; rest = skip t; count = m }) | none ↦ (Reader.fields val (length s) [] m (skip s) >>= λ ms. ok (record { tree = object (ms .tree); rest = ms .rest; count = ms .count })) ]) ≡ ok p → ValueRead (suc left) n (c ∷ s) p
-    by m b (some t) i g = read (ok-injective g) (record { to = skip t; spelled = Spells.isObject opening Grammar.noMember (structural-at noSpace (closed-sound 125 (skip s) t i)); spaces = noSpace; counted = omega (arith, b .0); most = b .1; deep = omega arith; isTidy = refl })
+    by : (m : ℕ) → (m ≡ n + 1) ×
+        (m ≤ Limits.maxNodes) → (o : Option Bytes) → Reader.isClosed 125 (skip s) ≡
+        o →
+        (elim o [
+          | some t ↦ ok (record { tree = object empty; rest = skip t; count = m })
+          | none ↦
+              (Reader.fields val (length s) [] m (skip s) >>= λ ms. ok
+              (record { tree = object (ms .tree); rest = ms .rest; count = ms .count }))
+        ]) ≡ ok p → ValueRead (suc left) n (c ∷ s) p
+    by m b (some t) i g =
+        read (ok-injective g)
+        (record {
+          to = skip t;
+          spelled = Spells.isObject opening Grammar.noMember (structural-at noSpace (closed-sound 125 (skip s) t i));
+          spaces = noSpace;
+          counted = omega (arith, b .0);
+          most = b .1;
+          deep = omega arith;
+          isTidy = refl;
+        })
     by m b none i g =
         bind-with (Reader.fields val (length s) [] m (skip s)) _ g λ ms f j.
         let l = fields-sound left val vsound (length s) [] m (skip s) ms f in
-        read (ok-injective j) (record { to = ms .rest; spelled = Spells.isObject opening (some-members (l .spelled)) (l .closing); spaces = noSpace; counted = omega (arith, b .0, l .counted); most = l .most; deep = omega (arith, l .deep); isTidy = l .isTidy })
+        read (ok-injective j)
+        (record {
+          to = ms .rest;
+          spelled = Spells.isObject opening (some-members (l .spelled)) (l .closing);
+          spaces = noSpace;
+          counted = omega (arith, b .0, l .counted);
+          most = l .most;
+          deep = omega (arith, l .deep);
+          isTidy = l .isTidy;
+        })
 
 with-sound : (left : ℕ) (arr obj : Reader.Parser Value) → BracketSound 91 left arr → BracketSound 123 left obj → ParserSound left (Reader.valueWith arr obj)
 unfolding Reader.valueWith nodes depth tidy
@@ -705,24 +863,38 @@ with-sound left arr obj asound osound n (c ∷ s) p e = go (Reader.start c) (sta
     read : {q : Parsed Value} → q ≡ p → ValueRead left n (c ∷ s) q → ValueRead left n (c ∷ s) p
     read i r = subst (λ (x : Parsed Value). ValueRead left n (c ∷ s) x) i r
 
-    literally : (w : Bytes) (v : Value) → ((t : Bytes) → c ∷ s ≡ w ++ t → Spells v (c ∷ s) t) → nodes v ≡ 1 → depth v ≡ 0 → tidy Limits.maxNumber v ≡ true → (m : ℕ) → (m ≡ n + 1) × (m ≤ Limits.maxNodes) → Reader.literal w v m (c ∷ s) ≡ ok p → ValueRead left n (c ∷ s) p
+    literally : (w : Bytes) (v : Value) → ((t : Bytes) → c ∷ s ≡ w ++ t → Spells v (c ∷ s) t) → nodes v ≡ 1 → depth v ≡ 0 →
+        tidy Limits.maxNumber v ≡ true → (m : ℕ) → (m ≡ n + 1) × (m ≤ Limits.maxNodes) → Reader.literal w v m (c ∷ s) ≡ ok p →
+        ValueRead left n (c ∷ s) p
     literally w v make nv dv tv m b g =
         let l = literal-sound w v m (c ∷ s) p g in
         read (l .2) (scalar-read left n m (c ∷ s) (l .0) (skip (l .0)) v b nv dv tv (make (l .0) (l .1)) (skip-ws (l .0)))
 
     go : (k : Reader.Start) → StartView c k → Reader.start c ≡ k → ValueRead left n (c ∷ s) p
-    go k (nullStart q) i = bind-with (Reader.oneNode n) _ (rw (i, Reader.valueWith) at e) λ m f g. literally (ascii "null") null (λ t x. Spells.isNull x) refl refl refl m (oneNode-sound n m f) g
-    go k (trueStart q) i = bind-with (Reader.oneNode n) _ (rw (i, Reader.valueWith) at e) λ m f g. literally (ascii "true") (bool true) (λ t x. Spells.isTrue x) refl refl refl m (oneNode-sound n m f) g
-    go k (falseStart q) i = bind-with (Reader.oneNode n) _ (rw (i, Reader.valueWith) at e) λ m f g. literally (ascii "false") (bool false) (λ t x. Spells.isFalse x) refl refl refl m (oneNode-sound n m f) g
+    go k (nullStart q) i =
+        bind-with (Reader.oneNode n) _ (rw (i, Reader.valueWith) at e) λ m f g. literally (ascii "null") null (λ t x. Spells.isNull x) refl
+        refl refl m (oneNode-sound n m f) g
+    go k (trueStart q) i =
+        bind-with (Reader.oneNode n) _ (rw (i, Reader.valueWith) at e) λ m f g. literally (ascii "true") (bool true)
+        (λ t x. Spells.isTrue x) refl refl refl m (oneNode-sound n m f) g
+    go k (falseStart q) i =
+        bind-with (Reader.oneNode n) _ (rw (i, Reader.valueWith) at e) λ m f g. literally (ascii "false") (bool false)
+        (λ t x. Spells.isFalse x) refl refl refl m (oneNode-sound n m f) g
     go k (textStart q) i =
         bind-with (Reader.oneNode n) _ (rw (i, Reader.valueWith) at e) λ m f g.
         bind-with (chars (length s) s) _ g λ t f2 g2.
-        read (ok-injective g2) (scalar-read left n m (c ∷ s) (t .rest) (skip (t .rest)) (text (t .got)) (oneNode-sound n m f) refl refl refl (Spells.isText (Grammar.string q (chars-sound (length s) s t f2))) (skip-ws (t .rest)))
+        read (ok-injective g2)
+        (scalar-read left n m (c ∷ s) (t .rest) (skip (t .rest)) (text (t .got)) (oneNode-sound n m f) refl refl refl
+        (Spells.isText (Grammar.string q (chars-sound (length s) s t f2))) (skip-ws (t .rest)))
     go k (numberStart q) i =
         bind-with (Reader.oneNode n) _ (rw (i, Reader.valueWith) at e) λ m f g.
         bind-with (digits (Numerals.first c) (Limits.maxNumber - 1) s) _ g λ t f2 g2.
         let d = digits-sound (Numerals.first c) (Limits.maxNumber - 1) s t f2 in
-        read (ok-injective g2) (scalar-read left n m (c ∷ s) (t .rest) (skip (t .rest)) (number (c ∷ t .got)) (oneNode-sound n m f) refl refl (leb-true (suc (length (t .got))) 255 (omega (arith, d .short))) (Spells.isNumber (number-of c s (t .rest) (Numerals.first c) (first-view c) (d .spelled)) (ap {B = Bytes} (λ x. c ∷ x) (d .chars))) (skip-ws (t .rest)))
+        read (ok-injective g2)
+        (scalar-read left n m (c ∷ s) (t .rest) (skip (t .rest)) (number (c ∷ t .got)) (oneNode-sound n m f) refl refl
+        (leb-true (suc (length (t .got))) 255 (omega (arith, d .short)))
+        (Spells.isNumber (number-of c s (t .rest) (Numerals.first c) (first-view c) (d .spelled))
+        (ap {B = Bytes} (λ x. c ∷ x) (d .chars))) (skip-ws (t .rest)))
     go k (arrayStart q) i = asound n c s p q (rw (i, Reader.valueWith) at e)
     go k (objectStart q) i = osound n c s p q (rw (i, Reader.valueWith) at e)
     go k noStart i = not-ok notJson (rw (i, Reader.valueWith) at e)
@@ -730,14 +902,17 @@ with-sound left arr obj asound osound n (c ∷ s) p e = go (Reader.start c) (sta
 pub value-sound : (left : ℕ) → ParserSound left (Reader.value left)
 unfolding Reader.value
 value-sound zero = with-sound 0 Reader.noBracket Reader.noBracket (λ n c s p q e. not-ok _ e) (λ n c s p q e. not-ok _ e)
-value-sound (suc left) = with-sound (suc left) (Reader.arrayRest (Reader.value left)) (Reader.objectRest (Reader.value left)) (array-sound left (Reader.value left) (value-sound left)) (object-sound left (Reader.value left) (value-sound left))
+value-sound (suc left) =
+    with-sound (suc left) (Reader.arrayRest (Reader.value left)) (Reader.objectRest (Reader.value left))
+    (array-sound left (Reader.value left) (value-sound left)) (object-sound left (Reader.value left) (value-sound left))
 
 -- what is read as a tree is a text of RFC 8259 within the limits
 pub json-sound : (s : Bytes) (v : Value) → Reader.json s ≡ ok v → Within v s
 unfolding Reader.json Reader.whole-text nodes
 json-sound s v e = long (leb (length s) Limits.maxBytes) refl
   where
-    whole : (p : Parsed Value) → ValueRead Limits.maxDepth 0 (skip s) p → Reader.whole-text p ≡ ok v → length s ≤ Limits.maxBytes → Utf8.utf8 Utf8.scalar s ≡ true → Within v s
+    whole : (p : Parsed Value) → ValueRead Limits.maxDepth 0 (skip s) p → Reader.whole-text p ≡ ok v → length s ≤ Limits.maxBytes →
+        Utf8.utf8 Utf8.scalar s ≡ true → Within v s
     whole p r f l u = ends (p .rest) refl
       where
         ends : (t : Bytes) → p .rest ≡ t → Within v s

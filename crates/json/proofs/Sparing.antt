@@ -73,7 +73,8 @@ empty-sparing left names = record { deep = omega arith; single = go }
     go (within t) = elim t [ ]
     go (inside p t) = elim p [ ]
 
-pub member-sparing : (left : ℕ) (names : List Bytes) (k : Bytes) (v : Value) (ms : Members) → isOneOf k names ≡ false → Sparing left v → SparingOf left (k ∷ names) ms → SparingOf left names (member k v ms)
+pub member-sparing : (left : ℕ) (names : List Bytes) (k : Bytes) (v : Value) (ms : Members) → isOneOf k names ≡ false → Sparing left v →
+    SparingOf left (k ∷ names) ms → SparingOf left names (member k v ms)
 unfolding depth isOneOf
 member-sparing left names k v ms new h r = record { deep = omega (arith, h .deep, r .deep); single = go }
   where

@@ -36,7 +36,9 @@ simple-byte c d e = go (eqb c 34) (eqb c 92) (eqb c 47) (eqb c 98) (eqb c 102) (
     is : (k : ℕ) → _≡_ {A = Option ℕ} (some k) (some d) → encode k ≡ k ∷ [] → encode d ≡ d ∷ []
     is k q r = let z : k ≡ d = cc in subst (λ (x : ℕ). encode x ≡ x ∷ []) z r
 
-    go : (a b f g h i j k : Bool) → choose ((a, some 34) ∷ (b, some 92) ∷ (f, some 47) ∷ (g, some 8) ∷ (h, some 12) ∷ (i, some 10) ∷ (j, some 13) ∷ (k, some 9) ∷ []) none ≡ some d → encode d ≡ d ∷ []
+    go : (a b f g h i j k : Bool) →
+        choose ((a, some 34) ∷ (b, some 92) ∷ (f, some 47) ∷ (g, some 8) ∷ (h, some 12) ∷ (i, some 10) ∷ (j, some 13) ∷ (k, some 9) ∷ [])
+        none ≡ some d → encode d ≡ d ∷ []
     go true b f g h i j k q = is 34 q refl
     go false true f g h i j k q = is 92 q refl
     go false false true g h i j k q = is 47 q refl
@@ -116,7 +118,8 @@ spelled-text s a e {x} {t} q h f =
 pub data TextView (s : Bytes) (a e : ℕ) : Type 0 where
   ended : a ≡ e → getD s a 0 ≡ 34 → textAt s a ≡ [] → TextView s a e
   raw : a < e → char (getD s a 0) ≡ other → textAt s a ≡ getD s a 0 ∷ textAt s (a + 1) → Text s (a + 1) e → TextView s a e
-  written : (u b : ℕ) → getD s a 0 ≡ 92 → escaped (drop (a + 1) s) ≡ ok (record { got = u; rest = drop b s }) → textAt s a ≡ encode u ++ textAt s b → Text s b e → a + 2 ≤ b → TextView s a e
+  written : (u b : ℕ) → getD s a 0 ≡ 92 → escaped (drop (a + 1) s) ≡ ok (record { got = u; rest = drop b s }) →
+      textAt s a ≡ encode u ++ textAt s b → Text s b e → a + 2 ≤ b → TextView s a e
 
 head-at : (s : Bytes) (a c : ℕ) (r : Bytes) → drop a s ≡ c ∷ r → (getD s a 0 ≡ c) × (r ≡ drop (a + 1) s)
 head-at s a c r e = (ap (λ (k : ℕ). getD s k 0) (sym (add-zero a)) ∙ sym (getD-drop a s 0 0) ∙ ap (λ (l : Bytes). getD l 0 0) e, ap (drop 1) (sym e) ∙ drop-drop 1 a s)
@@ -141,7 +144,9 @@ text-view s a e h = go (drop a s) (drop (e + 1) s) (textAt s a) refl refl refl (
         let m = spelled-text s (placeOf s t′) e (b .rest) (h .upto) (subst (λ (v : Bytes). Chars z t′ v) (sym j) l) in
         let w : u .rest ≡ drop (placeOf s t′) s = ap (λ (v : Read Bytes). v .rest) d ∙ b .rest in
         let v : encode (u .got) ≡ y = ap (λ (v : Read Bytes). v .got) d in
-        written (u .got) (placeOf s t′) (g .0 ∙ q) (ap escaped (sym (g .1)) ∙ o .1 ∙ ap {B = Result (Read ℕ)} (λ (r′ : Bytes). ok (record { got = u .got; rest = r′ })) w) (k ∙ p ∙ cc (v, m .1)) (m .0) (omega (arith, b .past))
+        written (u .got) (placeOf s t′) (g .0 ∙ q)
+        (ap escaped (sym (g .1)) ∙ o .1 ∙ ap {B = Result (Read ℕ)} (λ (r′ : Bytes). ok (record { got = u .got; rest = r′ })) w)
+        (k ∙ p ∙ cc (v, m .1)) (m .0) (omega (arith, b .past))
 
 -- a text that was scanned
 pub text-read : (s : Bytes) (a e : ℕ) → a ≤ length s → charsAt s a ≡ ok e → Text s a (e - 1) × (a < e) × (e ≤ length s)

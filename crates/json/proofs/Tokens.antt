@@ -34,11 +34,25 @@ pub record Completes {X : Type 0} (R : X → Bytes → Bytes → Type 0) (g : By
 module _ {X Y : Type 0} {R : X → Bytes → Bytes → Type 0} {S : Y → Bytes → Bytes → Type 0} {g : Bytes} where
   -- with further bytes behind it
   pub finish : (w : Bytes) → allAscii w ≡ true → (y : X → Y) → ((x : X) (s r : Bytes) → R x s (w ++ r) → S (y x) s r) → Completes R g → Completes S g
-  finish w a y h c = record { end = c .end ++ w; what = y (c .what); spelled = λ r. subst (λ (z : Bytes). S (y (c .what)) (g ++ z) r) (sym (append-assoc (c .end) w r)) (h (c .what) (g ++ (c .end ++ (w ++ r))) r (c .spelled (w ++ r))); plain = all-append (c .end) w (c .plain) a }
+  finish w a y h c =
+      record {
+        end = c .end ++ w;
+        what = y (c .what);
+        spelled = λ r. subst (λ (z : Bytes). S (y (c .what)) (g ++ z) r) (sym (append-assoc (c .end) w r))
+            (h (c .what) (g ++ (c .end ++ (w ++ r))) r (c .spelled (w ++ r)));
+        plain = all-append (c .end) w (c .plain) a;
+      }
 
   -- and in front of it
   pub behind : (pre : Bytes) (y : X → Y) → ((x : X) (s r : Bytes) → R x s r → S (y x) (pre ++ s) r) → Completes R g → Completes S (pre ++ g)
-  behind pre y h c = record { end = c .end; what = y (c .what); spelled = λ r. subst (λ (z : Bytes). S (y (c .what)) z r) (sym (append-assoc pre g (c .end ++ r))) (h (c .what) (g ++ (c .end ++ r)) r (c .spelled r)); plain = c .plain }
+  behind pre y h c =
+      record {
+        end = c .end;
+        what = y (c .what);
+        spelled = λ r. subst (λ (z : Bytes). S (y (c .what)) z r) (sym (append-assoc pre g (c .end ++ r)))
+            (h (c .what) (g ++ (c .end ++ r)) r (c .spelled r));
+        plain = c .plain;
+      }
 
 -- what is taken is spelled so, whatever follows
 abbrev pub Takes : {X : Type 0} → (X → Bytes → Bytes → Type 0) → X → Bytes → Type 0
@@ -75,12 +89,17 @@ unfolding skip
 skipped st [] = took tt [] [] refl (λ x f. ap (λ y. ok (skip y)) (none-follows f) ∙ ap ok (sym (none-follows f))) (λ r. noSpace) refl
 skipped st (c ∷ s) = go (skipped (further st c) s) (isSpace c) refl
   where
-    go : Outcome (further st c) bare (λ x. ok (skip x)) (λ b g. ⊥) (Takes Spaces) s → (b : Bool) → isSpace c ≡ b → Outcome st bare (λ x. ok (skip x)) (λ b g. ⊥) (Takes Spaces) (c ∷ s)
+    go : Outcome (further st c) bare (λ x. ok (skip x)) (λ b g. ⊥) (Takes Spaces) s → (b : Bool) → isSpace c ≡ b →
+        Outcome st bare (λ x. ok (skip x)) (λ b g. ⊥) (Takes Spaces) (c ∷ s)
     go below true q = step c s (space-ascii c q) (λ x. rw (q, skip) refl) (weaken (λ i g h. h) (λ b u h r. space q (h r)) below)
     go below false q = took tt [] (c ∷ s) refl (λ x f. ap ok (idle c s x q f)) (λ r. noSpace) refl
 
 -- a reader behind spaces
-pub skipping : {st : Tally} {A B : Type 0} {mk : B → Bytes → A} {G : Bool → Bytes → Type 0} {T : B → Bytes → Type 0} (P : Bytes → Result A) (s : Bytes) → Quiet mk (P []) → ((sp r : Bytes) → s ≡ sp ++ r → Takes Spaces tt sp → Outcome (tallied st sp) mk P (λ i g. G i (sp ++ g)) (λ b u. T b (sp ++ u)) r) → Outcome st mk (λ x. P (skip x)) G T s
+pub skipping :
+    {st : Tally} {A B : Type 0} {mk : B → Bytes → A} {G : Bool → Bytes → Type 0} {T : B → Bytes → Type 0} (P : Bytes → Result A) (s : Bytes) →
+    Quiet mk (P []) →
+    ((sp r : Bytes) → s ≡ sp ++ r → Takes Spaces tt sp → Outcome (tallied st sp) mk P (λ i g. G i (sp ++ g)) (λ b u. T b (sp ++ u)) r) →
+    Outcome st mk (λ x. P (skip x)) G T s
 skipping {st} P s quiet k = bind P s (skipped st s) (λ i g h. absurd h) (λ b. quiet) (λ b used r e t w. k used r e t)
 
 -- spaces between two tokens count nothing
@@ -97,8 +116,12 @@ word-local st [] a s = done tt s (λ r. refl)
 word-local st (c ∷ w) a [] = cut refl (record { end = c ∷ w; what = tt; spelled = λ r. refl; plain = a })
 word-local st (c ∷ w) a (d ∷ s) = go (λ h. word-local (further st d) w h s) (eqb c d) (isAscii c) refl refl
   where
-    go : (allAscii w ≡ true → Outcome (further st d) bare (word w) (Either (Completes (IsWord w))) (Takes (IsWord w)) s) → (b i : Bool) → eqb c d ≡ b → isAscii c ≡ i → Outcome st bare (word (c ∷ w)) (Either (Completes (IsWord (c ∷ w)))) (Takes (IsWord (c ∷ w))) (d ∷ s)
-    go below true true q p = step d s (subst (λ (x : ℕ). isAscii x ≡ true) (eqb-true c d q) p) (λ x. rw (q, word) refl) (weaken (λ i g. behind (d ∷ []) (λ x. x) λ x z r h. cc (eqb-true c d q)) (λ b u h r. cc (h r, eqb-true c d q)) (below (rw (p, allAscii) at a)))
+    go : (allAscii w ≡ true → Outcome (further st d) bare (word w) (Either (Completes (IsWord w))) (Takes (IsWord w)) s) → (b i : Bool) →
+        eqb c d ≡ b → isAscii c ≡ i → Outcome st bare (word (c ∷ w)) (Either (Completes (IsWord (c ∷ w)))) (Takes (IsWord (c ∷ w))) (d ∷ s)
+    go below true true q p =
+        step d s (subst (λ (x : ℕ). isAscii x ≡ true) (eqb-true c d q) p) (λ x. rw (q, word) refl)
+        (weaken (λ i g. behind (d ∷ []) (λ x. x) λ x z r h. cc (eqb-true c d q)) (λ b u h r. cc (h r, eqb-true c d q))
+        (below (rw (p, allAscii) at a)))
     go below true false q p = absurd (false≢true (rw (p, allAscii) at a))
     go below false i q p = stopped notJson d s (λ x. rw (q, word) refl) early (record { end = c ∷ w; what = tt; spelled = λ r. refl; plain = a }) dead
 
@@ -181,12 +204,24 @@ digits-local n d k p go-on left (c ∷ s) few = go (λ h z. digits-local n d (k 
     one-byte : isStop (onward p (digit c)) ≡ false → further (tally n d (numeral k)) c ≡ tally n d (numeral (k + 1))
     one-byte t = number-byte n d k c (in-number c (numeral-byte p c t))
 
-    goes : (k + 1 + (left - 1) ≡ maxNumber → DigitsLocal (tally n d (numeral (k + 1))) (onward p (digit c)) (left - 1) s) → (b : Bool) → eqb left 0 ≡ b → isStop (onward p (digit c)) ≡ false → DigitsLocal (tally n d (numeral k)) p left (c ∷ s)
-    goes below true q t = stopped numberTooLong c s (λ x. rw (t, digits, q) refl) (digits-over p left) (place-opens p go-on) (past (Fault.numeral (numeral-byte p c t) (omega (arith, eqb-true left 0 q)) (ap bytesOfNumber (one-byte t) ∙ omega (arith, eqb-true left 0 q))) (opens (place-opens (onward p (digit c)) t)))
+    goes : (k + 1 + (left - 1) ≡ maxNumber → DigitsLocal (tally n d (numeral (k + 1))) (onward p (digit c)) (left - 1) s) → (b : Bool) →
+        eqb left 0 ≡ b → isStop (onward p (digit c)) ≡ false → DigitsLocal (tally n d (numeral k)) p left (c ∷ s)
+    goes below true q t =
+        stopped numberTooLong c s (λ x. rw (t, digits, q) refl) (digits-over p left) (place-opens p go-on)
+        (past
+        (Fault.numeral (numeral-byte p c t) (omega (arith, eqb-true left 0 q))
+        (ap bytesOfNumber (one-byte t) ∙ omega (arith, eqb-true left 0 q))) (opens (place-opens (onward p (digit c)) t)))
     goes below false q t =
-        step c s (digit-ascii c (numeral-byte p c t)) (λ x. rw (t, digits, q) refl) (moved (one-byte t) (bind (λ r. ok (record { got = c ∷ r .got; rest = r .rest })) s (below (omega (arith, eqb-no left 0 q))) (λ i g h. opens h) (λ b. all-read (c ∷ b)) λ b used r e h w.
+        step c s (digit-ascii c (numeral-byte p c t)) (λ x. rw (t, digits, q) refl) (moved (one-byte t) (bind (λ r. ok (record {
+          got = c
+              ∷ r .got;
+          rest = r .rest;
+        })) s (below (omega (arith, eqb-no left 0 q))) (λ i g h. opens h) (λ b. all-read (c ∷ b)) λ b used r e
+        h w.
         done (c ∷ b) r (rw (append-nil used) (cc (h .0), λ z. from-step c (used ++ z) z p (digit c) (digit-view c) (h .1 z)))))
 
-    go : (isStop (onward p (digit c)) ≡ false → k + 1 + (left - 1) ≡ maxNumber → DigitsLocal (tally n d (numeral (k + 1))) (onward p (digit c)) (left - 1) s) → (b : Bool) → isStop (onward p (digit c)) ≡ b → DigitsLocal (tally n d (numeral k)) p left (c ∷ s)
+    go : (isStop (onward p (digit c)) ≡ false → k + 1 + (left - 1) ≡
+        maxNumber → DigitsLocal (tally n d (numeral (k + 1))) (onward p (digit c)) (left - 1) s) → (b : Bool) →
+        isStop (onward p (digit c)) ≡ b → DigitsLocal (tally n d (numeral k)) p left (c ∷ s)
     go below true t = stops (complete p) refl t
     go below false t = goes (below t) (eqb left 0) refl t

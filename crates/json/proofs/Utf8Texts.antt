@@ -15,7 +15,35 @@ use Rattle.json.proofs.Quoted.{hexDigit-small, highest, highest-mono}
 use Rattle.json.proofs.Sound.{between-in, between-out, json-sound}
 use Rattle.json.specs.Bytes.{Bytes, ascii, between, choose}
 use Rattle.json.specs.Grammar
-use Rattle.json.specs.Grammar.{Chars, Digits, Elements, Escape, Exp, Frac, Hex, Int, JsonText, MembersOf, Minus, MoreElements, MoreMembers, Number, Sign, SomeDigits, Spells, Structural, Ws, noHex, noSpace, oneHex, pair, simple, space, structural, unit}
+use Rattle.json.specs.Grammar.{
+  Chars,
+  Digits,
+  Elements,
+  Escape,
+  Exp,
+  Frac,
+  Hex,
+  Int,
+  JsonText,
+  MembersOf,
+  Minus,
+  MoreElements,
+  MoreMembers,
+  Number,
+  Sign,
+  SomeDigits,
+  Spells,
+  Structural,
+  Ws,
+  noHex,
+  noSpace,
+  oneHex,
+  pair,
+  simple,
+  space,
+  structural,
+  unit,
+}
 use Rattle.json.specs.Json.{Members, Value, Values}
 use Rattle.json.specs.Reader.{json}
 use Rattle.json.specs.Refusal.{ok}
@@ -53,7 +81,9 @@ simple-small c d e = go (eqb c 34) (eqb c 92) (eqb c 47) (eqb c 98) (eqb c 102) 
     none-is : _≡_ {A = Option ℕ} none (some d) → d < 128
     none-is q = let z : _≡_ {A = Bool} true false = cc in absurd (true≢false z)
 
-    go : (a b f g h i j k : Bool) → choose ((a, some 34) ∷ (b, some 92) ∷ (f, some 47) ∷ (g, some 8) ∷ (h, some 12) ∷ (i, some 10) ∷ (j, some 13) ∷ (k, some 9) ∷ []) none ≡ some d → d < 128
+    go : (a b f g h i j k : Bool) →
+        choose ((a, some 34) ∷ (b, some 92) ∷ (f, some 47) ∷ (g, some 8) ∷ (h, some 12) ∷ (i, some 10) ∷ (j, some 13) ∷ (k, some 9) ∷ [])
+        none ≡ some d → d < 128
     go true b f g h i j k q = is 34 (omega arith) q
     go false true f g h i j k q = is 92 (omega arith) q
     go false false true g h i j k q = is 47 (omega arith) q
@@ -74,14 +104,32 @@ record Escaped (y s t : Bytes) : Type 0 where
 escaped-one : {y s t : Bytes} → Escape y s t → Escaped y s t
 escaped-one (simple {c} {d} {s} e) =
     let k = simple-small c d e in
-    record { value = d; isOne = record { most = omega arith; plain = between-out 55296 57343 d (λ i j. omega arith) }; bytes = sym (encode-1 d k); onward = ascii-on c s (simple-ascii c d e) }
-escaped-one (unit {c} {u} {s = s} e k p q) = record { value = u; isOne = record { most = omega (arith, hex-most k); plain = p }; bytes = q; onward = λ h. hex-on k (ascii-on c s (rw e refl) h) }
+    record {
+      value = d;
+      isOne = record { most = omega arith; plain = between-out 55296 57343 d (λ i j. omega arith) };
+      bytes = sym (encode-1 d k);
+      onward = ascii-on c s (simple-ascii c d e);
+    }
+escaped-one (unit {c} {u} {s = s} e k p q) =
+    record {
+      value = u;
+      isOne = record { most = omega (arith, hex-most k); plain = p };
+      bytes = q;
+      onward = λ h. hex-on k (ascii-on c s (rw e refl) h);
+    }
 escaped-one (pair {c} {high} {low} {s = s} {t = t} {u = u} e k p q l m n) =
     let a = between-in 55296 56319 high p in
     let b = between-in 56320 57343 low m in
     let v = 65536 + (high - 55296) * 1024 + (low - 56320) in
     let one : Scalar v = record { most = omega arith; plain = between-out 55296 57343 v (λ i j. omega arith) } in
-    record { value = v; isOne = one; bytes = n; onward = λ h. hex-on l (ascii-on 117 u refl (ascii-on 92 (117 ∷ u) refl (subst (λ (x : Bytes). utf8 scalar x ≡ true) q (hex-on k (ascii-on c s (rw e refl) h))))) }
+    record {
+      value = v;
+      isOne = one;
+      bytes = n;
+      onward = λ h. hex-on l
+          (ascii-on 117 u refl
+          (ascii-on 92 (117 ∷ u) refl (subst (λ (x : Bytes). utf8 scalar x ≡ true) q (hex-on k (ascii-on c s (rw e refl) h)))));
+    }
 
 -- what UTF-8 waits for begins at byte 128
 abbrev High : Expect → Type 0
@@ -107,7 +155,8 @@ chars-utf8 (Grammar.close {c} {r} p) never k h = absurd (false≢true h)
 chars-utf8 (Grammar.unescaped {c} p t) scalar k h = chars-utf8 t (lead c) (fits-high (lead c) (isAscii c) (lead-fits c)) h
 chars-utf8 (Grammar.unescaped {c} {x} {s} {r} p t) (tail low high n) k h = go (chars-utf8 t (after n) (after-high n)) (between low high c) refl
   where
-    go : (utf8 (after n) s ≡ true → (utf8 (after n) x ≡ true) × (utf8 scalar r ≡ true)) → (b : Bool) → between low high c ≡ b → (utf8 (tail low high n) (c ∷ x) ≡ true) × (utf8 scalar r ≡ true)
+    go : (utf8 (after n) s ≡ true → (utf8 (after n) x ≡ true) × (utf8 scalar r ≡ true)) → (b : Bool) → between low high c ≡ b →
+        (utf8 (tail low high n) (c ∷ x) ≡ true) × (utf8 scalar r ≡ true)
     go below true q = rw (q, utf8) (below (rw (q, utf8) at h))
     go below false q = absurd (false≢true (rw (q, utf8) at h))
 chars-utf8 (Grammar.unescaped {c} p t) never k h = absurd (false≢true h)
@@ -197,7 +246,9 @@ mutual
 
   members-utf8 : {ms : Members} {s r : Bytes} → MembersOf ms s r → utf8 scalar s ≡ true → (membersUtf8 ms ≡ true) × (utf8 scalar r ≡ true)
   members-utf8 Grammar.noMember h = (refl, h)
-  members-utf8 (Grammar.members t d v m) h = let i = string-utf8 t h in let k = spells-utf8 v (structural-on refl d (i .1)) in let l = more-members-utf8 m (k .1) in (rw (i .0, k .0) (l .0), l .1)
+  members-utf8 (Grammar.members t d v m) h =
+      let i = string-utf8 t h in let k = spells-utf8 v (structural-on refl d (i .1)) in let l = more-members-utf8 m (k .1) in
+      (rw (i .0, k .0) (l .0), l .1)
 
   more-members-utf8 : {ms : Members} {s r : Bytes} → MoreMembers ms s r → utf8 scalar s ≡ true → (membersUtf8 ms ≡ true) × (utf8 scalar r ≡ true)
   more-members-utf8 Grammar.lastMember h = (refl, h)

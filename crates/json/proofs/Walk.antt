@@ -9,7 +9,22 @@ use native.Mathlib.Omega.{arith}
 use lib.ListN.{drop, length, take, take-append-drop}
 use lib.Seq.{sets, sets-eq, take-append-le, take-length}
 use Rattle.json.proofs.Agree.{Rel, SheetAgrees, both, json-agrees, neitherOf}
-use Rattle.json.proofs.Decoded.{arr-parts, arr-row, decoded, decodedIn, decodedOf, fields-parts, leaf-fits, leaf-row, length-rows, node-after, nodes-parts, obj-parts, obj-row, size-pos}
+use Rattle.json.proofs.Decoded.{
+  arr-parts,
+  arr-row,
+  decoded,
+  decodedIn,
+  decodedOf,
+  fields-parts,
+  leaf-fits,
+  leaf-row,
+  length-rows,
+  node-after,
+  nodes-parts,
+  obj-parts,
+  obj-row,
+  size-pos,
+}
 use Rattle.json.specs.Bytes.{Bytes, find, sameBytes}
 use Rattle.json.specs.Fits.{FitsLeaf, Text}
 use Rattle.json.specs.Held.{AreMembers, AreNodes, FieldsAt, IsNode, NodeAt, NodesAt}
@@ -23,7 +38,8 @@ use Rattle.json.specs.Table.{afterAt, code, endAt, kindAt, membersAt, ro
 
 -- what is found at a node
 pub data View (s : Bytes) (w : List ℕ) (left n : ℕ) : Type 0 where
-  isPlain : (k : Plain) → kindAt w n ≡ code k → afterAt w n ≡ n + 1 → valueAt s w n ≡ plain s k (startAt w n) (endAt w n) → FitsLeaf s k (startAt w n) (endAt w n) → View s w left n
+  isPlain : (k : Plain) → kindAt w n ≡ code k → afterAt w n ≡ n + 1 → valueAt s w n ≡ plain s k (startAt w n) (endAt w n) →
+      FitsLeaf s k (startAt w n) (endAt w n) → View s w left n
   isArray : kindAt w n ≡ 5 → 1 ≤ left → valueAt s w n ≡ array (valuesAt s w (n + 1) (afterAt w n)) → AreNodes s w (left - 1) (n + 1) (afterAt w n) → View s w left n
   isObject : kindAt w n ≡ 6 → 1 ≤ left → valueAt s w n ≡ object (membersAt s w (n + 1) (afterAt w n)) → AreMembers s w (left - 1) (n + 1) (afterAt w n) → View s w left n
 
@@ -94,12 +110,14 @@ module _ (s : Bytes) (w : List ℕ) where
           let x = arr-row s w left n a e ts r in
           let p = arr-parts s w left n a e ts r in
           let d : left - 1 ≤ maxDepth = omega arith in
-          isArray (x .isKind) (p .0) (value-is l r ∙ rw (x .isAfter) (ap array (sym (values-are d (p .1))))) (rw (x .isAfter) (record { tree = ts; held = p .1; depth = d; most = omega (arith, m) }))
+          isArray (x .isKind) (p .0) (value-is l r ∙ rw (x .isAfter) (ap array (sym (values-are d (p .1)))))
+          (rw (x .isAfter) (record { tree = ts; held = p .1; depth = d; most = omega (arith, m) }))
       go (obj a e fs) r m =
           let x = obj-row s w left n a e fs r in
           let p = obj-parts s w left n a e fs r in
           let d : left - 1 ≤ maxDepth = omega arith in
-          isObject (x .isKind) (p .0) (value-is l r ∙ rw (x .isAfter) (ap object (sym (members-are d (p .1))))) (rw (x .isAfter) (record { tree = fs; held = p .1; depth = d; most = omega (arith, m) }))
+          isObject (x .isKind) (p .0) (value-is l r ∙ rw (x .isAfter) (ap object (sym (members-are d (p .1)))))
+          (rw (x .isAfter) (record { tree = fs; held = p .1; depth = d; most = omega (arith, m) }))
 
   -- children, one after the other
   pub values-done : {left k e : ℕ} → AreNodes s w left k e → e ≤ k → valuesAt s w k e ≡ nil
@@ -164,23 +182,38 @@ module _ (s : Bytes) (w : List ℕ) where
   unfolding find
   find-done key h q = rw (members-done h q)
 
-  pub find-here : {left k e : ℕ} (key : Bytes) → AreMembers s w left k e → k < e → sameBytes key (textAt s (startAt w k)) ≡ true → find key (entries (membersAt s w k e)) ≡ some (valueAt s w (k + 1))
+  pub find-here : {left k e : ℕ} (key : Bytes) → AreMembers s w left k e → k < e → sameBytes key (textAt s (startAt w k)) ≡ true →
+      find key (entries (membersAt s w k e)) ≡ some (valueAt s w (k + 1))
   unfolding find
   find-here key h q e = rw (members-more h q .value, e, find)
 
-  pub find-on : {left k e : ℕ} (key : Bytes) → AreMembers s w left k e → k < e → sameBytes key (textAt s (startAt w k)) ≡ false → find key (entries (membersAt s w k e)) ≡ find key (entries (membersAt s w (afterAt w (k + 1)) e))
+  pub find-on : {left k e : ℕ} (key : Bytes) → AreMembers s w left k e → k < e → sameBytes key (textAt s (startAt w k)) ≡ false →
+      find key (entries (membersAt s w k e)) ≡ find key (entries (membersAt s w (afterAt w (k + 1)) e))
   unfolding find
   find-on key h q e = rw (members-more h q .value, e, find)
 
 -- ---- the whole sheet
 -- the tree that was read, once its rows stand at the table's beginning
-pub root : (s : Bytes) (w : List ℕ) (t : Node) → spanned s ≡ ok t → take (3 * size t) w ≡ rows t 0 → (json s ≡ ok (erase s t)) × (valueAt s w 0 ≡ erase s t) × IsNode s w maxDepth 0
+pub root : (s : Bytes) (w : List ℕ) (t : Node) → spanned s ≡ ok t → take (3 * size t) w ≡ rows t 0 →
+    (json s ≡ ok (erase s t)) × (valueAt s w 0 ≡ erase s t) × IsNode s w maxDepth 0
 root s w t e h = go (json s) (spanned s) (json-agrees s) refl e
   where
     at : SheetAgrees s (erase s t) t → IsNode s w maxDepth 0
-    at a = record { tree = t; held = record { words = (drop (3 * size t) w, sym (take-append-drop (3 * size t) w) ∙ ap (λ (x : List ℕ). x ++ drop (3 * size t) w) h); shallow = a .shallow; fits = a .fits }; depth = omega arith; most = omega (arith, a .most) }
+    at a =
+        record {
+          tree = t;
+          held =
+              record {
+                words = (drop (3 * size t) w, sym (take-append-drop (3 * size t) w) ∙ ap (λ (x : List ℕ). x ++ drop (3 * size t) w) h);
+                shallow = a .shallow;
+                fits = a .fits;
+              };
+          depth = omega arith;
+          most = omega (arith, a .most);
+        }
 
-    go : (x : Result Value) (y : Result Node) → Rel Value Node (SheetAgrees s) x y → json s ≡ x → y ≡ ok t → (json s ≡ ok (erase s t)) × (valueAt s w 0 ≡ erase s t) × IsNode s w maxDepth 0
+    go : (x : Result Value) (y : Result Node) → Rel Value Node (SheetAgrees s) x y → json s ≡ x → y ≡ ok t →
+        (json s ≡ ok (erase s t)) × (valueAt s w 0 ≡ erase s t) × IsNode s w maxDepth 0
     go x y (both {a = v} {b = u} a) i j =
         let q : u ≡ t = cc in
         let b : SheetAgrees s v t = subst (λ (z : Node). SheetAgrees s v z) q a in
@@ -190,10 +223,18 @@ root s w t e h = go (json s) (spanned s) (json-agrees s) refl e
 
 -- rows that were stored, `sets` as straight code has it
 pub stored : (w₀ w : List ℕ) (t : Node) → w ≡ sets w₀ 0 (rows t 0) → 3 * size t ≤ length w₀ → take (3 * size t) w ≡ rows t 0
-stored w₀ w t e h = rw (e, sets-eq (rows t 0) w₀ 0 (omega (arith, length-rows t 0)), ← length-rows t 0, take-append-le (length (rows t 0)) (rows t 0) (drop (0 + length (rows t 0)) w₀) (omega arith)) (take-length (rows t 0))
+stored w₀ w t e h =
+    rw (
+      e,
+      sets-eq (rows t 0) w₀ 0 (omega (arith, length-rows t 0)),
+      ← length-rows t 0,
+      take-append-le (length (rows t 0)) (rows t 0)
+          (drop (0 + length (rows t 0)) w₀) (omega arith),
+    ) (take-length (rows t 0))
 
 -- An accepted sheet: what the reader stored is what `json` reads, node by node.
-pub accepted : (s : Bytes) (w₀ w : List ℕ) (t : Node) → spanned s ≡ ok t → w ≡ sets w₀ 0 (rows t 0) → 3 * maxNodes ≤ length w₀ → (json s ≡ ok (erase s t)) × (valueAt s w 0 ≡ erase s t) × IsNode s w maxDepth 0
+pub accepted : (s : Bytes) (w₀ w : List ℕ) (t : Node) → spanned s ≡ ok t → w ≡ sets w₀ 0 (rows t 0) → 3 * maxNodes ≤ length w₀ →
+    (json s ≡ ok (erase s t)) × (valueAt s w 0 ≡ erase s t) × IsNode s w maxDepth 0
 accepted s w₀ w t e h l = root s w t e (stored w₀ w t h (omega (arith, small s t e)))
   where
     small : (s : Bytes) (t : Node) → spanned s ≡ ok t → size t ≤ maxNodes

@@ -25,8 +25,12 @@ mutual
 
   pub data AscendIn : ℕ → ℕ → Nodes → Type 0 where
     noneAscend : {low high : ℕ} → AscendIn low high noNode
-    nodeAscends : {low middle high : ℕ} {t : Node} {ts : Nodes} → Ascends low middle t → low ≤ middle → middle ≤ high → AscendIn middle high ts → AscendIn low high (node t ts)
+    nodeAscends :
+        {low middle high : ℕ} {t : Node} {ts : Nodes} → Ascends low middle t → low ≤ middle → middle ≤ high → AscendIn middle high ts →
+        AscendIn low high (node t ts)
 
   pub data AscendOf : ℕ → ℕ → Fields → Type 0 where
     emptyAscends : {low high : ℕ} → AscendOf low high noField
-    fieldAscends : {low from middle high a e : ℕ} {t : Node} {fs : Fields} → low ≤ from → Ascends from middle t → from ≤ middle → middle ≤ high → AscendOf middle high fs → AscendOf low high (field a e t fs)
+    fieldAscends :
+        {low from middle high a e : ℕ} {t : Node} {fs : Fields} → low ≤ from → Ascends from middle t → from ≤ middle → middle ≤ high →
+        AscendOf middle high fs → AscendOf low high (field a e t fs)

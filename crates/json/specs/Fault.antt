@@ -1,4 +1,5 @@
--- Which of 4 to 8 a text is refused with, and at which byte, in the words of RFC 8259. JSON is meant here without the limits: any depth, any number of nodes, numbers of any length, names repeated or not.
+-- Which of 4 to 8 a text is refused with, and at which byte, in the words of RFC 8259. JSON is meant here without the limits: any depth,
+-- any number of nodes, numbers of any length, names repeated or not.
 -- Assumes nothing.
 use mathlib.Core.Bool.{false, true}
 use mathlib.Core.List.{[], _++_, _∷_}
@@ -29,7 +30,8 @@ pub data Limit : Refusal → Type 0 where
   seven : Limit tooManyNodes
   eight : Limit repeatedName
 
--- The byte at which each of them stands, behind what has been counted before it: an opening bracket, the 65th that is open; a byte of a number, its 256th; the first byte of a value or a name, node 4,097; a quote, which closes a name.
+-- The byte at which each of them stands, behind what has been counted before it: an opening bracket, the 65th that is open; a byte of a
+-- number, its 256th; the first byte of a value or a name, node 4,097; a quote, which closes a name.
 pub data StandsAt (before : Tally) (c : ℕ) : Refusal → Type 0 where
   bracket : (c ≡ 91) ⊎ (c ≡ 123) → bracketsOpen before ≡ maxDepth → bracketsOpen (further before c) ≡ maxDepth + 1 → StandsAt before c tooDeep
   numeral : digit c ≢ isOther → bytesOfNumber before ≡ maxNumber → bytesOfNumber (further before c) ≡ maxNumber + 1 → StandsAt before c numberTooLong
@@ -68,7 +70,8 @@ pub data Answered (v : Value) : Result Value → Type 0 where
   read : Answered v (ok v)
   passing : {q : Refusal} → Passes q v → Answered v (refused q)
 
--- What 4 says of a text. `good` is its longest beginning that a JSON text can have, and one in UTF-8 where the text is; where it ends there, the text is no JSON text; none of 5 to 8 stands in it.
+-- What 4 says of a text. `good` is its longest beginning that a JSON text can have, and one in UTF-8 where the text is; where it ends
+-- there, the text is no JSON text; none of 5 to 8 stands in it.
 pub record NotJson (s : Bytes) : Type 0 where
   pub good : Bytes
   pub rest : Bytes
@@ -79,7 +82,10 @@ pub record NotJson (s : Bytes) : Type 0 where
   pub over : rest ≡ [] → (v : Value) → ¬ JsonText v s
   pub none-before : (p t : Bytes) (q : Refusal) → s ≡ p ++ t → Limit q → parse p ≢ refused q
 
--- What each of 5 to 8 says of a text. It stands at `byte`, behind which a JSON text can still follow; it stands there whatever follows, and every JSON text that begins so passes its limit; none of 5 to 8 stands before. In front of `byte` a JSON text can follow that passes neither 5 nor 8: so these two stand at the first byte after which every JSON text passes their limit. At 7 the byte is no bracket 65: a tie goes to 5.
+-- What each of 5 to 8 says of a text. It stands at `byte`, behind which a JSON text can still follow; it stands there whatever follows, and
+-- every JSON text that begins so passes its limit; none of 5 to 8 stands before. In front of `byte` a JSON text can follow that passes
+-- neither 5 nor 8: so these two stand at the first byte after which every JSON text passes their limit. At 7 the byte is no bracket 65: a
+-- tie goes to 5.
 pub record Past (q : Refusal) (s : Bytes) : Type 0 where
   pub good : Bytes
   pub byte : ℕ

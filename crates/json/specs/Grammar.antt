@@ -72,7 +72,8 @@ pub data Hex : ℕ → ℕ → ℕ → Bytes → Bytes → Type 0 where
 pub data Escape : Bytes → Bytes → Bytes → Type 0 where
   simple : {c d : ℕ} {s : Bytes} → simpleEscape c ≡ some d → Escape (d ∷ []) (c ∷ s) s
   unit : {c u : ℕ} {x s r : Bytes} → c ≡ 117 → Hex 4 0 u s r → between 55296 57343 u ≡ false → x ≡ encode u → Escape x (c ∷ s) r
-  pair : {c high low : ℕ} {x s t u r : Bytes} → c ≡ 117 → Hex 4 0 high s t → between 55296 56319 high ≡ true → t ≡ ascii "\\u" ++ u → Hex 4 0 low u r → between 56320 57343 low ≡ true → x ≡ encode (65536 + (high - 55296) * 1024 + (low - 56320)) → Escape x (c ∷ s) r
+  pair : {c high low : ℕ} {x s t u r : Bytes} → c ≡ 117 → Hex 4 0 high s t → between 55296 56319 high ≡ true → t ≡ ascii "\\u" ++ u →
+      Hex 4 0 low u r → between 56320 57343 low ≡ true → x ≡ encode (65536 + (high - 55296) * 1024 + (low - 56320)) → Escape x (c ∷ s) r
 
 -- unescaped = %x20-21 / %x23-5B / %x5D-10FFFF
 abbrev pub isUnescaped : ℕ → Bool
@@ -113,7 +114,8 @@ mutual
 
   pub data MoreMembers : Members → Bytes → Bytes → Type 0 where
     lastMember : {s : Bytes} → MoreMembers empty s s
-    nextMember : {k : Bytes} {v : Value} {ms : Members} {s s′ t u w r : Bytes} → Structural 44 s s′ → String k s′ t → Structural 58 t u → Spells v u w → MoreMembers ms w r → MoreMembers (member k v ms) s r
+    nextMember : {k : Bytes} {v : Value} {ms : Members} {s s′ t u w r : Bytes} → Structural 44 s s′ → String k s′ t → Structural 58 t u →
+        Spells v u w → MoreMembers ms w r → MoreMembers (member k v ms) s r
 
 -- JSON-text = ws value ws
 pub record JsonText (v : Value) (s : Bytes) : Type 0 where

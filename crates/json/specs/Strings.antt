@@ -42,7 +42,9 @@ unit16 u = choose ((between 55296 56319 u, highUnit) ∷ (between 56320 57343 u,
 
 unfoldable pub lowHalf : ℕ → Read ℕ → Result (Read Bytes)
 unfolding encode
-lowHalf high low = elim (between 56320 57343 (low .got)) [ true ↦ ok (record { got = encode (65536 + (high - 55296) * 1024 + (low .got - 56320)); rest = low .rest }) | false ↦ refused notJson ]
+lowHalf high low =
+    elim (between 56320 57343 (low .got))
+    [ true ↦ ok (record { got = encode (65536 + (high - 55296) * 1024 + (low .got - 56320)); rest = low .rest }) | false ↦ refused notJson ]
 
 unfoldable pub highHalf : ℕ → Bytes → Result (Read Bytes)
 unfolding word hex lowHalf

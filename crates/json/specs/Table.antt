@@ -53,7 +53,10 @@ pub data Kind : Type 0 where
   arrKind objKind : Kind
 
 abbrev pub kind : ℕ → Kind
-kind c = choose ((eqb c 0, plainKind isNull) ∷ (eqb c 1, plainKind isTrue) ∷ (eqb c 2, plainKind isFalse) ∷ (eqb c 3, plainKind isNumber) ∷ (eqb c 4, plainKind isText) ∷ (eqb c 5, arrKind) ∷ []) objKind
+kind c =
+    choose
+    ((eqb c 0, plainKind isNull) ∷ (eqb c 1, plainKind isTrue) ∷ (eqb c 2, plainKind isFalse) ∷ (eqb c 3, plainKind isNumber) ∷
+    (eqb c 4, plainKind isText) ∷ (eqb c 5, arrKind) ∷ []) objKind
 
 -- the values of the nodes from k up to, not including, e, each as f reads it; the first number bounds how many there are
 unfoldable pub valuesBy : (ℕ → Value) → List ℕ → ℕ → ℕ → ℕ → Values

@@ -1,4 +1,5 @@
--- Counting over the beginning of a text, one byte after the other and without reading it: how many nodes have begun, how many brackets are open, and how many bytes the number has that it ends in.
+-- Counting over the beginning of a text, one byte after the other and without reading it: how many nodes have begun, how many brackets are
+-- open, and how many bytes the number has that it ends in.
 -- Assumes nothing.
 use mathlib.Core.Bool.{Bool, _||_}
 use mathlib.Core.List.{[], _∷_}

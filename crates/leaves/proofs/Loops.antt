@@ -98,11 +98,23 @@ module _ {s : Bytes} {val : Placer Node} {at : ℕ} {whole : Result (Placed Node
     unfolding itemsAt After
     opened m x e = ap (closes at ts) (bind-ok _ isV ∙ ap (After m) e)
 
-    pub item-ends : getD s (skipAt s (v .place)) 0 ≡ 93 → whole ≡ ok (record { tree = arr at (skipAt s (v .place) + 1) (joined ts (node (v .tree) noNode)); place = skipAt s (v .place) + 1; count = v .count })
+    pub item-ends : getD s (skipAt s (v .place)) 0 ≡ 93 → whole ≡
+        ok
+        (record {
+          tree = arr at (skipAt s (v .place) + 1) (joined ts (node (v .tree) noNode));
+          place = skipAt s (v .place) + 1;
+          count = v .count;
+        })
     unfolding After closes
     item-ends e = l .rest ∙ go (l .fuel) (l .enough)
       where
-        go : (m : ℕ) → length s ≤ m + here → closes at ts (itemsAt s val m n here) ≡ ok (record { tree = arr at (skipAt s (v .place) + 1) (joined ts (node (v .tree) noNode)); place = skipAt s (v .place) + 1; count = v .count })
+        go : (m : ℕ) → length s ≤ m + here → closes at ts (itemsAt s val m n here) ≡
+            ok
+            (record {
+              tree = arr at (skipAt s (v .place) + 1) (joined ts (node (v .tree) noNode));
+              place = skipAt s (v .place) + 1;
+              count = v .count;
+            })
         go zero h = absurd (omega arith)
         go (suc m) h = opened m ends (sep-end 93 _ e (λ q. omega arith))
 
@@ -114,15 +126,19 @@ module _ {s : Bytes} {val : Placer Node} {at : ℕ} {whole : Result (Placed Node
         go zero h = absurd (omega arith)
         go (suc m) h = opened m neither (sep-none 93 _ f g)
 
-    pub item-on : getD s (skipAt s (v .place)) 0 ≡ 44 → here < skipAt s (skipAt s (v .place) + 1) → Reading s val at whole (joined ts (node (v .tree) noNode)) (skipAt s (skipAt s (v .place) + 1)) (v .count)
+    pub item-on : getD s (skipAt s (v .place)) 0 ≡ 44 → here < skipAt s (skipAt s (v .place) + 1) →
+        Reading s val at whole (joined ts (node (v .tree) noNode)) (skipAt s (skipAt s (v .place) + 1)) (v .count)
     unfolding After closes
     item-on e past = go (l .fuel) (l .enough) (l .rest)
       where
-        more : (x : Result (Placed Nodes)) → closes at ts (x >>= λ vs. ok (record { tree = node (v .tree) (vs .tree); place = vs .place; count = vs .count })) ≡ closes at (joined ts (node (v .tree) noNode)) x
+        more : (x : Result (Placed Nodes)) → closes at ts
+            (x >>= λ vs. ok (record { tree = node (v .tree) (vs .tree); place = vs .place; count = vs .count })) ≡
+            closes at (joined ts (node (v .tree) noNode)) x
         more (ok vs) = rw (joined-more ts (v .tree) (vs .tree))
         more (refused r) = refl
 
-        go : (m : ℕ) → length s ≤ m + here → whole ≡ closes at ts (itemsAt s val m n here) → Reading s val at whole (joined ts (node (v .tree) noNode)) (skipAt s (skipAt s (v .place) + 1)) (v .count)
+        go : (m : ℕ) → length s ≤ m + here → whole ≡ closes at ts (itemsAt s val m n here) →
+            Reading s val at whole (joined ts (node (v .tree) noNode)) (skipAt s (skipAt s (v .place) + 1)) (v .count)
         go zero h q = absurd (omega arith)
         go (suc m) h q = record { fuel = m; enough = omega arith; rest = q ∙ opened m goesOn (sep-on 93 _ e) ∙ more (itemsAt s val m (v .count) (skipAt s (skipAt s (v .place) + 1))) }
 
@@ -139,7 +155,13 @@ module _ (s : Bytes) (val : Placer Node) (n at : ℕ) where
 
     pub array-opens : (getD s (skipAt s (at + 1)) 0 ≡ 93 → ⊥) → at + 1 ≤ skipAt s (at + 1) → Reading s val at (arrAt s val n at) noNode (skipAt s (at + 1)) (n + 1)
     unfolding arrAt closes joined
-    array-opens f past = record { fuel = length (drop (at + 1) s); enough = omega (arith, length-drop (at + 1) s); rest = rw (lt-ltb n maxNodes room, oneNode, ne-eqb _ 93 f) (go (itemsAt s val (length (drop (at + 1) s)) (n + 1) (skipAt s (at + 1)))) }
+    array-opens f past =
+        record {
+          fuel = length (drop (at + 1) s);
+          enough = omega (arith, length-drop (at + 1) s);
+          rest = rw (lt-ltb n maxNodes room, oneNode, ne-eqb _ 93 f)
+              (go (itemsAt s val (length (drop (at + 1) s)) (n + 1) (skipAt s (at + 1))));
+        }
       where
         go : (x : Result (Placed Nodes)) → (x >>= λ vs. ok (record { tree = arr at (vs .place) (vs .tree); place = vs .place; count = vs .count })) ≡ closes at noNode x
         go (ok vs) = refl
@@ -179,7 +201,8 @@ pub one-more : (k x : Bytes) (xs : List Bytes) → isOneOf k (xs ++ (x ∷ [])) 
 one-more k x [] = refl
 one-more k x (y ∷ ys) = go (sameBytes k y) (sameBytes k x) refl refl (one-more k x ys)
   where
-    go : (a b : Bool) → sameBytes k y ≡ a → sameBytes k x ≡ b → isOneOf k (ys ++ (x ∷ [])) ≡ isOneOf k (x ∷ ys) → isOneOf k (y ∷ (ys ++ (x ∷ []))) ≡ isOneOf k (x ∷ y ∷ ys)
+    go : (a b : Bool) → sameBytes k y ≡ a → sameBytes k x ≡ b → isOneOf k (ys ++ (x ∷ [])) ≡ isOneOf k (x ∷ ys) →
+        isOneOf k (y ∷ (ys ++ (x ∷ []))) ≡ isOneOf k (x ∷ y ∷ ys)
     go true true p q below = one-here k y _ p ∙ sym (one-here k x _ q)
     go true false p q below = one-here k y _ p ∙ sym (one-here k y _ p) ∙ sym (one-there k x _ q)
     go false true p q below = one-there k y _ p ∙ below ∙ one-here k x _ q ∙ sym (one-here k x _ q)
@@ -253,7 +276,13 @@ module _ {s : Bytes} {val : Placer Node} {at : ℕ} {whole : Result (Placed Node
           module _ (isColon : getD s (skipAt s e) 0 ≡ 58) where
             pub value-refused : (r : Refusal) → val (n + 1) (skipAt s (skipAt s e + 1)) ≡ refused r → whole ≡ refused r
             unfolding fieldsAt closesOf
-            value-refused r q = by (refused r) inside λ m. bind-ok _ (byte-is 34 s here isQuote) ∙ bind-ok _ counted ∙ bind-ok _ isText ∙ bind-ok _ fresh ∙ bind-ok _ (byte-is 58 s (skipAt s e) isColon) ∙ bind-refused _ q
+            value-refused r q =
+                by (refused r) inside λ m. bind-ok _ (byte-is 34 s here isQuote) ∙
+                bind-ok _ counted ∙
+                bind-ok _ isText ∙
+                bind-ok _ fresh ∙
+                bind-ok _ (byte-is 58 s (skipAt s e) isColon) ∙
+                bind-refused _ q
 
             module _ (v : Placed Node) (isV : val (n + 1) (skipAt s (skipAt s e + 1)) ≡ ok v) where
               AfterOf : ℕ → Sep → Result (Placed Fields)
@@ -261,7 +290,8 @@ module _ {s : Bytes} {val : Placer Node} {at : ℕ} {whole : Result (Placed Node
                   elim
                   x [
                     | goesOn ↦
-                        (fieldsAt s val m (textAt s (here + 1) ∷ l .names) (v .count) (skipAt s (skipAt s (v .place) + 1)) >>= λ us. ok (record { tree = field (here + 1) (e - 1) (v .tree) (us .tree); place = us .place; count = us .count }))
+                        (fieldsAt s val m (textAt s (here + 1) ∷ l .names) (v .count) (skipAt s (skipAt s (v .place) + 1)) >>= λ us.
+                        ok (record { tree = field (here + 1) (e - 1) (v .tree) (us .tree); place = us .place; count = us .count }))
                     | ends ↦
                         ok (record { tree = field (here + 1) (e - 1) (v .tree) noField; place = skipAt s (v .place) + 1; count = v .count })
                     | neither ↦
@@ -270,33 +300,61 @@ module _ {s : Bytes} {val : Placer Node} {at : ℕ} {whole : Result (Placed Node
 
               turned : (m : ℕ) (x : Sep) → sep 125 (getD s (skipAt s (v .place)) 0) ≡ x → fieldsAt s val (suc m) (l .names) n here ≡ AfterOf m x
               unfolding fieldsAt AfterOf
-              turned m x q = bind-ok _ (byte-is 34 s here isQuote) ∙ bind-ok _ counted ∙ bind-ok _ isText ∙ bind-ok _ fresh ∙ bind-ok _ (byte-is 58 s (skipAt s e) isColon) ∙ bind-ok _ isV ∙ ap (AfterOf m) q
+              turned m x q =
+                  bind-ok _ (byte-is 34 s here isQuote) ∙
+                  bind-ok _ counted ∙
+                  bind-ok _ isText ∙
+                  bind-ok _ fresh ∙
+                  bind-ok _ (byte-is 58 s (skipAt s e) isColon) ∙
+                  bind-ok _ isV ∙
+                  ap (AfterOf m) q
 
-              pub member-ends : getD s (skipAt s (v .place)) 0 ≡ 125 → whole ≡ ok (record { tree = obj at (skipAt s (v .place) + 1) (joinedOf fs (field (here + 1) (e - 1) (v .tree) noField)); place = skipAt s (v .place) + 1; count = v .count })
+              pub member-ends : getD s (skipAt s (v .place)) 0 ≡ 125 → whole ≡
+                  ok
+                  (record {
+                    tree = obj at (skipAt s (v .place) + 1) (joinedOf fs (field (here + 1) (e - 1) (v .tree) noField));
+                    place = skipAt s (v .place) + 1;
+                    count = v .count;
+                  })
               unfolding AfterOf closesOf
-              member-ends q = by (ok (record { tree = field (here + 1) (e - 1) (v .tree) noField; place = skipAt s (v .place) + 1; count = v .count })) inside λ m. turned m ends (sep-end 125 _ q (λ z. omega arith))
+              member-ends q =
+                  by (ok (record { tree = field (here + 1) (e - 1) (v .tree) noField; place = skipAt s (v .place) + 1; count = v .count }))
+                  inside λ m. turned m ends (sep-end 125 _ q (λ z. omega arith))
 
               pub member-fails : (getD s (skipAt s (v .place)) 0 ≡ 44 → ⊥) → (getD s (skipAt s (v .place)) 0 ≡ 125 → ⊥) → whole ≡ refused notJson
               unfolding AfterOf closesOf
               member-fails f g = by (refused notJson) inside λ m. turned m neither (sep-none 125 _ f g)
 
-              pub member-on : getD s (skipAt s (v .place)) 0 ≡ 44 → here < skipAt s (skipAt s (v .place) + 1) → Naming s val at whole (joinedOf fs (field (here + 1) (e - 1) (v .tree) noField)) (skipAt s (skipAt s (v .place) + 1)) (v .count)
+              pub member-on : getD s (skipAt s (v .place)) 0 ≡ 44 → here < skipAt s (skipAt s (v .place) + 1) →
+                  Naming s val at whole (joinedOf fs (field (here + 1) (e - 1) (v .tree) noField)) (skipAt s (skipAt s (v .place) + 1))
+                  (v .count)
               unfolding AfterOf closesOf
               member-on q past = go (l .fuel) (l .enough) (l .rest)
                 where
-                  more : (x : Result (Placed Fields)) → closesOf at fs (x >>= λ us. ok (record { tree = field (here + 1) (e - 1) (v .tree) (us .tree); place = us .place; count = us .count })) ≡ closesOf at (joinedOf fs (field (here + 1) (e - 1) (v .tree) noField)) x
+                  more : (x : Result (Placed Fields)) → closesOf at fs
+                      (x >>= λ us. ok
+                      (record { tree = field (here + 1) (e - 1) (v .tree) (us .tree); place = us .place; count = us .count })) ≡
+                      closesOf at (joinedOf fs (field (here + 1) (e - 1) (v .tree) noField)) x
                   more (ok us) = rw (joinedOf-more fs (here + 1) (e - 1) (v .tree) (us .tree))
                   more (refused r) = refl
 
-                  go : (m : ℕ) → length s ≤ m + here → whole ≡ closesOf at fs (fieldsAt s val m (l .names) n here) → Naming s val at whole (joinedOf fs (field (here + 1) (e - 1) (v .tree) noField)) (skipAt s (skipAt s (v .place) + 1)) (v .count)
+                  go : (m : ℕ) → length s ≤ m + here → whole ≡ closesOf at fs (fieldsAt s val m (l .names) n here) →
+                      Naming s val at whole (joinedOf fs (field (here + 1) (e - 1) (v .tree) noField)) (skipAt s (skipAt s (v .place) + 1))
+                      (v .count)
                   go zero h z = absurd (omega arith)
                   go (suc m) h z =
                       record {
                         fuel = m;
                         names = textAt s (here + 1) ∷ l .names;
                         enough = omega arith;
-                        rest = z ∙ ap (closesOf at fs) (turned m goesOn (sep-on 125 _ q)) ∙ more (fieldsAt s val m (textAt s (here + 1) ∷ l .names) (v .count) (skipAt s (skipAt s (v .place) + 1)));
-                        named = λ k. one-same k (textAt s (here + 1)) (l .names) (keys (eraseOf s fs)) (l .named k) ∙ sym (one-more k (textAt s (here + 1)) (keys (eraseOf s fs))) ∙ ap (isOneOf k) (sym (keys-more s fs (here + 1) (e - 1) (v .tree)));
+                        rest =
+                            z ∙
+                            ap (closesOf at fs) (turned m goesOn (sep-on 125 _ q)) ∙
+                            more (fieldsAt s val m (textAt s (here + 1) ∷ l .names) (v .count) (skipAt s (skipAt s (v .place) + 1)));
+                        named =
+                            λ k. one-same k (textAt s (here + 1)) (l .names) (keys (eraseOf s fs)) (l .named k) ∙
+                            sym (one-more k (textAt s (here + 1)) (keys (eraseOf s fs))) ∙
+                            ap (isOneOf k) (sym (keys-more s fs (here + 1) (e - 1) (v .tree)));
                       }
 
 -- an object's beginning
@@ -306,13 +364,22 @@ module _ (s : Bytes) (val : Placer Node) (n at : ℕ) where
   object-full h = rw (le-ltb n maxNodes h, oneNode)
 
   module _ (room : n < maxNodes) where
-    pub object-shut : getD s (skipAt s (at + 1)) 0 ≡ 125 → objAt s val n at ≡ ok (record { tree = obj at (skipAt s (at + 1) + 1) noField; place = skipAt s (at + 1) + 1; count = n + 1 })
+    pub object-shut : getD s (skipAt s (at + 1)) 0 ≡ 125 → objAt s val n at ≡
+        ok (record { tree = obj at (skipAt s (at + 1) + 1) noField; place = skipAt s (at + 1) + 1; count = n + 1 })
     unfolding objAt
     object-shut e = rw (lt-ltb n maxNodes room, oneNode, eq-eqb _ 125 e)
 
     pub object-opens : (getD s (skipAt s (at + 1)) 0 ≡ 125 → ⊥) → at + 1 ≤ skipAt s (at + 1) → Naming s val at (objAt s val n at) noField (skipAt s (at + 1)) (n + 1)
     unfolding objAt closesOf joinedOf eraseOf
-    object-opens f past = record { fuel = length (drop (at + 1) s); names = []; enough = omega (arith, length-drop (at + 1) s); rest = rw (lt-ltb n maxNodes room, oneNode, ne-eqb _ 125 f) (go (fieldsAt s val (length (drop (at + 1) s)) [] (n + 1) (skipAt s (at + 1)))); named = λ k. refl }
+    object-opens f past =
+        record {
+          fuel = length (drop (at + 1) s);
+          names = [];
+          enough = omega (arith, length-drop (at + 1) s);
+          rest = rw (lt-ltb n maxNodes room, oneNode, ne-eqb _ 125 f)
+              (go (fieldsAt s val (length (drop (at + 1) s)) [] (n + 1) (skipAt s (at + 1))));
+          named = λ k. refl;
+        }
       where
         go : (x : Result (Placed Fields)) → (x >>= λ us. ok (record { tree = obj at (us .place) (us .tree); place = us .place; count = us .count })) ≡ closesOf at noField x
         go (ok us) = refl

@@ -31,7 +31,9 @@ module _ {s : Bytes} {object name h : ℕ} {c : Cursor} (l : Hashing s object na
   unfolding hashed
   hashed-all e = sym (l .same ∙ rw e)
 
-  pub hashed-on : (t : Taken) (b : ℕ) → Took s (c .at) (c .unit) (c .left) (t .byte) (t .rest .at) (t .rest .unit) (t .rest .left) → b ≡ t .byte → Hashing s object name ((h * 31 + b) % 32749) (t .rest)
+  pub hashed-on :
+      (t : Taken) (b : ℕ) → Took s (c .at) (c .unit) (c .left) (t .byte) (t .rest .at) (t .rest .unit) (t .rest .left) → b ≡ t .byte →
+      Hashing s object name ((h * 31 + b) % 32749) (t .rest)
   unfolding hashed
   hashed-on t b k e = record { onText = k .onText; small = omega arith; same = l .same ∙ rw (k .byte, e) }
 

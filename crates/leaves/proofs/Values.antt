@@ -32,8 +32,22 @@ use borrow.Author.Tests.{lt-ltb, ne-eqb}
 pub starts-digit : (c : ℕ) → 48 ≤ c → c ≤ 57 → start c ≡ startBy 3
 starts-digit c p q = rw (ne-eqb c 34 (λ e. omega arith), ne-eqb c 45 (λ e. omega arith), between-of 48 57 c p q, choose)
 
-pub starts-none : (c : ℕ) → (c ≡ 34 → ⊥) → (c ≡ 45 → ⊥) → (48 ≤ c → c ≤ 57 → ⊥) → (c ≡ 91 → ⊥) → (c ≡ 123 → ⊥) → (c ≡ 110 → ⊥) → (c ≡ 116 → ⊥) → (c ≡ 102 → ⊥) → start c ≡ startBy 7
-starts-none c p1 p2 p3 p4 p5 p6 p7 p8 = rw (ne-eqb c 34 p1, ne-eqb c 45 p2, between-out 48 57 c p3, ne-eqb c 91 p4, ne-eqb c 123 p5, ne-eqb c 110 p6, ne-eqb c 116 p7, ne-eqb c 102 p8, choose)
+pub starts-none :
+    (c : ℕ) → (c ≡ 34 → ⊥) → (c ≡ 45 → ⊥) → (48 ≤ c → c ≤ 57 → ⊥) → (c ≡ 91 → ⊥) → (c ≡ 123 → ⊥) → (c ≡ 110 → ⊥) → (c ≡ 116 → ⊥) →
+    (c ≡ 102 → ⊥) → start c ≡ startBy 7
+starts-none c p1 p2 p3 p4 p5 p6 p7 p8 =
+    rw (
+      ne-eqb c 34 p1,
+      ne-eqb c 45 p2,
+      between-out 48 57 c p3,
+      ne-eqb c 91 p4,
+      ne-eqb c 123 p5,
+      ne-eqb c 110 p6,
+      ne-eqb c 116 p7,
+      ne-eqb c
+          102 p8,
+      choose,
+    )
 
 pub code-by : (k : ℕ) → k < 5 → code (plainBy k) ≡ k
 code-by zero h = refl
@@ -109,13 +123,22 @@ module _ (s : Bytes) (n at : ℕ) where
           go (suc (suc (suc (suc j)))) h f = absurd (f (omega arith))
 
 -- ---- what is told of it
-pub told-bad : (x : Result (Placed Node)) (w w′ : List ℕ) (n : ℕ) (r : Why) → x ≡ refused (refusalOf r) → drop 12288 w′ ≡ drop 12288 w → ParsedTold x w w′ n (parseds.Bad r)
+pub told-bad : (x : Result (Placed Node)) (w w′ : List ℕ) (n : ℕ) (r : Why) → x ≡ refused (refusalOf r) → drop 12288 w′ ≡ drop 12288 w →
+    ParsedTold x w w′ n (parseds.Bad r)
 unfolding ParsedTold
 told-bad x w w′ n r e h = (e, h)
 
-pub told-leaf : {x : Result (Placed Node)} {w w′ : List ℕ} {n k a e place : ℕ} {r : Parsed} → k < 5 → x ≡ ok (record { tree = leaf (plainBy k) a e; place = place; count = n + 1 }) → RowLaid w w′ n k a e (n + 1) place r → ParsedTold x w w′ n r
+pub told-leaf : {x : Result (Placed Node)} {w w′ : List ℕ} {n k a e place : ℕ} {r : Parsed} → k < 5 → x ≡
+    ok (record { tree = leaf (plainBy k) a e; place = place; count = n + 1 }) → RowLaid w w′ n k a e (n + 1) place r → ParsedTold x w w′ n
+    r
 unfolding ParsedTold rows
-told-leaf {x} {w} {w′} {n} {k} {a} {e} h q l = rw (l .answer) (record { tree = leaf (plainBy k) a e; read = q; words = l .words ∙ ap (λ (i : ℕ). sets w (3 * n) ((8 * a + i) ∷ e ∷ (n + 1) ∷ [])) (sym (code-by k h)) })
+told-leaf {x} {w} {w′} {n} {k} {a} {e} h q l =
+    rw (l .answer)
+    (record {
+      tree = leaf (plainBy k) a e;
+      read = q;
+      words = l .words ∙ ap (λ (i : ℕ). sets w (3 * n) ((8 * a + i) ∷ e ∷ (n + 1) ∷ [])) (sym (code-by k h));
+    })
 
 pub read-places : (left : ℕ) (s : Bytes) (n at : ℕ) (q : Placed Node) → at ≤ length s → readAt left s n at ≡ ok q → (at < q .place) × (q .place ≤ length s)
 read-places left s n at q h e = let f = read-facts left s n at q h e in (f .1 .past, f .1 .upto)
@@ -172,7 +195,11 @@ no-bracket : (c : ℕ) → (c ≡ 91 → ⊥) → (c ≡ 123 → ⊥) → isBrac
 unfolding isBracket
 no-bracket c f g = rw (ne-eqb c 91 f, ne-eqb c 123 g) (go (eqb c 34) (eqb c 45) (between 48 57 c) (eqb c 110) (eqb c 116) (eqb c 102))
   where
-    go : (a b d e f g : Bool) → isBracket (choose ((a, startText) ∷ (b, startNumber) ∷ (d, startNumber) ∷ (false, startArray) ∷ (false, startObject) ∷ (e, startNull) ∷ (f, startTrue) ∷ (g, startFalse) ∷ []) startNothing) ≡ false
+    go : (a b d e f g : Bool) →
+        isBracket
+        (choose
+        ((a, startText) ∷ (b, startNumber) ∷ (d, startNumber) ∷ (false, startArray) ∷ (false, startObject) ∷ (e, startNull) ∷
+        (f, startTrue) ∷ (g, startFalse) ∷ []) startNothing) ≡ false
     go true b d e f g = refl
     go false true d e f g = refl
     go false false true e f g = refl

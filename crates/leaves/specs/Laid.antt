@@ -63,7 +63,10 @@ NameTold s w w′ seen seen′ object at count (nameds.Is k) = NameLaid s w w′
 -- ---- values
 -- the kind of the value that a byte starts, by the code of its row; 7 is none
 abbrev pub startBy : ℕ → Start
-startBy k = choose ((eqb k 0, startNull) ∷ (eqb k 1, startTrue) ∷ (eqb k 2, startFalse) ∷ (eqb k 3, startNumber) ∷ (eqb k 4, startText) ∷ (eqb k 5, startArray) ∷ (eqb k 6, startObject) ∷ []) startNothing
+startBy k =
+    choose
+    ((eqb k 0, startNull) ∷ (eqb k 1, startTrue) ∷ (eqb k 2, startFalse) ∷ (eqb k 3, startNumber) ∷ (eqb k 4, startText) ∷
+    (eqb k 5, startArray) ∷ (eqb k 6, startObject) ∷ []) startNothing
 
 abbrev pub plainBy : ℕ → Plain
 plainBy k = choose ((eqb k 0, isNull) ∷ (eqb k 1, isTrue) ∷ (eqb k 2, isFalse) ∷ (eqb k 3, isNumber) ∷ []) isText

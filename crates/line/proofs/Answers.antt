@@ -105,13 +105,17 @@ module _ (s : Bytes) (w : List ℕ) (a : Answer) {n : ℕ} (o : Bytes) (isNumber
     pub emitted-23 : length o ≤ length (bare s w a) → Emitted s w a o o (record { number = 23; size = 0 })
     unfolding refusalNumber
     emitted-23 h =
-        let e : reply (length o) (meaning s w a) ≡ record { number = 23; line = none } = is-reply ∙ rw (lt-leb (length (endLine (bare s w a))) (length o) (omega (arith, length-append (bare s w a) (10 ∷ []))), fitted) in
+        let e : reply (length o) (meaning s w a) ≡ record { number = 23; line = none } = is-reply ∙
+        rw (lt-leb (length (endLine (bare s w a))) (length o) (omega (arith, length-append (bare s w a) (10 ∷ []))), fitted) in
         record { number = rw e; size = rw e; output = rw e }
 
-    pub emitted-line : {o₁ : Bytes} {p q : ℕ} → length (bare s w a) < length o → o₁ ≡ sets o 0 (bare s w a) → p ≡ length (bare s w a) → q ≡ p + 1 → Emitted s w a o (set o₁ p 10) (record { number = n; size = q })
+    pub emitted-line :
+        {o₁ : Bytes} {p q : ℕ} → length (bare s w a) < length o → o₁ ≡ sets o 0 (bare s w a) → p ≡ length (bare s w a) → q ≡ p + 1 →
+        Emitted s w a o (set o₁ p 10) (record { number = n; size = q })
     emitted-line h i j k =
         let l = length-append (bare s w a) (10 ∷ []) in
-        let e : reply (length o) (meaning s w a) ≡ record { number = n; line = some (endLine (bare s w a)) } = is-reply ∙ rw (le-leb (length (endLine (bare s w a))) (length o) (omega arith), fitted) in
+        let e : reply (length o) (meaning s w a) ≡ record { number = n; line = some (endLine (bare s w a)) } = is-reply ∙
+        rw (le-leb (length (endLine (bare s w a))) (length o) (omega arith), fitted) in
         record {
           number = rw e;
           size = rw e (omega arith);

@@ -9,9 +9,54 @@ use native.Mathlib.Omega.{arith}
 use borrow.Author.Tests.{leb-true}
 use lib.Dec.{leb}
 use lib.ListN.{length, length-append}
-use Rattle.answers.specs.Line.{eachLine, endLine, falseNumber, refusalForm, refusalLine, refusalNumber, unknownNumber, verdictForm, verdictLine, decimalDigits, listed, messageOr, nameOr, names, quoted, quotedOr}
+use Rattle.answers.specs.Line.{
+  eachLine,
+  endLine,
+  falseNumber,
+  refusalForm,
+  refusalLine,
+  refusalNumber,
+  unknownNumber,
+  verdictForm,
+  verdictLine,
+  decimalDigits,
+  listed,
+  messageOr,
+  nameOr,
+  names,
+  quoted,
+  quotedOr,
+}
 use Rattle.json.specs.Bytes.{Bytes, ascii}
-use Rattle.json.specs.Refusal.{Refusal, Result, guardUnknown, invariants, lineTooLong, noId, noInput, noOutcome, notASource, notCarried, notJson, notUtf8, numberTooLong, ok, preconditions, refused, repeatedName, ruleFalse, ruleUnknown, tooDeep, tooLong, tooManyNodes, unknownExpression, workTooSmall, wrongShape, wrongSheet, wrongState}
+use Rattle.json.specs.Refusal.{
+  Refusal,
+  Result,
+  guardUnknown,
+  invariants,
+  lineTooLong,
+  noId,
+  noInput,
+  noOutcome,
+  notASource,
+  notCarried,
+  notJson,
+  notUtf8,
+  numberTooLong,
+  ok,
+  preconditions,
+  refused,
+  repeatedName,
+  ruleFalse,
+  ruleUnknown,
+  tooDeep,
+  tooLong,
+  tooManyNodes,
+  unknownExpression,
+  workTooSmall,
+  wrongShape,
+  wrongSheet,
+  wrongState,
+}
 use Rattle.json.specs.Spans.{textAt}
 use Rattle.json.specs.Table.{valueAt}
 use Rattle.writer.specs.Meaning.{Held, meaning, namesIn, rulesOf}
@@ -43,8 +88,22 @@ module _ (s : Bytes) (w : List ℕ) (h : length s ≤ 32768) where
   bare-short answers.False k = omega (arith, form-short (ascii "truth" ∷ ascii "false" ∷ names (namesIn s w) ∷ []), names-short s w h)
   bare-short answers.Unknown k = omega (arith, form-short (ascii "truth" ∷ ascii "unknown" ∷ names (namesIn s w) ∷ []), names-short s w h)
   bare-short answers.Passed k = omega (arith, form-short (ascii "passed" ∷ []))
-  bare-short (answers.Selected o) k = omega (arith, form-short (ascii "selected" ∷ decimalDigits (o .place) ∷ quoted (textAt s (o .name)) ∷ []), digits (o .place), text-quoted (o .name))
-  bare-short (answers.Admitted o) k = omega (arith, form-short (ascii "admitted" ∷ decimalDigits (o .place) ∷ quoted (textAt s (o .name)) ∷ []), digits (o .place), text-quoted (o .name))
+  bare-short (answers.Selected o) k =
+      omega (
+        arith,
+        form-short (ascii "selected" ∷ decimalDigits (o .place) ∷ quoted (textAt s (o .name)) ∷ []),
+        digits (o .place),
+        text-quoted
+            (o .name),
+      )
+  bare-short (answers.Admitted o) k =
+      omega (
+        arith,
+        form-short (ascii "admitted" ∷ decimalDigits (o .place) ∷ quoted (textAt s (o .name)) ∷ []),
+        digits (o .place),
+        text-quoted
+            (o .name),
+      )
   bare-short answers.NoInput k = omega arith
   bare-short (answers.UnknownExpression e) k = omega (arith, form-short (ascii "refused" ∷ decimalDigits 13 ∷ quoted (textAt s e) ∷ []), digits 13, text-quoted e)
   bare-short answers.NoId k = omega (arith, form-short (ascii "refused" ∷ decimalDigits 14 ∷ quoted (ascii "$id") ∷ []), digits 14)
@@ -52,18 +111,54 @@ module _ (s : Bytes) (w : List ℕ) (h : length s ≤ 32768) where
       let n = falseNumber (rulesOf (r .rules)) in
       let name = text-or (ascii "()") (r .name) (omega arith) in
       let message = text-or (quoted (ascii "condition evaluated to false")) (r .message) (omega arith) in
-      omega (arith, form-short (ascii "refused" ∷ decimalDigits n ∷ decimalDigits (r .place) ∷ nameOr (textOf s (r .name)) ∷ messageOr (ascii "condition evaluated to false") (textOf s (r .message)) ∷ []), digits n, digits (r .place))
+      omega (
+        arith,
+        form-short
+            (ascii "refused" ∷ decimalDigits n ∷ decimalDigits (r .place) ∷ nameOr (textOf s (r .name)) ∷ messageOr
+            (ascii "condition evaluated to false") (textOf s (r .message)) ∷ []),
+        digits n,
+        digits (r .place),
+      )
   bare-short (answers.RuleUnknown r) k =
       let n = unknownNumber (rulesOf (r .rules)) in
       let name = text-or (ascii "()") (r .name) (omega arith) in
       let message = text-or (quoted (ascii "condition could not be evaluated")) (r .message) (omega arith) in
-      omega (arith, form-short (ascii "refused" ∷ decimalDigits n ∷ decimalDigits (r .place) ∷ nameOr (textOf s (r .name)) ∷ messageOr (ascii "condition could not be evaluated") (textOf s (r .message)) ∷ names (namesIn s w) ∷ []), digits n, digits (r .place), names-short s w h)
+      omega (
+        arith,
+        form-short
+            (ascii "refused" ∷ decimalDigits n ∷ decimalDigits (r .place) ∷ nameOr (textOf s (r .name)) ∷ messageOr
+            (ascii "condition could not be evaluated") (textOf s (r .message)) ∷ names (namesIn s w) ∷ []),
+        digits n,
+        digits (r .place),
+        names-short s w h,
+      )
   bare-short answers.NoOutcome k = omega (arith, form-short (ascii "refused" ∷ decimalDigits 19 ∷ []), digits 19)
-  bare-short (answers.GuardUnknown o) k = omega (arith, form-short (ascii "refused" ∷ decimalDigits 20 ∷ decimalDigits (o .place) ∷ quoted (textAt s (o .name)) ∷ names (namesIn s w) ∷ []), digits 20, digits (o .place), text-quoted (o .name), names-short s w h)
+  bare-short (answers.GuardUnknown o) k =
+      omega (
+        arith,
+        form-short
+            (ascii "refused" ∷ decimalDigits 20 ∷ decimalDigits (o .place) ∷ quoted (textAt s (o .name)) ∷ names (namesIn s w) ∷ []),
+        digits
+            20,
+        digits (o .place),
+        text-quoted (o .name),
+        names-short s w h,
+      )
   bare-short (answers.WrongState e) k = omega (arith, form-short (ascii "refused" ∷ decimalDigits 21 ∷ quoted (textAt s e) ∷ []), digits 21, text-quoted e)
   bare-short (answers.NotASource m) k =
       let o = m .outcome in
-      omega (arith, form-short (ascii "refused" ∷ decimalDigits 22 ∷ decimalDigits (o .place) ∷ quoted (textAt s (o .name)) ∷ quoted (textAt s (m .state)) ∷ listed (ascii "from") (textsIn (valueAt s w (m .from))) ∷ []), digits 22, digits (o .place), text-quoted (o .name), text-quoted (m .state), sources-short h (k .2))
+      omega (
+        arith,
+        form-short
+            (ascii "refused" ∷ decimalDigits 22 ∷ decimalDigits (o .place) ∷ quoted (textAt s (o .name)) ∷ quoted (textAt s (m .state)) ∷
+            listed (ascii "from") (textsIn (valueAt s w (m .from))) ∷ []),
+        digits 22,
+        digits (o .place),
+        text-quoted (o .name),
+        text-quoted
+            (m .state),
+        sources-short h (k .2),
+      )
 
 -- what is given back: the form and LF, or nothing
 fitted-size : (n m : ℕ) (f : Option Bytes) → lineSize (fitted n m (eachLine f)) ≤ length (orEmpty f) + 1
@@ -148,7 +243,9 @@ fitted-fits : (n m : ℕ) (f : Option Bytes) → lineSize (fitted n m f) ≤ n
 fitted-fits n m none = omega arith
 fitted-fits n m (some l) = go (leb (length l) n) refl
   where
-    go : (b : Bool) → leb (length l) n ≡ b → lineSize (elim b [ true ↦ record { number = m; line = some l } | false ↦ record { number = refusalNumber lineTooLong; line = none } ]) ≤ n
+    go : (b : Bool) → leb (length l) n ≡ b →
+        lineSize
+        (elim b [ true ↦ record { number = m; line = some l } | false ↦ record { number = refusalNumber lineTooLong; line = none } ]) ≤ n
     go true e = leb-true (length l) n e
     go false e = omega arith
 

@@ -31,7 +31,16 @@ digit-back d h = go (ltb d 10) refl
         rw (low-hex d l, le-leb 48 (48 + d) (omega arith), le-leb (48 + d) 57 (omega arith)) (ap some (omega arith))
     go false e =
         let l = ltb-false d 10 e in
-        rw (high-hex d l, le-leb 48 (87 + d) (omega arith), lt-leb (87 + d) 57 (omega arith), le-leb 65 (87 + d) (omega arith), lt-leb (87 + d) 70 (omega arith), le-leb 97 (87 + d) (omega arith), le-leb (87 + d) 102 (omega arith)) (ap some (omega arith))
+        rw (
+          high-hex d l,
+          le-leb 48 (87 + d) (omega arith),
+          lt-leb (87 + d) 57 (omega arith),
+          le-leb 65 (87 + d) (omega arith),
+          lt-leb
+              (87 + d) 70 (omega arith),
+          le-leb 97 (87 + d) (omega arith),
+          le-leb (87 + d) 102 (omega arith),
+        ) (ap some (omega arith))
 
 -- a scalar value below 32 is its own byte
 unit-back : (c : ℕ) (s : Bytes) → c < 32 → ofUnit (record { got = c; rest = s }) ≡ gave (c ∷ []) s

@@ -14,7 +14,27 @@ use Rattle.json.specs.Marks.{isMarked, marked, markedFrom}
 use Rattle.json.specs.Refusal.{Result, notJson, ok, refused, _>>=_}
 use Rattle.json.specs.Scan.{Read, word}
 use Rattle.json.specs.Spans.{Node, Nodes, arr, erase, eraseIn, gotOf, isFalse, isNull, isNumber, isText, isTrue, leaf, noNode, node, obj, plain, size, sizeIn, textAt}
-use Rattle.json.specs.Strings.{Char, Unit16, backslash, char, chars, control, escape, hex, highHalf, highUnit, lowHalf, lowUnit, ofUnit, other, plainUnit, quote, simpleEscape, unicode, unit16}
+use Rattle.json.specs.Strings.{
+  Char,
+  Unit16,
+  backslash,
+  char,
+  chars,
+  control,
+  escape,
+  hex,
+  highHalf,
+  highUnit,
+  lowHalf,
+  lowUnit,
+  ofUnit,
+  other,
+  plainUnit,
+  quote,
+  simpleEscape,
+  unicode,
+  unit16,
+}
 use Rattle.json.specs.Table.{startAt, valueAt}
 use Rattle.json.specs.Utf8.{encode}
 use Rattle.writer.proofs.Once.{all-marked}
@@ -45,7 +65,8 @@ unfolding digitsOf
 digits-short zero n s = omega arith
 digits-short (suc f) n s = go (ltb n 10) (digits-short f (n / 10) ((48 + n % 10) ∷ s))
   where
-    go : (b : Bool) → length (digitsOf f (n / 10) ((48 + n % 10) ∷ s)) ≤ f + length {A = ℕ} ((48 + n % 10) ∷ s) → length {A = ℕ} (elim b [ true ↦ (48 + n) ∷ s | false ↦ digitsOf f (n / 10) ((48 + n % 10) ∷ s) ]) ≤ suc f + length s
+    go : (b : Bool) → length (digitsOf f (n / 10) ((48 + n % 10) ∷ s)) ≤ f + length {A = ℕ} ((48 + n % 10) ∷ s) → length {A = ℕ}
+        (elim b [ true ↦ (48 + n) ∷ s | false ↦ digitsOf f (n / 10) ((48 + n % 10) ∷ s) ]) ≤ suc f + length s
     go true h = omega arith
     go false h = omega arith
 
@@ -83,7 +104,9 @@ unfolding insertName
 insert-short n [] = omega arith
 insert-short n (m ∷ ms) = go (orderBytes n m) (insert-short n ms)
   where
-    go : (o : Ordering) → weight (insertName n ms) ≤ 6 * length n + 3 + weight ms → weight (elim o [ Ordering·lt ↦ n ∷ m ∷ ms | Ordering·eq ↦ m ∷ ms | Ordering·gt ↦ m ∷ insertName n ms ]) ≤ 6 * length n + 3 + weight (m ∷ ms)
+    go : (o : Ordering) → weight (insertName n ms) ≤ 6 * length n + 3 + weight ms →
+        weight (elim o [ Ordering·lt ↦ n ∷ m ∷ ms | Ordering·eq ↦ m ∷ ms | Ordering·gt ↦ m ∷ insertName n ms ]) ≤ 6 * length n + 3 + weight
+        (m ∷ ms)
     go Ordering·lt h = omega arith
     go Ordering·eq h = omega arith
     go Ordering·gt h = omega arith
@@ -102,7 +125,11 @@ encode-short : (u : ℕ) → length (encode u) ≤ 4
 unfolding encode
 encode-short u = go (ltb u 128) (ltb u 2048) (ltb u 65536)
   where
-    go : (a b c : Bool) → length (choose ((a, u ∷ []) ∷ (b, (192 + u / 64) ∷ (128 + u % 64) ∷ []) ∷ (c, (224 + u / 4096) ∷ (128 + u / 64 % 64) ∷ (128 + u % 64) ∷ []) ∷ []) ((240 + u / 262144) ∷ (128 + u / 4096 % 64) ∷ (128 + u / 64 % 64) ∷ (128 + u % 64) ∷ [])) ≤ 4
+    go : (a b c : Bool) →
+        length
+        (choose
+        ((a, u ∷ []) ∷ (b, (192 + u / 64) ∷ (128 + u % 64) ∷ []) ∷ (c, (224 + u / 4096) ∷ (128 + u / 64 % 64) ∷ (128 + u % 64) ∷ []) ∷
+        []) ((240 + u / 262144) ∷ (128 + u / 4096 % 64) ∷ (128 + u / 64 % 64) ∷ (128 + u % 64) ∷ [])) ≤ 4
     go true b c = omega arith
     go false true c = omega arith
     go false false true = omega arith
@@ -126,7 +153,9 @@ unit-short u = go (unit16 (u .got))
   where
     go : (k : Unit16) → Short (elim k [ plainUnit ↦ ok (record { got = encode (u .got); rest = u .rest }) | highUnit ↦ highHalf (u .got) (u .rest) | lowUnit ↦ refused notJson ]) 4
     go plainUnit = encode-short (u .got)
-    go highUnit = then-short (word (ascii "\\u") (u .rest)) (λ t. hex 4 0 t >>= (λ low. lowHalf (u .got) low)) (λ t. then-short (hex 4 0 t) (λ low. lowHalf (u .got) low) (λ low. low-short (u .got) low))
+    go highUnit =
+        then-short (word (ascii "\\u") (u .rest)) (λ t. hex 4 0 t >>= (λ low. lowHalf (u .got) low))
+        (λ t. then-short (hex 4 0 t) (λ low. lowHalf (u .got) low) (λ low. low-short (u .got) low))
     go lowUnit = tt
 
 escape-short : (s : Bytes) → Short (escape s) 4
@@ -145,11 +174,13 @@ chars-short zero s = tt
 chars-short (suc n) [] = tt
 chars-short (suc n) (c ∷ s) = go (char c) (λ t. chars-short n t)
   where
-    more : (e : Read Bytes) → length (e .got) ≤ 4 → (x : Result (Read Bytes)) → Short x (4 * n) → Short (x >>= (λ r. ok (record { got = e .got ++ r .got; rest = r .rest }))) (4 * suc n)
+    more : (e : Read Bytes) → length (e .got) ≤ 4 → (x : Result (Read Bytes)) → Short x (4 * n) →
+        Short (x >>= (λ r. ok (record { got = e .got ++ r .got; rest = r .rest }))) (4 * suc n)
     more e h (ok r) k = simp length-append (omega arith)
     more e h (refused r) k = tt
 
-    escaped : (x : Result (Read Bytes)) → Short x 4 → ((t : Bytes) → Short (chars n t) (4 * n)) → Short (x >>= (λ e. chars n (e .rest) >>= (λ r. ok (record { got = e .got ++ r .got; rest = r .rest })))) (4 * suc n)
+    escaped : (x : Result (Read Bytes)) → Short x 4 → ((t : Bytes) → Short (chars n t) (4 * n)) →
+        Short (x >>= (λ e. chars n (e .rest) >>= (λ r. ok (record { got = e .got ++ r .got; rest = r .rest })))) (4 * suc n)
     escaped (ok e) h k = more e h (chars n (e .rest)) (k (e .rest))
     escaped (refused r) h k = tt
 
@@ -187,7 +218,8 @@ unfolding markedFrom
 marked-short s w h zero k = omega arith
 marked-short s w h (suc m) k = go (isMarked w k) (text-short s (startAt w k) h) (marked-short s w h m (k + 1))
   where
-    go : (b : Bool) → length (textAt s (startAt w k)) ≤ 131072 → weight (markedFrom s w m (k + 1)) ≤ 786435 * m → weight (elim b [ true ↦ textAt s (startAt w k) ∷ markedFrom s w m (k + 1) | false ↦ markedFrom s w m (k + 1) ]) ≤ 786435 * suc m
+    go : (b : Bool) → length (textAt s (startAt w k)) ≤ 131072 → weight (markedFrom s w m (k + 1)) ≤ 786435 * m →
+        weight (elim b [ true ↦ textAt s (startAt w k) ∷ markedFrom s w m (k + 1) | false ↦ markedFrom s w m (k + 1) ]) ≤ 786435 * suc m
     go true p q = omega arith
     go false p q = omega arith
 
@@ -249,4 +281,6 @@ pub sources-short : {s : Bytes} {w : List ℕ} {n : ℕ} → length s ≤ 32768 
 unfolding textsIn
 sources-short {s} {w} {n} h k =
     let i = k .hasNode .isNode in
-    listed-short (ascii "from") (orNone (someTexts (valueAt s w n))) (omega arith) (rw (value-is s w (i .depth) (i .held)) (omega (arith, or-none-short (someTexts (erase s (i .tree))) (size (i .tree)) (some-weighs s h (i .tree)), i .most)))
+    listed-short (ascii "from") (orNone (someTexts (valueAt s w n))) (omega arith)
+    (rw (value-is s w (i .depth) (i .held))
+    (omega (arith, or-none-short (someTexts (erase s (i .tree))) (size (i .tree)) (some-weighs s h (i .tree)), i .most)))

@@ -12,7 +12,28 @@ use Rattle.json.specs.Bytes.{Bytes, ascii, find, sameBytes}
 use Rattle.json.specs.Json.{Members, Value, Values, array, asText, bool, cons, elements, empty, entries, member, nil, null, number, object, text}
 use Rattle.json.specs.Refusal.{Refusal, Result, ok, orElse, refused, wrongShape, _>>=_}
 use Rattle.members.proofs.Shapes.{tag}
-use Rattle.members.specs.Condition.{Condition, Form, Mode, Operator, condition, conditionArray, conditionObject, conditionsIn, conditionsOf, every, formed, oneMember, opJunction, opNegation, opPair, opQuantified, operators, quantified, quantifier, twoOf}
+use Rattle.members.specs.Condition.{
+  Condition,
+  Form,
+  Mode,
+  Operator,
+  condition,
+  conditionArray,
+  conditionObject,
+  conditionsIn,
+  conditionsOf,
+  every,
+  formed,
+  oneMember,
+  opJunction,
+  opNegation,
+  opPair,
+  opQuantified,
+  operators,
+  quantified,
+  quantifier,
+  twoOf,
+}
 use Rattle.members.specs.Faults.{pairFault, quantifierFault}
 use Rattle.members.specs.Verdicts.{faultOf}
 
@@ -101,7 +122,8 @@ unfolding find conditionsOf
 find-conditions k empty = refl
 find-conditions k (member l v ms) = go (sameBytes k l) refl (find-conditions k ms)
   where
-    go : (b : Bool) → sameBytes k l ≡ b → find k (conditionsOf ms) ≡ withCondition (find k (entries ms)) → find k (conditionsOf (member l v ms)) ≡ withCondition (find k (entries (member l v ms)))
+    go : (b : Bool) → sameBytes k l ≡ b → find k (conditionsOf ms) ≡ withCondition (find k (entries ms)) →
+        find k (conditionsOf (member l v ms)) ≡ withCondition (find k (entries (member l v ms)))
     go true e below = rw (e, find)
     go false e below = rw (e, find) below
 
@@ -153,7 +175,19 @@ module _ (m : Mode) (ms : Members) where
 
           pub the-body : (t : Bytes) → asText bind ≡ some t → faultOf (quantifier m (conditionsOf ms)) ≡ faultOf (condition body)
           unfolding quantifier
-          the-body t e = rw (exactly, quantifier, find-conditions (ascii "in") ms, isIn, find-conditions (ascii "as") ms, isAs, find-conditions (ascii "that") ms, isThat, e) (fault-last (condition body) _)
+          the-body t e =
+              rw (
+                exactly,
+                quantifier,
+                find-conditions (ascii "in") ms,
+                isIn,
+                find-conditions (ascii "as") ms,
+                isAs,
+                find-conditions
+                    (ascii "that") ms,
+                isThat,
+                e,
+              ) (fault-last (condition body) _)
 
 -- which quantifier it is makes no difference
 quantifier-fault : (m : Mode) (v : Value) → faultOf (conditionObject v >>= quantifier m) ≡ quantifierFault v
@@ -169,17 +203,47 @@ quantifier-fault m (object ms) = go (eqb (length (conditionsOf ms)) 3)
     last (ok c) x y = refl
     last (refused r) x y = refl
 
-    four : (o b c : Option (Value × Result Condition)) (n : Value → Option Bytes) → faultOf (orElse o wrongShape >>= (λ over. orElse b wrongShape >>= (λ bind. orElse c wrongShape >>= (λ body. orElse (n (bind .0)) wrongShape >>= (λ name. body .1 >>= (λ x. ok (quantified m (over .0) name x))))))) ≡ faultOf (orElse o wrongShape >>= (λ over. orElse b wrongShape >>= (λ bind. orElse c wrongShape >>= (λ body. orElse (n (bind .0)) wrongShape >>= (λ name. body .1 >>= (λ x. ok (quantified every (over .0) name x)))))))
+    four : (o b c : Option (Value × Result Condition)) (n : Value → Option Bytes) →
+        faultOf
+        (orElse o wrongShape >>=
+        (λ over. orElse b wrongShape >>=
+        (λ bind. orElse c wrongShape >>=
+        (λ body. orElse (n (bind .0)) wrongShape >>= (λ name. body .1 >>= (λ x. ok (quantified m (over .0) name x))))))) ≡
+        faultOf
+        (orElse o wrongShape >>=
+        (λ over. orElse b wrongShape >>=
+        (λ bind. orElse c wrongShape >>=
+        (λ body. orElse (n (bind .0)) wrongShape >>= (λ name. body .1 >>= (λ x. ok (quantified every (over .0) name x)))))))
     four none b c n = refl
     four (some o) none c n = refl
     four (some o) (some b) none n = refl
     four (some o) (some b) (some c) n = named (n (b .0))
       where
-        named : (t : Option Bytes) → faultOf (orElse t wrongShape >>= (λ name. c .1 >>= (λ x. ok (quantified m (o .0) name x)))) ≡ faultOf (orElse t wrongShape >>= (λ name. c .1 >>= (λ x. ok (quantified every (o .0) name x))))
+        named : (t : Option Bytes) →
+            faultOf (orElse t wrongShape >>= (λ name. c .1 >>= (λ x. ok (quantified m (o .0) name x)))) ≡
+            faultOf (orElse t wrongShape >>= (λ name. c .1 >>= (λ x. ok (quantified every (o .0) name x))))
         named none = refl
         named (some t) = last (c .1) (λ x. quantified m (o .0) t x) (λ x. quantified every (o .0) t x)
 
-    go : (b : Bool) → faultOf {A = Condition} (elim b [ false ↦ refused wrongShape | true ↦ (orElse (find (ascii "in") (conditionsOf ms)) wrongShape >>= (λ over. orElse (find (ascii "as") (conditionsOf ms)) wrongShape >>= (λ bind. orElse (find (ascii "that") (conditionsOf ms)) wrongShape >>= (λ body. orElse (asText (bind .0)) wrongShape >>= (λ name. body .1 >>= (λ x. ok (quantified m (over .0) name x))))))) ]) ≡ faultOf {A = Condition} (elim b [ false ↦ refused wrongShape | true ↦ (orElse (find (ascii "in") (conditionsOf ms)) wrongShape >>= (λ over. orElse (find (ascii "as") (conditionsOf ms)) wrongShape >>= (λ bind. orElse (find (ascii "that") (conditionsOf ms)) wrongShape >>= (λ body. orElse (asText (bind .0)) wrongShape >>= (λ name. body .1 >>= (λ x. ok (quantified every (over .0) name x))))))) ])
+    go : (b : Bool) → faultOf {A = Condition}
+        (elim b [
+          | false ↦ refused wrongShape
+          | true ↦
+              (orElse (find (ascii "in") (conditionsOf ms)) wrongShape >>=
+              (λ over. orElse (find (ascii "as") (conditionsOf ms)) wrongShape >>=
+              (λ bind. orElse (find (ascii "that") (conditionsOf ms)) wrongShape >>=
+              (λ body. orElse (asText (bind .0)) wrongShape >>= (λ name. body .1 >>= (λ x. ok (quantified m (over .0) name x)))))))
+        ]) ≡
+        faultOf {A = Condition}
+        (elim b [
+          | false ↦ refused wrongShape
+          | true ↦
+              (orElse (find (ascii "in") (conditionsOf ms)) wrongShape >>=
+              (λ over. orElse (find (ascii "as") (conditionsOf ms)) wrongShape >>=
+              (λ bind. orElse (find (ascii "that") (conditionsOf ms)) wrongShape >>=
+              (λ body. orElse (asText (bind .0)) wrongShape >>=
+              (λ name. body .1 >>= (λ x. ok (quantified every (over .0) name x)))))))
+        ])
     go false = refl
     go true = four (find (ascii "in") (conditionsOf ms)) (find (ascii "as") (conditionsOf ms)) (find (ascii "that") (conditionsOf ms)) asText
 

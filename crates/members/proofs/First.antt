@@ -18,8 +18,53 @@ use Rattle.json.specs.Refusal.{Refusal, Result, ok, orElse, refused, wrongShape
 use Rattle.json.specs.Spans.{Fields, Node, Nodes, Plain, arr, erase, eraseIn, eraseOf, field, leaf, noField, noNode, node, obj, textAt}
 use Rattle.members.proofs.Conditions.{fault-bind, firstOf}
 use Rattle.members.proofs.Soundness.{member-of, oneOf, sound-append, sound-one, soundness}
-use Rattle.members.specs.Condition.{Condition, Mode, Operator, also, condition, conditionArray, conditionObject, conditionsIn, conditionsOf, formed, junction, negation, oneMember, opExists, opJunction, opNegation, opNotCarried, opPair, opQuantified, operators, quantified, quantifier, twoOf}
-use Rattle.members.specs.First.{First, OneOf, fine, fineArray, fineMembers, fineObject, here, inCondition, inEach, inEachUnder, inElements, inHolder, inMember, inNamed, inOne, inSheet, ownFault, ownFaultOf, there, under}
+use Rattle.members.specs.Condition.{
+  Condition,
+  Mode,
+  Operator,
+  also,
+  condition,
+  conditionArray,
+  conditionObject,
+  conditionsIn,
+  conditionsOf,
+  formed,
+  junction,
+  negation,
+  oneMember,
+  opExists,
+  opJunction,
+  opNegation,
+  opNotCarried,
+  opPair,
+  opQuantified,
+  operators,
+  quantified,
+  quantifier,
+  twoOf,
+}
+use Rattle.members.specs.First.{
+  First,
+  OneOf,
+  fine,
+  fineArray,
+  fineMembers,
+  fineObject,
+  here,
+  inCondition,
+  inEach,
+  inEachUnder,
+  inElements,
+  inHolder,
+  inMember,
+  inNamed,
+  inOne,
+  inSheet,
+  ownFault,
+  ownFaultOf,
+  there,
+  under,
+}
 use Rattle.members.specs.Sheet.{Holds, eachUnder, heldBy, holders, itself, memberOf, memberOfEach, sound, written}
 use Rattle.members.specs.Verdicts.{faultOf}
 
@@ -59,7 +104,8 @@ data Both (s k : Bytes) (ms : Members) (xs : List Node) : Type 0 where
 abbrev QuantifierFirst : Bytes → Mode → Members → List Node → Type 0
 QuantifierFirst s m ms zs = faultOf (quantifier m (conditionsOf ms)) ≡ firstOf (faultOf (quantifier m (fineMembers ms))) (firstFault s zs)
 
-quantifier-first : (s : Bytes) (m : Mode) (ms : Members) (xs ys zs : List Node) → Both s (ascii "in") ms xs → Both s (ascii "as") ms ys → Both s (ascii "that") ms zs → QuantifierFirst s m ms zs
+quantifier-first : (s : Bytes) (m : Mode) (ms : Members) (xs ys zs : List Node) → Both s (ascii "in") ms xs → Both s (ascii "as") ms ys →
+    Both s (ascii "that") ms zs → QuantifierFirst s m ms zs
 unfolding quantifier
 quantifier-first s m ms xs ys zs a b c = go (eqb (length (fineMembers ms)) 3) refl a b c
   where
@@ -88,9 +134,13 @@ abbrev QuantifiedFirst : Bytes → Value → List Node → Type 0
 QuantifiedFirst s v zs = (m : Mode) → faultOf (conditionObject v >>= quantifier m) ≡ firstOf (faultOf (fineObject v >>= quantifier m)) (firstFault s zs)
 
 abbrev FormedFirst : Bytes → Value → List Node → List Node → List Node → Option Operator → Type 0
-FormedFirst s v xs ys zs o = faultOf (formed v (condition v) (conditionArray v) (conditionObject v) o) ≡ firstOf (faultOf (formed v fine (fineArray v) (fineObject v) o)) (firstFault s (under xs ys zs o))
+FormedFirst s v xs ys zs o =
+    faultOf (formed v (condition v) (conditionArray v) (conditionObject v) o) ≡
+    firstOf (faultOf (formed v fine (fineArray v) (fineObject v) o)) (firstFault s (under xs ys zs o))
 
-formed-first : (s : Bytes) (v : Value) (xs ys zs : List Node) → faultOf (condition v) ≡ firstFault s xs → JunctionFirst s v ys → QuantifiedFirst s v zs → (o : Option Operator) → FormedFirst s v xs ys zs o
+formed-first :
+    (s : Bytes) (v : Value) (xs ys zs : List Node) → faultOf (condition v) ≡ firstFault s xs → JunctionFirst s v ys → QuantifiedFirst s v zs →
+    (o : Option Operator) → FormedFirst s v xs ys zs o
 unfolding firstFault
 formed-first s v xs ys zs a b c none = refl
 formed-first s v xs ys zs a b c (some (opJunction m)) = b m
@@ -129,7 +179,8 @@ mutual
   one-first : (s : Bytes) (fs : Fields) → faultOf (oneMember (eraseOf s fs)) ≡ firstOf (ownFaultOf (eraseOf s fs)) (firstFault s (inOne s fs))
   one-first s noField = refl
   one-first s (field a e t noField) =
-      formed-first s (erase s t) (inCondition s t) (inElements s t) (inMember s (ascii "that") t) (condition-first s t) (λ m. junction-first s t m) (λ m. quantified-first s t m) (find (textAt s a) operators)
+      formed-first s (erase s t) (inCondition s t) (inElements s t) (inMember s (ascii "that") t) (condition-first s t)
+      (λ m. junction-first s t m) (λ m. quantified-first s t m) (find (textAt s a) operators)
   one-first s (field a e t (field b f u fs)) = refl
 
   junction-first : (s : Bytes) (t : Node) → JunctionFirst s (erase s t) (inElements s t)
@@ -144,7 +195,8 @@ mutual
   each-first : (s : Bytes) (ts : Nodes) → faultOf (conditionsIn (eraseIn s ts)) ≡ firstFault s (inEach s ts)
   each-first s noNode = refl
   each-first s (node t ts) =
-      fault-bind (condition (erase s t)) (λ c. conditionsIn (eraseIn s ts) >>= λ cs. ok (also c cs)) (faultOf (conditionsIn (eraseIn s ts))) (λ c. bind-fault (conditionsIn (eraseIn s ts)) (also c)) ∙
+      fault-bind (condition (erase s t)) (λ c. conditionsIn (eraseIn s ts) >>= λ cs. ok (also c cs))
+      (faultOf (conditionsIn (eraseIn s ts))) (λ c. bind-fault (conditionsIn (eraseIn s ts)) (also c)) ∙
       ap (λ x. firstOf x (faultOf (conditionsIn (eraseIn s ts)))) (condition-first s t) ∙
       ap (firstOf (firstFault s (inCondition s t))) (each-first s ts) ∙
       sym (first-append s (inCondition s t) (inEach s ts))
@@ -157,7 +209,8 @@ mutual
   quantified-first s (leaf Plain.isText a e) m = refl
   quantified-first s (arr a e ts) m = refl
   quantified-first s (obj a e fs) m =
-      quantifier-first s m (eraseOf s fs) (inNamed s (ascii "in") fs) (inNamed s (ascii "as") fs) (inNamed s (ascii "that") fs) (both-first s (ascii "in") fs) (both-first s (ascii "as") fs) (both-first s (ascii "that") fs)
+      quantifier-first s m (eraseOf s fs) (inNamed s (ascii "in") fs) (inNamed s (ascii "as") fs) (inNamed s (ascii "that") fs)
+      (both-first s (ascii "in") fs) (both-first s (ascii "as") fs) (both-first s (ascii "that") fs)
 
   both-first : (s k : Bytes) (fs : Fields) → Finds s k fs
   both-first s k noField = neither refl refl
@@ -248,7 +301,9 @@ under-rises low high xs ys zs (some (opPair f)) a b c = tt
 under-rises low high xs ys zs (some (opQuantified m)) a b c = c
 under-rises low high xs ys zs (some opNotCarried) a b c = tt
 
-field-rises : (s k : Bytes) (a e : ℕ) (t : Node) (fs : Fields) (low high : ℕ) → Rises low high (inCondition s t) → Rises low high (inNamed s k fs) → Rises low high (inNamed s k (field a e t fs))
+field-rises :
+    (s k : Bytes) (a e : ℕ) (t : Node) (fs : Fields) (low high : ℕ) → Rises low high (inCondition s t) → Rises low high (inNamed s k fs) →
+    Rises low high (inNamed s k (field a e t fs))
 unfolding inCondition
 field-rises s k a e t fs low high x y = go (sameBytes k (textAt s a)) refl
   where
@@ -269,7 +324,9 @@ mutual
   one-rises s {low} {high} (fieldAscends {from = f} {middle = m} {a = x} {t = t} a b c d emptyAscends) =
       let o = find (textAt s x) operators in
       let xs = under (inCondition s t) (inElements s t) (inMember s (ascii "that") t) o in
-      rises-within low f m high xs a d (under-rises f m (inCondition s t) (inElements s t) (inMember s (ascii "that") t) o (condition-rises s b) (elements-rise s b) (member-rises s (ascii "that") b))
+      rises-within low f m high xs a d
+      (under-rises f m (inCondition s t) (inElements s t) (inMember s (ascii "that") t) o (condition-rises s b) (elements-rise s b)
+      (member-rises s (ascii "that") b))
   one-rises s (fieldAscends a b c d (fieldAscends e f g h i)) = tt
 
   elements-rise : (s : Bytes) {low high : ℕ} {t : Node} → Ascends low high t → Rises low high (inElements s t)
@@ -294,7 +351,8 @@ mutual
 under-name-rises : (s k : Bytes) {low high : ℕ} {ts : Nodes} → AscendIn low high ts → Rises low high (inEachUnder s k ts)
 unfolding inEachUnder
 under-name-rises s k noneAscend = tt
-under-name-rises s k {low} {high} (nodeAscends {middle = m} {t = t} {ts = ts} a b c d) = rises-append low m high (inMember s k t) (inEachUnder s k ts) b c (member-rises s k a) (under-name-rises s k d)
+under-name-rises s k {low} {high} (nodeAscends {middle = m} {t = t} {ts = ts} a b c d) =
+    rises-append low m high (inMember s k t) (inEachUnder s k ts) b c (member-rises s k a) (under-name-rises s k d)
 
 holder-rises : (s : Bytes) (h : Option Holds) {low high : ℕ} {t : Node} → Ascends low high t → Rises low high (inHolder s h t)
 unfolding inHolder
@@ -339,7 +397,9 @@ ascends-of : {low high a e : ℕ} {fs : Fields} → Ascends low high (obj a e fs
 ascends-of (objAscends {from = f} a b c d) = (f, d)
 
 -- Where the conditions of a sheet's text are refused, it is for the condition at fault in itself whose first byte is least, with that fault.
-pub first-at-fault : (s : Bytes) (a e : ℕ) (fs : Fields) (q : Refusal) → spanned s ≡ ok (obj a e fs) → sound (written (entries (eraseOf s fs))) ≡ refused q → First s (inSheet s fs) q
+pub first-at-fault :
+    (s : Bytes) (a e : ℕ) (fs : Fields) (q : Refusal) → spanned s ≡ ok (obj a e fs) → sound (written (entries (eraseOf s fs))) ≡ refused q →
+    First s (inSheet s fs) q
 first-at-fault s a e fs q h r =
     let k = ascends-of (spans-ascend s (obj a e fs) h) in
     least-first s (k .0) (length s) (inSheet s fs) q (sheet-rises s (k .1)) (sym (sheet-first s fs) ∙ ap faultOf r)
@@ -350,7 +410,8 @@ unfolding firstFault
 none-first s [] e d i = elim i [ ]
 none-first s (c ∷ cs) e d i = go (ownFault (erase s c)) refl (none-first s cs) d i
   where
-    go : (o : Option Refusal) → ownFault (erase s c) ≡ o → (firstFault s cs ≡ none → (b : Node) → OneOf b cs → ownFault (erase s b) ≡ none) → (b : Node) → OneOf b (c ∷ cs) → ownFault (erase s b) ≡ none
+    go : (o : Option Refusal) → ownFault (erase s c) ≡ o → (firstFault s cs ≡ none → (b : Node) → OneOf b cs → ownFault (erase s b) ≡ none) →
+        (b : Node) → OneOf b (c ∷ cs) → ownFault (erase s b) ≡ none
     go (some x) p below b j = let z : _≡_ {A = ℕ} 0 1 = cc (rw (p, firstFault) at e) in absurd (omega arith)
     go none p below b here = p
     go none p below b (there j) = below (rw (p, firstFault) at e) b j

@@ -90,7 +90,8 @@ pub record Sought (s : Bytes) (w : List ℕ) (from e : ℕ) (key : Bytes) (whole
 pub seek : (s : Bytes) (w : List ℕ) (from e : ℕ) (key : Bytes) → AreMembers s w 64 from e → Sought s w from e key (find key (entries (membersAt s w from e))) from
 seek s w from e key h = record { over = record { members = h; rest = refl }; within = λ left m. m }
 
-pub sought-nowhere : {s : Bytes} {w : List ℕ} {from e k : ℕ} {key : Bytes} {whole : Option Value} → Sought s w from e key whole k → e ≤ k → Located s w from e whole founds.Nothing
+pub sought-nowhere : {s : Bytes} {w : List ℕ} {from e k : ℕ} {key : Bytes} {whole : Option Value} → Sought s w from e key whole k → e ≤ k →
+    Located s w from e whole founds.Nothing
 unfolding find FoundLeft
 sought-nowhere l h = record { told = found-nothing (no-member (l .over) h); within = λ left m. tt }
 
@@ -101,10 +102,21 @@ module _ {s : Bytes} {w : List ℕ} {e k : ℕ} (h : k < e) (a : ℕ) (q : a ≡
   module _ {from : ℕ} {key : Bytes} {whole : Option Value} (l : Sought s w from e key whole k) where
     pub sought-here : true ≡ sameBytes (textAt s a) key → Located s w from e whole (founds.At (k + 1))
     unfolding FoundLeft
-    sought-here g = record { told = found-at (a-member (l .over) h a q ∙ find-this key (textAt s a) (valueAt s w (k + 1)) (membersAt s w (afterAt w (k + 1)) e) g) (value-node (l .over) h); within = λ left m. members-more s w (l .within left m) h .here }
+    sought-here g =
+        record {
+          told = found-at
+              (a-member (l .over) h a q ∙ find-this key (textAt s a) (valueAt s w (k + 1)) (membersAt s w (afterAt w (k + 1)) e) g)
+              (value-node (l .over) h);
+          within = λ left m. members-more s w (l .within left m) h .here;
+        }
 
     pub sought-on : false ≡ sameBytes (textAt s a) key → (k′ : ℕ) → k′ ≡ afterAt w (k + 1) → Sought s w from e key whole k′
-    sought-on g k′ p = record { over = on (l .over) h k′ p (a-member (l .over) h a q ∙ find-later key (textAt s a) (valueAt s w (k + 1)) (membersAt s w (afterAt w (k + 1)) e) g); within = λ left m. subst (λ (x : ℕ). AreMembers s w left x e) (sym p) (members-more s w (l .within left m) h .others) }
+    sought-on g k′ p =
+        record {
+          over = on (l .over) h k′ p
+              (a-member (l .over) h a q ∙ find-later key (textAt s a) (valueAt s w (k + 1)) (membersAt s w (afterAt w (k + 1)) e) g);
+          within = λ left m. subst (λ (x : ℕ). AreMembers s w left x e) (sym p) (members-more s w (l .within left m) h .others);
+        }
 
   module _ (names : List Bytes) {whole : Bool} (l : Knowing s w e names whole k) (r : Found) (p : position 0 (textAt s a) names ≡ placeOf r) where
     pub unknown-name : r ≡ founds.Nothing → false ≡ whole

@@ -90,27 +90,74 @@ module _ {A : Type 0} (kind : Value → Result A) (h : (v : Value) → OnlyNine 
 
 move-nine : (v : Value) → OnlyNine (aMove v)
 unfolding aMove
-move-nine v = bind (anObject v) _ (object-nine v) (λ ms. bind (only (ascii "to" ∷ ascii "from" ∷ []) (keys ms)) _ (only-nine _ (keys ms)) (λ _. bind (required aText (ascii "to") ms) _ (required-nine aText text-nine (ascii "to") ms) (λ t. last (required someTexts (ascii "from") ms) _ (required-nine someTexts some-nine (ascii "from") ms))))
+move-nine v =
+    bind (anObject v) _ (object-nine v)
+    (λ ms. bind (only (ascii "to" ∷ ascii "from" ∷ []) (keys ms)) _ (only-nine _ (keys ms))
+    (λ _. bind (required aText (ascii "to") ms) _ (required-nine aText text-nine (ascii "to") ms)
+    (λ t. last (required someTexts (ascii "from") ms) _ (required-nine someTexts some-nine (ascii "from") ms))))
 
 effect-nine : (v : Value) → OnlyNine (anEffect v)
 unfolding anEffect
 effect-nine v = go (asText v)
   where
-    go : (o : Option Bytes) → OnlyNine {A = Effect} (elim o [ some s ↦ orElse (find s effectWords) wrongSheet | none ↦ (anObject v >>= (λ ms. only (ascii "moves" ∷ []) (keys ms) >>= (λ _. required aMove (ascii "moves") ms))) ])
+    go : (o : Option Bytes) → OnlyNine {A = Effect}
+        (elim o [
+          | some s ↦ orElse (find s effectWords) wrongSheet
+          | none ↦
+              (anObject v >>= (λ ms. only (ascii "moves" ∷ []) (keys ms) >>= (λ _. required aMove (ascii "moves") ms)))
+        ])
     go (some s) = else (find s effectWords)
     go none = bind (anObject v) _ (object-nine v) (λ ms. bind (only (ascii "moves" ∷ []) (keys ms)) _ (only-nine _ (keys ms)) (λ _. required-nine aMove move-nine (ascii "moves") ms))
 
 rule-nine : (v : Value) → OnlyNine (aRule notNull v)
 unfolding aRule
-rule-nine v = bind (anObject v) _ (object-nine v) (λ ms. bind (only (ascii "assert" ∷ ascii "name" ∷ ascii "message" ∷ []) (keys ms)) _ (only-nine _ (keys ms)) (λ _. bind (required notNull (ascii "assert") ms) _ (required-nine notNull present-nine (ascii "assert") ms) (λ c. bind (optional aText (ascii "name") ms) _ (optional-nine aText text-nine (ascii "name") ms) (λ n. last (optional aText (ascii "message") ms) _ (optional-nine aText text-nine (ascii "message") ms)))))
+rule-nine v =
+    bind (anObject v) _ (object-nine v)
+    (λ ms. bind (only (ascii "assert" ∷ ascii "name" ∷ ascii "message" ∷ []) (keys ms)) _ (only-nine _ (keys ms))
+    (λ _. bind (required notNull (ascii "assert") ms) _ (required-nine notNull present-nine (ascii "assert") ms)
+    (λ c. bind (optional aText (ascii "name") ms) _ (optional-nine aText text-nine (ascii "name") ms)
+    (λ n. last (optional aText (ascii "message") ms) _ (optional-nine aText text-nine (ascii "message") ms)))))
 
 bool-nine : (v : Value) → OnlyNine (aBool v)
 bool-nine v = else (asBool v)
 
 outcome-nine : (v : Value) → OnlyNine (anOutcome notNull v)
 unfolding anOutcome
-outcome-nine v = bind (anObject v) _ (object-nine v) (λ ms. bind (only (ascii "name" ∷ ascii "when" ∷ ascii "in_state" ∷ ascii "wrong_state" ∷ ascii "effect" ∷ []) (keys ms)) _ (only-nine _ (keys ms)) (λ _. bind (required aText (ascii "name") ms) _ (required-nine aText text-nine (ascii "name") ms) (λ n. bind (optional notNull (ascii "when") ms) _ (optional-nine notNull present-nine (ascii "when") ms) (λ c. bind (optional aText (ascii "in_state") ms) _ (optional-nine aText text-nine (ascii "in_state") ms) (λ i. bind (optional aBool (ascii "wrong_state") ms) _ (optional-nine aBool bool-nine (ascii "wrong_state") ms) (λ w. last (optional anEffect (ascii "effect") ms) _ (optional-nine anEffect effect-nine (ascii "effect") ms)))))))
+outcome-nine v =
+    bind (anObject v) _ (object-nine v)
+    (λ ms. bind (only (ascii "name" ∷ ascii "when" ∷ ascii "in_state" ∷ ascii "wrong_state" ∷ ascii "effect" ∷ []) (keys ms)) _
+    (only-nine _ (keys ms))
+    (λ _. bind (required aText (ascii "name") ms) _ (required-nine aText text-nine (ascii "name") ms)
+    (λ n. bind (optional notNull (ascii "when") ms) _ (optional-nine notNull present-nine (ascii "when") ms)
+    (λ c. bind (optional aText (ascii "in_state") ms) _ (optional-nine aText text-nine (ascii "in_state") ms)
+    (λ i. bind (optional aBool (ascii "wrong_state") ms) _ (optional-nine aBool bool-nine (ascii "wrong_state") ms)
+    (λ w. last (optional anEffect (ascii "effect") ms) _ (optional-nine anEffect effect-nine (ascii "effect") ms)))))))
 
 pub sheet-nine : (v : Value) → OnlyNine (aSheet notNull v)
 unfolding aSheet
-sheet-nine v = bind (anObject v) _ (object-nine v) (λ ms. bind (only sheetNames (keys ms)) _ (only-nine sheetNames (keys ms)) (λ _. bind (optional aText (ascii "id") ms) _ (optional-nine aText text-nine (ascii "id") ms) (λ x0. bind (required aText (ascii "entity") ms) _ (required-nine aText text-nine (ascii "entity") ms) (λ x1. bind (required aVersion (ascii "version") ms) _ (required-nine aVersion version-nine (ascii "version") ms) (λ x2. bind (required anObject (ascii "args") ms) _ (required-nine anObject object-nine (ascii "args") ms) (λ x3. bind (required anObject (ascii "fields") ms) _ (required-nine anObject object-nine (ascii "fields") ms) (λ x4. bind (required anObject (ascii "old_fields") ms) _ (required-nine anObject object-nine (ascii "old_fields") ms) (λ x5. bind (optional aText (ascii "from_state") ms) _ (optional-nine aText text-nine (ascii "from_state") ms) (λ x6. bind (required aText (ascii "to_state") ms) _ (required-nine aText text-nine (ascii "to_state") ms) (λ x7. bind (optional aText (ascii "state") ms) _ (optional-nine aText text-nine (ascii "state") ms) (λ x8. bind (required (anArrayOf aText) (ascii "states") ms) _ (required-nine (anArrayOf aText) (array-nine aText text-nine) (ascii "states") ms) (λ x9. bind (optional notNull (ascii "condition") ms) _ (optional-nine notNull present-nine (ascii "condition") ms) (λ x10. bind (required (anArrayOf (aRule notNull)) (ascii "preconditions") ms) _ (required-nine (anArrayOf (aRule notNull)) (array-nine (aRule notNull) rule-nine) (ascii "preconditions") ms) (λ x11. bind (required (anArrayOf (aRule notNull)) (ascii "invariants") ms) _ (required-nine (anArrayOf (aRule notNull)) (array-nine (aRule notNull) rule-nine) (ascii "invariants") ms) (λ x12. last (required (anArrayOf (anOutcome notNull)) (ascii "outcomes") ms) _ (required-nine (anArrayOf (anOutcome notNull)) (array-nine (anOutcome notNull) outcome-nine) (ascii "outcomes") ms))))))))))))))))
+sheet-nine v =
+    bind (anObject v) _ (object-nine v)
+    (λ ms. bind (only sheetNames (keys ms)) _ (only-nine sheetNames (keys ms))
+    (λ _. bind (optional aText (ascii "id") ms) _ (optional-nine aText text-nine (ascii "id") ms)
+    (λ x0. bind (required aText (ascii "entity") ms) _ (required-nine aText text-nine (ascii "entity") ms)
+    (λ x1. bind (required aVersion (ascii "version") ms) _ (required-nine aVersion version-nine (ascii "version") ms)
+    (λ x2. bind (required anObject (ascii "args") ms) _ (required-nine anObject object-nine (ascii "args") ms)
+    (λ x3. bind (required anObject (ascii "fields") ms) _ (required-nine anObject object-nine (ascii "fields") ms)
+    (λ x4. bind (required anObject (ascii "old_fields") ms) _
+    (required-nine anObject object-nine (ascii "old_fields") ms)
+    (λ x5. bind (optional aText (ascii "from_state") ms) _ (optional-nine aText text-nine (ascii "from_state") ms)
+    (λ x6. bind (required aText (ascii "to_state") ms) _ (required-nine aText text-nine (ascii "to_state") ms)
+    (λ x7. bind (optional aText (ascii "state") ms) _ (optional-nine aText text-nine (ascii "state") ms)
+    (λ x8. bind (required (anArrayOf aText) (ascii "states") ms) _
+    (required-nine (anArrayOf aText) (array-nine aText text-nine) (ascii "states") ms)
+    (λ x9. bind (optional notNull (ascii "condition") ms) _
+    (optional-nine notNull present-nine (ascii "condition") ms)
+    (λ x10. bind (required (anArrayOf (aRule notNull)) (ascii "preconditions") ms) _
+    (required-nine (anArrayOf (aRule notNull)) (array-nine (aRule notNull) rule-nine)
+    (ascii "preconditions") ms)
+    (λ x11. bind (required (anArrayOf (aRule notNull)) (ascii "invariants") ms) _
+    (required-nine (anArrayOf (aRule notNull)) (array-nine (aRule notNull) rule-nine)
+    (ascii "invariants") ms)
+    (λ x12. last (required (anArrayOf (anOutcome notNull)) (ascii "outcomes") ms) _
+    (required-nine (anArrayOf (anOutcome notNull))
+    (array-nine (anOutcome notNull) outcome-nine) (ascii "outcomes") ms))))))))))))))))

@@ -34,7 +34,8 @@ unfolding sound
 sound-append [] ys = refl
 sound-append (v ∷ xs) ys = go (condition v) (sound-append xs ys)
   where
-    go : (c : Result Condition) → soundness (xs ++ ys) ≡ firstOf (soundness xs) (soundness ys) → faultOf (c >>= (λ _. sound (xs ++ ys))) ≡ firstOf (faultOf (c >>= (λ _. sound xs))) (soundness ys)
+    go : (c : Result Condition) → soundness (xs ++ ys) ≡ firstOf (soundness xs) (soundness ys) →
+        faultOf (c >>= (λ _. sound (xs ++ ys))) ≡ firstOf (faultOf (c >>= (λ _. sound xs))) (soundness ys)
     go (ok a) below = below
     go (refused r) below = refl
 
@@ -112,7 +113,10 @@ module _ {s : Bytes} {w : List ℕ} {e : ℕ} {whole : Option Refusal} (key : By
   module _ (g : k < e) {o : Option Refusal} (f : soundness (memberOf key (valueAt s w k)) ≡ o) where
     each-here : whole ≡ firstOf o (soundness (memberOfEach key (elements (valuesAt s w (afterAt w k) e))))
     unfolding memberOfEach
-    each-here = an-element l g ∙ sound-append (memberOf key (valueAt s w k)) (memberOfEach key (elements (valuesAt s w (afterAt w k) e))) ∙ ap (λ (x : Option Refusal). firstOf x (soundness (memberOfEach key (elements (valuesAt s w (afterAt w k) e))))) f
+    each-here =
+        an-element l g ∙
+        sound-append (memberOf key (valueAt s w k)) (memberOfEach key (elements (valuesAt s w (afterAt w k) e))) ∙
+        ap (λ (x : Option Refusal). firstOf x (soundness (memberOfEach key (elements (valuesAt s w (afterAt w k) e))))) f
 
     pub each-fault : (r : Refusal) → o ≡ some r → whole ≡ some r
     each-fault r i = each-here ∙ ap (λ (x : Option Refusal). firstOf x (soundness (memberOfEach key (elements (valuesAt s w (afterAt w k) e))))) i
@@ -160,7 +164,10 @@ module _ {s : Bytes} {w : List ℕ} {e : ℕ} {whole : Option Refusal} {k : ℕ}
   module _ (g : k < e) (a : ℕ) (q : a ≡ startAt w k) {o : Option Refusal} (f : soundness (heldBy (find (textAt s a) holders) (valueAt s w (k + 1))) ≡ o) where
     held-here : whole ≡ firstOf o (soundnessOf (membersAt s w (afterAt w (k + 1)) e))
     unfolding written
-    held-here = a-member l g a q ∙ sound-append (heldBy (find (textAt s a) holders) (valueAt s w (k + 1))) (written (entries (membersAt s w (afterAt w (k + 1)) e))) ∙ ap (λ (x : Option Refusal). firstOf x (soundnessOf (membersAt s w (afterAt w (k + 1)) e))) f
+    held-here =
+        a-member l g a q ∙
+        sound-append (heldBy (find (textAt s a) holders) (valueAt s w (k + 1))) (written (entries (membersAt s w (afterAt w (k + 1)) e))) ∙
+        ap (λ (x : Option Refusal). firstOf x (soundnessOf (membersAt s w (afterAt w (k + 1)) e))) f
 
     pub held-fault : (r : Refusal) → o ≡ some r → whole ≡ some r
     held-fault r i = held-here ∙ ap (λ (x : Option Refusal). firstOf x (soundnessOf (membersAt s w (afterAt w (k + 1)) e))) i

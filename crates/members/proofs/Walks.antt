@@ -19,13 +19,44 @@ room {s} {w} h = (inside s w h, omega (arith, after-node s w h .0, after-node s 
 
 -- however many brackets are left there, no more than 64 are open
 pub full : {s : Bytes} {w : List ℕ} {n : ℕ} → HasNode s w n → IsNode s w 64 n
-full h = let i = h .isNode in record { tree = i .tree; held = record { words = i .held .words; shallow = omega (arith, i .held .shallow, i .depth); fits = i .held .fits }; depth = omega arith; most = i .most }
+full h =
+    let i = h .isNode in
+    record {
+      tree = i .tree;
+      held = record { words = i .held .words; shallow = omega (arith, i .held .shallow, i .depth); fits = i .held .fits };
+      depth = omega arith;
+      most = i .most;
+    }
 
 pub full-members : {s : Bytes} {w : List ℕ} {left k e : ℕ} → AreMembers s w left k e → AreMembers s w 64 k e
-full-members i = record { tree = i .tree; held = record { words = i .held .words; upto = i .held .upto; shallow = omega (arith, i .held .shallow, i .depth); fits = i .held .fits }; depth = omega arith; most = i .most }
+full-members i =
+    record {
+      tree = i .tree;
+      held =
+          record {
+            words = i .held .words;
+            upto = i .held .upto;
+            shallow = omega (arith, i .held .shallow, i .depth);
+            fits = i .held .fits;
+          };
+      depth = omega arith;
+      most = i .most;
+    }
 
 pub full-nodes : {s : Bytes} {w : List ℕ} {left k e : ℕ} → AreNodes s w left k e → AreNodes s w 64 k e
-full-nodes i = record { tree = i .tree; held = record { words = i .held .words; upto = i .held .upto; shallow = omega (arith, i .held .shallow, i .depth); fits = i .held .fits }; depth = omega arith; most = i .most }
+full-nodes i =
+    record {
+      tree = i .tree;
+      held =
+          record {
+            words = i .held .words;
+            upto = i .held .upto;
+            shallow = omega (arith, i .held .shallow, i .depth);
+            fits = i .held .fits;
+          };
+      depth = omega arith;
+      most = i .most;
+    }
 
 -- ---- members
 pub record OverMembers {A : Type 0} (s : Bytes) (w : List ℕ) (e : ℕ) (whole : A) (f : Members → A) (k : ℕ) : Type 0 where
@@ -58,7 +89,9 @@ module _ {A : Type 0} {s : Bytes} {w : List ℕ} {e : ℕ} {whole : A} {f : Memb
     pub falls : (k′ : ℕ) → k′ ≡ afterAt w (k + 1) → (k < k′) × (k′ ≤ e)
     falls k′ q = (omega (arith, more .past), omega (arith, more .upto))
 
-    pub on : {B : Type 0} {whole′ : B} {f′ : Members → B} (k′ : ℕ) → k′ ≡ afterAt w (k + 1) → whole′ ≡ f′ (membersAt s w (afterAt w (k + 1)) e) → OverMembers s w e whole′ f′ k′
+    pub on :
+        {B : Type 0} {whole′ : B} {f′ : Members → B} (k′ : ℕ) → k′ ≡ afterAt w (k + 1) → whole′ ≡ f′ (membersAt s w (afterAt w (k + 1)) e) →
+        OverMembers s w e whole′ f′ k′
     on {whole′ = whole′} {f′ = f′} k′ p q = subst (OverMembers s w e whole′ f′) (sym p) (record { members = more .others; rest = q })
 
 -- ---- elements
@@ -83,5 +116,6 @@ module _ {A : Type 0} {s : Bytes} {w : List ℕ} {left e : ℕ} {whole : A} {f :
     pub element-falls : (k′ : ℕ) → k′ ≡ afterAt w k → (k < k′) × (k′ ≤ e)
     element-falls k′ q = (omega (arith, further .past), omega (arith, further .upto))
 
-    pub element-on : {B : Type 0} {whole′ : B} {f′ : Values → B} (k′ : ℕ) → k′ ≡ afterAt w k → whole′ ≡ f′ (valuesAt s w (afterAt w k) e) → OverNodes s w left e whole′ f′ k′
+    pub element-on : {B : Type 0} {whole′ : B} {f′ : Values → B} (k′ : ℕ) → k′ ≡ afterAt w k → whole′ ≡ f′ (valuesAt s w (afterAt w k) e) →
+        OverNodes s w left e whole′ f′ k′
     element-on {whole′ = whole′} {f′ = f′} k′ p q = subst (OverNodes s w left e whole′ f′) (sym p) (record { nodes = further .others; rest = q })

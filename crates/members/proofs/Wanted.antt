@@ -15,7 +15,23 @@ use Rattle.json.specs.Json.{Value}
 use Rattle.json.specs.Table.{afterAt, endAt, kindAt, startAt, valueAt, valuesAt}
 use Rattle.strings.specs.declared.rows.Found.{Found}
 use Rattle.strings.specs.declared.rows.Found.the-variants as founds
-use Rattle.members.proofs.Shapes.{array-at, bool-tag, no-text-or-texts, no-texts, no-version, number-at, object-tag, present-tag, tagged, text-alone, text-at, text-or-texts-of, text-tag, texts-of, version-of}
+use Rattle.members.proofs.Shapes.{
+  array-at,
+  bool-tag,
+  no-text-or-texts,
+  no-texts,
+  no-version,
+  number-at,
+  object-tag,
+  present-tag,
+  tagged,
+  text-alone,
+  text-at,
+  text-or-texts-of,
+  text-tag,
+  texts-of,
+  version-of,
+}
 use Rattle.members.proofs.Walks.{full, full-nodes}
 use Rattle.members.specs.Kinds.{isVersion}
 use Rattle.members.specs.Verdicts.{allOf}
@@ -54,13 +70,16 @@ module _ {s : Bytes} {w : List ℕ} {n : ℕ} (h : IsNode s w 64 n) (k : ℕ) (p
     pub fits-no-version : want ≡ wants.Version → (k ≡ 3 → ⊥) → false ≡ meets want (valueAt s w n)
     fits-no-version e f = told wants.Version e (no-version (valueAt s w n) (λ q. f (tagged h k p ∙ q)))
 
-    pub fits-version : want ≡ wants.Version → k ≡ 3 → (b : Bool) (x y : ℕ) → x ≡ startAt w n → y ≡ endAt w n → b ≡ isVersion (slice x y s) → b ≡ meets want (valueAt s w n)
+    pub fits-version : want ≡ wants.Version → k ≡ 3 → (b : Bool) (x y : ℕ) → x ≡ startAt w n → y ≡ endAt w n → b ≡ isVersion (slice x y s) →
+        b ≡ meets want (valueAt s w n)
     fits-version e q b x y i j g = is wants.Version e (number-at h (sym p ∙ q) .0) (rw (i, j) at g ∙ version-of (slice (startAt w n) (endAt w n) s))
 
     pub fits-no-texts : want ≡ wants.Texts → (k ≡ 5 → ⊥) → false ≡ meets want (valueAt s w n)
     fits-no-texts e f = told wants.Texts e (no-texts (valueAt s w n) (λ q. f (tagged h k p ∙ q)))
 
-    pub fits-texts : want ≡ wants.Texts → k ≡ 5 → (b : Bool) (y : ℕ) → y ≡ afterAt w n → b ≡ allOf (meets wants.Text) (valuesAt s w (n + 1) y) → b ≡ meets want (valueAt s w n)
+    pub fits-texts :
+        want ≡ wants.Texts → k ≡ 5 → (b : Bool) (y : ℕ) → y ≡ afterAt w n → b ≡ allOf (meets wants.Text) (valuesAt s w (n + 1) y) →
+        b ≡ meets want (valueAt s w n)
     fits-texts e q b y j g = is wants.Texts e (array-at h (sym p ∙ q) .0) (rw j at g ∙ texts-of (valuesAt s w (n + 1) (afterAt w n)))
 
     pub fits-alone : want ≡ wants.TextOrTexts → k ≡ 4 → true ≡ meets want (valueAt s w n)
@@ -69,7 +88,9 @@ module _ {s : Bytes} {w : List ℕ} {n : ℕ} (h : IsNode s w 64 n) (k : ℕ) (p
     pub fits-neither : want ≡ wants.TextOrTexts → (k ≡ 4 → ⊥) → (k ≡ 5 → ⊥) → false ≡ meets want (valueAt s w n)
     fits-neither e f g = told wants.TextOrTexts e (no-text-or-texts (valueAt s w n) (λ q. f (tagged h k p ∙ q)) (λ q. g (tagged h k p ∙ q)))
 
-    pub fits-several : want ≡ wants.TextOrTexts → k ≡ 5 → (b : Bool) (y : ℕ) → y ≡ afterAt w n → b ≡ allOf (meets wants.Text) (valuesAt s w (n + 1) y) → b ≡ meets want (valueAt s w n)
+    pub fits-several :
+        want ≡ wants.TextOrTexts → k ≡ 5 → (b : Bool) (y : ℕ) → y ≡ afterAt w n → b ≡ allOf (meets wants.Text) (valuesAt s w (n + 1) y) →
+        b ≡ meets want (valueAt s w n)
     fits-several e q b y j g = is wants.TextOrTexts e (array-at h (sym p ∙ q) .0) (rw j at g ∙ text-or-texts-of (valuesAt s w (n + 1) (afterAt w n)))
 
 -- a member by what was found

@@ -88,7 +88,9 @@ module _ {s : Bytes} {at : ℕ} {word : Bytes} {i : ℕ} (l : Spelling s at word
     plain-like h e = subst (λ (a : ℕ). Spelling s at word (fresh a) (i + 1)) (omega arith) (like l plainTaken plain-took h e)
 
 -- a text that begins with another byte than the word, and with no escape
-pub other-start : (s : Bytes) (at : ℕ) (word : Bytes) → OnText s at 0 → 0 < length word → (getD s at 0 ≡ getD word 0 0 → ⊥) → (getD s at 0 ≡ 92 → ⊥) → false ≡ sameBytes (textAt s at) word
+pub other-start :
+    (s : Bytes) (at : ℕ) (word : Bytes) → OnText s at 0 → 0 < length word → (getD s at 0 ≡ getD word 0 0 → ⊥) → (getD s at 0 ≡ 92 → ⊥) →
+    false ≡ sameBytes (textAt s at) word
 other-start s at word o h f g = go (eqb (getD s (at + 0) 0) 34) refl
   where
     l : Spelling s at word (fresh (at + 0)) 0
@@ -150,7 +152,14 @@ module _ {k names : Bytes} {n from i : ℕ} (l : Listing k names n from i) where
 
     pub next-word : getD names i 0 ≡ 44 → false ≡ sameBytes k (take (i - from) (drop from names)) → Listing k names (n + 1) (i + 1) (i + 1)
     unfolding position
-    next-word e q = record { order = omega arith; upto = omega arith; few = omega (arith, l .few); rest = at-comma e ∙ rw (sym q, position) (ap (λ (m : ℕ). position (n + 1) k (wordsFrom (take m (drop (i + 1) names)) (drop (i + 1) names))) z) }
+    next-word e q =
+        record {
+          order = omega arith;
+          upto = omega arith;
+          few = omega (arith, l .few);
+          rest = at-comma e ∙
+              rw (sym q, position) (ap (λ (m : ℕ). position (n + 1) k (wordsFrom (take m (drop (i + 1) names)) (drop (i + 1) names))) z);
+        }
       where
         z : 0 ≡ i + 1 - (i + 1)
         z = omega arith
@@ -160,11 +169,23 @@ module _ {k names : Bytes} {n from i : ℕ} (l : Listing k names n from i) where
         let a : i + 1 - from ≡ suc (i - from) = omega (arith, l .order) in
         let b : from + (i - from) ≡ i = omega (arith, l .order) in
         let r : i - from < length (drop from names) = omega (arith, l .order, length-drop from names) in
-        sym (ap (λ (m : ℕ). take m (drop from names)) a ∙ take-suc (drop from names) (i - from) 0 r ∙ ap (λ (x : ℕ). take (i - from) (drop from names) ++ x ∷ []) (getD-drop from names (i - from) 0 ∙ ap (λ (m : ℕ). getD names m 0) b))
+        sym
+        (ap (λ (m : ℕ). take m (drop from names)) a ∙
+        take-suc (drop from names) (i - from) 0 r ∙
+        ap (λ (x : ℕ). take (i - from) (drop from names) ++ x ∷ [])
+        (getD-drop from names (i - from) 0 ∙ ap (λ (m : ℕ). getD names m 0) b))
 
     pub same-word : (getD names i 0 ≡ 44 → ⊥) → Listing k names n from (i + 1)
     unfolding wordsFrom
-    same-word f = record { order = omega (arith, l .order); upto = omega arith; few = omega (arith, l .few); rest = l .rest ∙ rw (here names i h, ne-eqb (getD names i 0) 44 f, wordsFrom) (ap (λ (w : Bytes). position n k (wordsFrom w (drop (i + 1) names))) longer) }
+    same-word f =
+        record {
+          order = omega (arith, l .order);
+          upto = omega arith;
+          few = omega (arith, l .few);
+          rest = l .rest ∙
+              rw (here names i h, ne-eqb (getD names i 0) 44 f, wordsFrom)
+              (ap (λ (w : Bytes). position n k (wordsFrom w (drop (i + 1) names))) longer);
+        }
 
 pub listing-at : {k names : Bytes} {n from n′ from′ i : ℕ} → n ≡ n′ → from ≡ from′ → Listing k names n′ from′ i → Listing k names n from i
 listing-at p q l = rw (p, q) l

@@ -76,7 +76,8 @@ twoOf f (array (cons v nil)) = refused wrongShape
 twoOf f (array (cons v (cons w nil))) = ok (pair f v w)
 twoOf f (array (cons v (cons w (cons x vs)))) = refused wrongShape
 
--- What a quantifier holds: exactly `in`, `as` and `that`, the second a text. Each member stands here with what it is as a condition; a fault of the quantifier itself comes before one of its body.
+-- What a quantifier holds: exactly `in`, `as` and `that`, the second a text. Each member stands here with what it is as a condition; a
+-- fault of the quantifier itself comes before one of its body.
 unfoldable pub quantifier : Mode → List (Bytes × (Value × Result Condition)) → Result Condition
 unfolding find
 quantifier m ps =
@@ -110,7 +111,8 @@ formed v one several parts (some (opQuantified m)) = do
   quantifier m ps
 formed v one several parts (some opNotCarried) = refused notCarried
 
--- A value as a condition, or the fault of the condition at fault in itself that begins first: 10 for its shape, 11 where its one member is not carried, whatever that holds. A condition begins before those inside, so its own fault comes first.
+-- A value as a condition, or the fault of the condition at fault in itself that begins first: 10 for its shape, 11 where its one member is
+-- not carried, whatever that holds. A condition begins before those inside, so its own fault comes first.
 unfoldable mutual
   unfolding find quantifier
 

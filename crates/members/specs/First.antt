@@ -11,7 +11,22 @@ use Rattle.json.specs.Bytes.{Bytes, ascii, find, sameBytes}
 use Rattle.json.specs.Json.{Members, Value, array, asArray, asObject, bool, empty, member, null, number, object, text}
 use Rattle.json.specs.Refusal.{Refusal, Result, ok, refused, wrongShape}
 use Rattle.json.specs.Spans.{Fields, Node, Nodes, arr, erase, field, leaf, noField, noNode, node, obj, textAt}
-use Rattle.members.specs.Condition.{Condition, Conditions, Operator, formed, literal, noMore, opExists, opJunction, opNegation, opNotCarried, opPair, opQuantified, operators, quantifier}
+use Rattle.members.specs.Condition.{
+  Condition,
+  Conditions,
+  Operator,
+  formed,
+  literal,
+  noMore,
+  opExists,
+  opJunction,
+  opNegation,
+  opNotCarried,
+  opPair,
+  opQuantified,
+  operators,
+  quantifier,
+}
 use Rattle.members.specs.Sheet.{Holds, eachUnder, holders, itself}
 use Rattle.members.specs.Verdicts.{faultOf}
 

@@ -154,7 +154,23 @@ readSheet s = do
 
 -- the sheet that an accepted text is read as; any other text is read as an empty one, of which nothing is said
 abbrev pub noSheet : Sheet Condition
-noSheet = record { id = none; entity = []; version = []; args = empty; fields = empty; oldFields = empty; fromState = none; toState = []; state = none; states = []; condition = none; preconditions = []; invariants = []; outcomes = [] }
+noSheet =
+    record {
+      id = none;
+      entity = [];
+      version = [];
+      args = empty;
+      fields = empty;
+      oldFields = empty;
+      fromState = none;
+      toState = [];
+      state = none;
+      states = [];
+      condition = none;
+      preconditions = [];
+      invariants = [];
+      outcomes = [];
+    }
 
 abbrev pub orNoSheet : Result (Sheet Condition) → Sheet Condition
 orNoSheet (ok sheet) = sheet

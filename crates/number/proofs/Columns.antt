@@ -131,7 +131,8 @@ module _ (s : Bytes) (at more : ℕ) (short : length s ≤ 255) where
   spelt : (i : ℕ) → i < length s → natural 0 (drop i s) ≡ (getD s i 0 - 48) * 10 ^ (length s - (i + 1)) + natural 0 (drop (i + 1) s)
   spelt i h = rw (drop-cons s i 0 h, ← add-one) (natural-cons (getD s i 0) (drop (i + 1) s) ∙ rw (length-drop (i + 1) s) refl)
 
-  pub read-on : (out : List ℕ) (count carry i t : ℕ) → Reading s at more out count carry i → at < i → t ≡ getD s (i - 1) 0 - 48 + carry → getD s (i - 1) 0 < 256 → Reading s at more (set out count (t % 10)) (count + 1) (t / 10) (i - 1)
+  pub read-on : (out : List ℕ) (count carry i t : ℕ) → Reading s at more out count carry i → at < i → t ≡ getD s (i - 1) 0 - 48 + carry →
+      getD s (i - 1) 0 < 256 → Reading s at more (set out count (t % 10)) (count + 1) (t / 10) (i - 1)
   read-on out count carry i t r h e b =
       record {
         from = omega arith;
@@ -212,7 +213,8 @@ module _ (a b : List ℕ) (n : ℕ) (da : Digits a n) (db : Digits b n) where
   unfolding value
   borrowing out w = record { small = omega arith; written = w; total = refl }
 
-  pub borrow-on : (out : List ℕ) (borrow i t : ℕ) → Borrowing a b out borrow i → i < 260 → t ≡ 10 + getD a i 0 - getD b i 0 - borrow → Borrowing a b (set out i (t % 10)) (1 - t / 10) (i + 1)
+  pub borrow-on : (out : List ℕ) (borrow i t : ℕ) → Borrowing a b out borrow i → i < 260 → t ≡ 10 + getD a i 0 - getD b i 0 - borrow →
+      Borrowing a b (set out i (t % 10)) (1 - t / 10) (i + 1)
   borrow-on out borrow i t r h e =
       record {
         small = omega arith;

@@ -13,7 +13,25 @@ use Rattle.number.specs.Compare.{numberOrder}
 use Rattle.number.specs.Decimal.{before, behind, decimal, exactOrder, fractionPart, isE, isPoint, unsigned, wholePart}
 use Rattle.json.proofs.Complete.{first-number, from-next, number-length}
 use Rattle.json.proofs.Laws.{eqb-false}
-use Rattle.json.proofs.Sound.{DigitView, FirstView, From, between-in, digit-view, first-view, firstMinus, firstNone, firstNonzero, firstZero, vE, vMinus, vNonzero, vOther, vPlus, vPoint, vZero}
+use Rattle.json.proofs.Sound.{
+  DigitView,
+  FirstView,
+  From,
+  between-in,
+  digit-view,
+  first-view,
+  firstMinus,
+  firstNone,
+  firstNonzero,
+  firstZero,
+  vE,
+  vMinus,
+  vNonzero,
+  vOther,
+  vPlus,
+  vPoint,
+  vZero,
+}
 use Rattle.json.specs.Bytes.{Bytes, between}
 use Rattle.json.specs.Grammar.{Number, Spells}
 use Rattle.json.specs.Json.{number}
@@ -101,7 +119,8 @@ fraction-digits (c ∷ x) r h = go (λ k. fraction-digits x r k) (digit c) (digi
     o : (Numerals.isStop (onward Place.fraction (digit c)) ≡ false) × From (onward Place.fraction (digit c)) (x ++ r) r
     o = from-next Place.fraction c (x ++ r) r h (shorter x r)
 
-    go : (From Place.fraction (x ++ r) r → AreDigits (before isE x)) → (k : Numerals.Digit) → DigitView c k → Numerals.isStop (onward Place.fraction k) ≡ false → From (onward Place.fraction k) (x ++ r) r → AreDigits (before isE (c ∷ x))
+    go : (From Place.fraction (x ++ r) r → AreDigits (before isE x)) → (k : Numerals.Digit) → DigitView c k →
+        Numerals.isStop (onward Place.fraction k) ≡ false → From (onward Place.fraction k) (x ++ r) r → AreDigits (before isE (c ∷ x))
     go rest k (vZero e) n f = digit-before c x (in-range c (inl e)) (rest f)
     go rest k (vNonzero e) n f = digit-before c x (in-range c (inr e)) (rest f)
     go rest k (vMinus e) n f = stopped n
@@ -169,7 +188,8 @@ whole-parts (c ∷ x) r h = go (λ k. whole-parts x r k) (digit c) (digit-view c
     o : (Numerals.isStop (onward Place.whole (digit c)) ≡ false) × From (onward Place.whole (digit c)) (x ++ r) r
     o = from-next Place.whole c (x ++ r) r h (shorter x r)
 
-    go : (From Place.whole (x ++ r) r → Parts x) → (k : Numerals.Digit) → DigitView c k → Numerals.isStop (onward Place.whole k) ≡ false → From (onward Place.whole k) (x ++ r) r → Parts (c ∷ x)
+    go : (From Place.whole (x ++ r) r → Parts x) → (k : Numerals.Digit) → DigitView c k → Numerals.isStop (onward Place.whole k) ≡ false →
+        From (onward Place.whole k) (x ++ r) r → Parts (c ∷ x)
     go rest k (vZero e) n f = parts-digit c x (in-range c (inl e)) (rest f)
     go rest k (vNonzero e) n f = parts-digit c x (in-range c (inr e)) (rest f)
     go rest k (vMinus e) n f = stopped n
@@ -209,7 +229,9 @@ unsigned-digit c x d = rw (eqb-false c 45 (λ p. absurd (omega (arith, d .0, p))
 
 raw-minus : (c : ℕ) (x : Bytes) → c ≡ 45 → Parts x → AreDigits (rawDigits (c ∷ x))
 unfolding wholePart fractionPart
-raw-minus c x e h = digits-append (wholePart (c ∷ x)) (fractionPart (c ∷ x)) (rw (unsigned-minus c x e) (h .0)) (rw (before-plain c x (rw e refl), behind-plain c (before isE x) (rw e refl)) (h .1))
+raw-minus c x e h =
+    digits-append (wholePart (c ∷ x)) (fractionPart (c ∷ x)) (rw (unsigned-minus c x e) (h .0))
+    (rw (before-plain c x (rw e refl), behind-plain c (before isE x) (rw e refl)) (h .1))
 
 raw-digit : (c : ℕ) (x : Bytes) → (48 ≤ c) × (c ≤ 57) → Parts (c ∷ x) → AreDigits (rawDigits (c ∷ x))
 unfolding wholePart fractionPart

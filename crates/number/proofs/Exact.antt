@@ -99,7 +99,9 @@ natural-nil n = refl
 
 natural-less : (s : Bytes) → AreDigits s → natural 0 s < 10 ^ length s
 natural-less [] h = omega (arith, natural-nil 0)
-natural-less (c ∷ s) h = rw (natural-cons c s, pow-suc 10 (length s)) (omega (arith, natural-less s (h .1), mul-le-mul-right {m = c - 48} {n = 9} (10 ^ length s) (omega (arith, h .0 .0, h .0 .1))))
+natural-less (c ∷ s) h =
+    rw (natural-cons c s, pow-suc 10 (length s))
+    (omega (arith, natural-less s (h .1), mul-le-mul-right {m = c - 48} {n = 9} (10 ^ length s) (omega (arith, h .0 .0, h .0 .1))))
 
 natural-append : (n : ℕ) (s t : Bytes) → natural n (s ++ t) ≡ natural (natural n s) t
 unfolding natural
@@ -191,7 +193,8 @@ trimEnd-tight (c ∷ s) h = go (trimEnd-tight s (h .1)) (trimEnd s) refl (trimEn
     first [] k (inl n) = absurd (n refl)
     first (d ∷ t) k (inl n) = tight-more c d t (k .0)
 
-    go : Tight (trimEnd s) × AreDigits (trimEnd s) → (t : Bytes) → trimEnd s ≡ t → Put c (trimEnd s) (trimEnd (c ∷ s)) → Tight (trimEnd (c ∷ s)) × AreDigits (trimEnd (c ∷ s))
+    go : Tight (trimEnd s) × AreDigits (trimEnd s) → (t : Bytes) → trimEnd s ≡ t → Put c (trimEnd s) (trimEnd (c ∷ s)) →
+        Tight (trimEnd (c ∷ s)) × AreDigits (trimEnd (c ∷ s))
     go k t p (inl e) = rw (e .2) (tt, tt)
     go k t p (inr e) = rw (e .0) ((first (trimEnd s) (k .0) (e .1), k .0), (h .0, k .1))
 
@@ -204,7 +207,8 @@ unfolding trim
 trim-first [] = inl refl
 trim-first (c ∷ s) = go (trim-first s) (isZero c) refl
   where
-    go : (trim s ≡ []) ⊎ ((d : ℕ) × (t : Bytes) × (trim s ≡ d ∷ t) × (d ≢ 48)) → (b : Bool) → isZero c ≡ b → (trim (c ∷ s) ≡ []) ⊎ ((d : ℕ) × (t : Bytes) × (trim (c ∷ s) ≡ d ∷ t) × (d ≢ 48))
+    go : (trim s ≡ []) ⊎ ((d : ℕ) × (t : Bytes) × (trim s ≡ d ∷ t) × (d ≢ 48)) → (b : Bool) → isZero c ≡ b →
+        (trim (c ∷ s) ≡ []) ⊎ ((d : ℕ) × (t : Bytes) × (trim (c ∷ s) ≡ d ∷ t) × (d ≢ 48))
     go below true q = rw (q, trim) below
     go below false q = inr (c, s, rw (q, trim) refl, eqb-no c 48 q)
 
@@ -221,7 +225,11 @@ core : (raw : Bytes) → AreDigits raw → Core raw
 core raw h =
     record {
       zeros = e .zeros;
-      total = sym (trim-natural raw) ∙ ap (natural 0) (e .parts) ∙ natural-append 0 (trimEnd (trim raw)) (replicate (e .zeros) 48) ∙ natural-zeros (natural 0 (trimEnd (trim raw))) (e .zeros);
+      total =
+          sym (trim-natural raw) ∙
+          ap (natural 0) (e .parts) ∙
+          natural-append 0 (trimEnd (trim raw)) (replicate (e .zeros) 48) ∙
+          natural-zeros (natural 0 (trimEnd (trim raw))) (e .zeros);
       size = omega (arith, trim-length raw, ap length (e .parts), length-append (trimEnd (trim raw)) (replicate (e .zeros) 48), length-replicate {A = ℕ} (e .zeros) 48);
       tight = k .0;
       areDigits = k .1;
@@ -280,7 +288,8 @@ lexical (c ∷ a) (d ∷ b) da db ta tb = go (lexical a b (da .1) (db .1) (ta .1
     right : Right ≡ (natural 0 b * 10 ^ length a + (d - 48) * (10 ^ length a * 10 ^ length b)) * 10
     right = rw (natural-cons d b, pow-suc 10 (length a)) (omega arith)
 
-    go : Cmp (natural 0 a * 10 ^ length b) (natural 0 b * 10 ^ length a) (orderBytes a b) → (o : Ordering) → Cmp c d o → compare c d ≡ o → Cmp Left Right (orderBytes (c ∷ a) (d ∷ b))
+    go : Cmp (natural 0 a * 10 ^ length b) (natural 0 b * 10 ^ length a) (orderBytes a b) → (o : Ordering) → Cmp c d o → compare c d ≡ o →
+        Cmp Left Right (orderBytes (c ∷ a) (d ∷ b))
     go rest o (less p) q = rw (q, orderBytes) (cmp-at left right (less (omega (arith, below-left, between-them))))
       where
         below-left : natural 0 a * 10 ^ length b < 10 ^ length a * 10 ^ length b
@@ -288,7 +297,10 @@ lexical (c ∷ a) (d ∷ b) da db ta tb = go (lexical a b (da .1) (db .1) (ta .1
 
         between-them : (c - 48 + 1) * (10 ^ length a * 10 ^ length b) ≤ (d - 48) * (10 ^ length a * 10 ^ length b)
         between-them = mul-le-mul-right (10 ^ length a * 10 ^ length b) (omega (arith, p, da .0 .0))
-    go rest o (same p) q = rw (q, orderBytes) (cmp-at left (right ∙ ap (λ (x : ℕ). (natural 0 b * 10 ^ length a + (x - 48) * (10 ^ length a * 10 ^ length b)) * 10) (sym p)) (cmp-times 10 (omega arith) (cmp-plus ((c - 48) * (10 ^ length a * 10 ^ length b)) rest)))
+    go rest o (same p) q =
+        rw (q, orderBytes)
+        (cmp-at left (right ∙ ap (λ (x : ℕ). (natural 0 b * 10 ^ length a + (x - 48) * (10 ^ length a * 10 ^ length b)) * 10) (sym p))
+        (cmp-times 10 (omega arith) (cmp-plus ((c - 48) * (10 ^ length a * 10 ^ length b)) rest)))
     go rest o (more p) q = rw (q, orderBytes) (cmp-at left right (more (omega (arith, below-right, between-them))))
       where
         below-right : natural 0 b * 10 ^ length a < 10 ^ length b * 10 ^ length a
@@ -313,22 +325,33 @@ lower a b x y da lb h = rw (pow-add 10 x (length b)) (omega (arith, f1, f2, f3, 
     f4 : natural 0 b * 10 ^ (suc x + length a) ≡ natural 0 b * ((10 ^ x * 10) * 10 ^ length a)
     f4 = ap (λ (k : ℕ). natural 0 b * k) (pow-add 10 (suc x) (length a) ∙ ap (λ (k : ℕ). k * 10 ^ length a) (pow-suc 10 x))
 
-placed : (a b : Bytes) (x y : ℕ) → AreDigits a → AreDigits b → Tight a → Tight b → 10 ^ length a ≤ 10 * natural 0 a → 10 ^ length b ≤ 10 * natural 0 b → Cmp (natural 0 a * 10 ^ (x + length b)) (natural 0 b * 10 ^ (y + length a)) (then (compare x y) (orderBytes a b))
+placed : (a b : Bytes) (x y : ℕ) → AreDigits a → AreDigits b → Tight a → Tight b → 10 ^ length a ≤ 10 * natural 0 a →
+    10 ^ length b ≤ 10 * natural 0 b →
+    Cmp (natural 0 a * 10 ^ (x + length b)) (natural 0 b * 10 ^ (y + length a)) (then (compare x y) (orderBytes a b))
 placed a b x y da db ta tb la lb = go (compare x y) (cmp x y) refl
   where
     go : (o : Ordering) → Cmp x y o → compare x y ≡ o → Cmp (natural 0 a * 10 ^ (x + length b)) (natural 0 b * 10 ^ (y + length a)) (then (compare x y) (orderBytes a b))
     go o (less p) q = rw q (less (lower a b x y da lb p))
-    go o (same p) q = rw q (cmp-at (exponents-are (natural 0 a) (omega arith) ∙ sym (exponents (natural 0 a) (length b) x)) (exponents-are (natural 0 b) (omega (arith, p)) ∙ sym (exponents (natural 0 b) (length a) x)) (cmp-times (10 ^ x) (ten-pos x) (lexical a b da db ta tb)))
+    go o (same p) q =
+        rw q
+        (cmp-at (exponents-are (natural 0 a) (omega arith) ∙ sym (exponents (natural 0 a) (length b) x))
+        (exponents-are (natural 0 b) (omega (arith, p)) ∙ sym (exponents (natural 0 b) (length a) x))
+        (cmp-times (10 ^ x) (ten-pos x) (lexical a b da db ta tb)))
     go o (more p) q = rw q (more (lower b a y x db la p))
 
 -- the same order from the exact values
 module _ (rawA rawB : Bytes) (wa fa ua da wb fb ub db : ℕ) (A : Core rawA) (B : Core rawB) (sa : length rawA ≡ wa + fa) (sb : length rawB ≡ wb + fb) where
-  exact-placed : 10 ^ length (trimEnd (trim rawA)) ≤ 10 * natural 0 (trimEnd (trim rawA)) → 10 ^ length (trimEnd (trim rawB)) ≤ 10 * natural 0 (trimEnd (trim rawB)) → compare (natural 0 rawA * 10 ^ (ua + (db + fb) - (ub + (da + fa)))) (natural 0 rawB * 10 ^ (ub + (da + fa) - (ua + (db + fb)))) ≡ then (compare (ua + wa + (db + leading rawB)) (ub + wb + (da + leading rawA))) (orderBytes (trimEnd (trim rawA)) (trimEnd (trim rawB)))
+  exact-placed : 10 ^ length (trimEnd (trim rawA)) ≤ 10 * natural 0 (trimEnd (trim rawA)) →
+      10 ^ length (trimEnd (trim rawB)) ≤ 10 * natural 0 (trimEnd (trim rawB)) →
+      compare (natural 0 rawA * 10 ^ (ua + (db + fb) - (ub + (da + fa)))) (natural 0 rawB * 10 ^ (ub + (da + fa) - (ua + (db + fb)))) ≡
+      then (compare (ua + wa + (db + leading rawB)) (ub + wb + (da + leading rawA)))
+      (orderBytes (trimEnd (trim rawA)) (trimEnd (trim rawB)))
   exact-placed la lb =
       compare-left-out (natural 0 rawA) (natural 0 rawB) e1 e2 ∙
       ap₂ compare (ap (λ (n : ℕ). n * 10 ^ e1) (A .total) ∙ exponents a (A .zeros) e1) (ap (λ (n : ℕ). n * 10 ^ e2) (B .total) ∙ exponents b (B .zeros) e2) ∙
       sym (compare-shift a b (A .zeros + e1) (B .zeros + e2) (A .zeros + e1 + (wa + wb)) (B .zeros + e2 + (wa + wb)) (wa + wb) refl refl) ∙
-      compare-shift a b (x + lengthB) (y + lengthA) (A .zeros + e1 + (wa + wb)) (B .zeros + e2 + (wa + wb)) (A .zeros + B .zeros) (omega (arith, A .size, B .size, sa, sb)) (omega (arith, A .size, B .size, sa, sb)) ∙
+      compare-shift a b (x + lengthB) (y + lengthA) (A .zeros + e1 + (wa + wb)) (B .zeros + e2 + (wa + wb)) (A .zeros + B .zeros)
+      (omega (arith, A .size, B .size, sa, sb)) (omega (arith, A .size, B .size, sa, sb)) ∙
       cmp-is (a * 10 ^ (x + lengthB)) (b * 10 ^ (y + lengthA)) _ (placed (trimEnd (trim rawA)) (trimEnd (trim rawB)) x y (A .areDigits) (B .areDigits) (A .tight) (B .tight) la lb)
     where
       a : ℕ
@@ -363,7 +386,8 @@ rawDigits s = wholePart s ++ fractionPart s
 data SignView (s : Bytes) : Sign → Type 0 where
   nought : (decimal s) .digits ≡ 0 → SignView s isNought
   negative : below (decimal s) ≡ true → 10 ^ length (trimEnd (trim (rawDigits s))) ≤ 10 * natural 0 (trimEnd (trim (rawDigits s))) → SignView s isNegative
-  positive : below (decimal s) ≡ false → 0 < (decimal s) .digits → 10 ^ length (trimEnd (trim (rawDigits s))) ≤ 10 * natural 0 (trimEnd (trim (rawDigits s))) → SignView s isPositive
+  positive : below (decimal s) ≡ false → 0 < (decimal s) .digits →
+      10 ^ length (trimEnd (trim (rawDigits s))) ≤ 10 * natural 0 (trimEnd (trim (rawDigits s))) → SignView s isPositive
 
 sign-view : (s : Bytes) → Core (rawDigits s) → SignView s (signOf (scaled s))
 unfolding decimal scaled
@@ -390,7 +414,10 @@ sign-view s c = by (trimEnd (trim (rawDigits s))) refl (minus s) refl (c .leads)
 raw-length : (s : Bytes) → length (rawDigits s) ≡ length (wholePart s) + length (fractionPart s)
 raw-length s = length-append (wholePart s) (fractionPart s)
 
-exact-magnitudes : (s t : Bytes) → Core (rawDigits s) → Core (rawDigits t) → 10 ^ length (trimEnd (trim (rawDigits s))) ≤ 10 * natural 0 (trimEnd (trim (rawDigits s))) → 10 ^ length (trimEnd (trim (rawDigits t))) ≤ 10 * natural 0 (trimEnd (trim (rawDigits t))) → magnitudes (decimal s) (decimal t) ≡ scaledOrder (scaled s) (scaled t)
+exact-magnitudes : (s t : Bytes) → Core (rawDigits s) → Core (rawDigits t) →
+    10 ^ length (trimEnd (trim (rawDigits s))) ≤ 10 * natural 0 (trimEnd (trim (rawDigits s))) →
+    10 ^ length (trimEnd (trim (rawDigits t))) ≤ 10 * natural 0 (trimEnd (trim (rawDigits t))) →
+    magnitudes (decimal s) (decimal t) ≡ scaledOrder (scaled s) (scaled t)
 unfolding magnitudes scaledOrder decimal scaled
 exact-magnitudes s t a b la lb =
     exact-placed

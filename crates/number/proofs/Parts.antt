@@ -94,7 +94,8 @@ whole-fraction : (x : Bytes) → before isPoint x ++ behind isPoint x ≡ digits
 whole-fraction [] = rw (before-nil, behind-nil, digits-nil) refl
 whole-fraction (c ∷ x) = go (whole-fraction x) (isPoint c) refl
   where
-    go : before isPoint x ++ behind isPoint x ≡ digitsFrom false x → (b : Bool) → isPoint c ≡ b → before isPoint (c ∷ x) ++ behind isPoint (c ∷ x) ≡ digitsFrom false (c ∷ x)
+    go : before isPoint x ++ behind isPoint x ≡ digitsFrom false x → (b : Bool) → isPoint c ≡ b →
+        before isPoint (c ∷ x) ++ behind isPoint (c ∷ x) ≡ digitsFrom false (c ∷ x)
     go h true e = rw (before-stop isPoint c x e, behind-stop isPoint c x e, digits-opened c x false e) refl
     go h false e = rw (before-on isPoint c x e, behind-on isPoint c x e, digits-on c x false e) (ap (λ (t : Bytes). c ∷ t) h)
 
@@ -103,7 +104,8 @@ before-both : (x : Bytes) → before isPoint (before isE x) ≡ before (stops fa
 before-both [] = rw (before-nil isE, before-nil isPoint, before-nil (stops false)) refl
 before-both (c ∷ x) = go (before-both x) (isE c) (isPoint c) refl refl
   where
-    go : before isPoint (before isE x) ≡ before (stops false) x → (a b : Bool) → isE c ≡ a → isPoint c ≡ b → before isPoint (before isE (c ∷ x)) ≡ before (stops false) (c ∷ x)
+    go : before isPoint (before isE x) ≡ before (stops false) x → (a b : Bool) → isE c ≡ a → isPoint c ≡ b →
+        before isPoint (before isE (c ∷ x)) ≡ before (stops false) (c ∷ x)
     go h true true p q = absurd (true≢false (sym p ∙ point-is c q .0))
     go h true false p q = rw (before-stop isE c x p, before-nil isPoint, before-stop (stops false) c x (rw (q, p) refl)) refl
     go h false true p q = rw (before-on isE c x p, before-stop isPoint c (before isE x) q, before-stop (stops false) c x (rw q refl)) refl
@@ -127,9 +129,20 @@ trim-before : (x : Bytes) → (trim (before isE x) ≡ before isE (trim x)) × (
 trim-before [] = rw (before-nil isE, trim-nil, before-nil isE) (refl, refl, refl)
 trim-before (c ∷ x) = go (trim-before x) (isZero c) (isE c) refl refl
   where
-    go : (trim (before isE x) ≡ before isE (trim x)) × (leading (before isE x) ≡ leading x) × (behind isE (trim x) ≡ behind isE x) → (a b : Bool) → isZero c ≡ a → isE c ≡ b → (trim (before isE (c ∷ x)) ≡ before isE (trim (c ∷ x))) × (leading (before isE (c ∷ x)) ≡ leading (c ∷ x)) × (behind isE (trim (c ∷ x)) ≡ behind isE (c ∷ x))
+    go : (trim (before isE x) ≡ before isE (trim x)) × (leading (before isE x) ≡ leading x) × (behind isE (trim x) ≡ behind isE x) →
+        (a b : Bool) → isZero c ≡ a → isE c ≡ b →
+        (trim (before isE (c ∷ x)) ≡ before isE (trim (c ∷ x))) × (leading (before isE (c ∷ x)) ≡ leading (c ∷ x)) ×
+        (behind isE (trim (c ∷ x)) ≡ behind isE (c ∷ x))
     go h true true p q = absurd (true≢false (sym q ∙ zero-is c p .0))
-    go h true false p q = rw (before-on isE c x q, trim-zero c (before isE x) p, trim-zero c x p, leading-zero c (before isE x) p, leading-zero c x p, behind-on isE c x q) (h .0, ap (λ (n : ℕ). 1 + n) (h .1), h .2)
+    go h true false p q =
+        rw (
+          before-on isE c x q,
+          trim-zero c (before isE x) p,
+          trim-zero c x p,
+          leading-zero c (before isE x) p,
+          leading-zero c x p,
+          behind-on isE c x q,
+        ) (h .0, ap (λ (n : ℕ). 1 + n) (h .1), h .2)
     go h false true p q = rw (trim-none c x p, before-stop isE c x q, trim-nil, leading-nil, leading-none c x p) (refl, refl, refl)
     go h false false p q = rw (trim-none c x p, before-on isE c x q, trim-none c (before isE x) p, leading-none c (before isE x) p, leading-none c x p) (refl, refl, refl)
 
@@ -145,9 +158,21 @@ from-whole [] e = record { trimmed = rw (trim-nil, raw-nil, trim-nil) refl; lead
 from-whole (c ∷ x) e = go (λ h. from-whole x h) (isZero c) refl
   where
     last : isZero c ≡ false → (a b : Bool) → isE c ≡ a → isPoint c ≡ b → FromWhole (c ∷ x)
-    last z true b p q = record { trimmed = rw (trim-none c x z, raw-e c x p, trim-nil) refl; leads = rw (raw-e c x p, leading-none c x z, leading-nil) refl; whole = rw (trim-none c x z, leading-none c x z) (omega arith); rest = rw (trim-none c x z) refl }
+    last z true b p q =
+        record {
+          trimmed = rw (trim-none c x z, raw-e c x p, trim-nil) refl;
+          leads = rw (raw-e c x p, leading-none c x z, leading-nil) refl;
+          whole = rw (trim-none c x z, leading-none c x z) (omega arith);
+          rest = rw (trim-none c x z) refl;
+        }
     last z false true p q = absurd (true≢false (sym q ∙ (rw (trim-none c x z) at e)))
-    last z false false p q = record { trimmed = rw (trim-none c x z, raw-on c x p q, trim-none c (Raw x) z) refl; leads = rw (raw-on c x p q, leading-none c x z, leading-none c (Raw x) z) refl; whole = rw (trim-none c x z, leading-none c x z) (omega arith); rest = rw (trim-none c x z) refl }
+    last z false false p q =
+        record {
+          trimmed = rw (trim-none c x z, raw-on c x p q, trim-none c (Raw x) z) refl;
+          leads = rw (raw-on c x p q, leading-none c x z, leading-none c (Raw x) z) refl;
+          whole = rw (trim-none c x z, leading-none c x z) (omega arith);
+          rest = rw (trim-none c x z) refl;
+        }
 
     go : (startsPoint (trim x) ≡ false → FromWhole x) → (a : Bool) → isZero c ≡ a → FromWhole (c ∷ x)
     go h false z = last z (isE c) (isPoint c) refl refl
@@ -224,7 +249,8 @@ raw-pointed : (x y : Bytes) (d : ℕ) → Rest x ≡ d ∷ y → isPoint d ≡ t
 raw-pointed [] y d e q = let z : _≡_ {A = Bool} true false = cc (ap isNothing e, ap (λ (t : Bytes). isNothing (drop (length t) [])) (before-nil (stops false))) in absurd (true≢false z)
 raw-pointed (c ∷ x) y d e q = go (λ h. raw-pointed x y d h q) (isPoint c) (isE c) refl refl
   where
-    go : (Rest x ≡ d ∷ y → (Raw x ≡ before (stops false) x ++ before isE y) × (behind isE x ≡ behind isE y)) → (a b : Bool) → isPoint c ≡ a → isE c ≡ b → (Raw (c ∷ x) ≡ before (stops false) (c ∷ x) ++ before isE y) × (behind isE (c ∷ x) ≡ behind isE y)
+    go : (Rest x ≡ d ∷ y → (Raw x ≡ before (stops false) x ++ before isE y) × (behind isE x ≡ behind isE y)) → (a b : Bool) → isPoint c ≡ a →
+        isE c ≡ b → (Raw (c ∷ x) ≡ before (stops false) (c ∷ x) ++ before isE y) × (behind isE (c ∷ x) ≡ behind isE y)
     go h true b k m =
         let w = before-stop (stops false) c x (rw k refl) in
         let v : c ∷ x ≡ d ∷ y = rw w at e in
@@ -244,7 +270,8 @@ raw-unpointed : (x : Bytes) → startsPoint (Rest x) ≡ false → (Raw x ≡ be
 raw-unpointed [] e = rw (before-nil (stops false), raw-nil, behind-nil isE) (refl, refl)
 raw-unpointed (c ∷ x) e = go (λ h. raw-unpointed x h) (isPoint c) (isE c) refl refl
   where
-    go : (startsPoint (Rest x) ≡ false → (Raw x ≡ before (stops false) x) × (behind isE x ≡ tail (Rest x))) → (a b : Bool) → isPoint c ≡ a → isE c ≡ b → (Raw (c ∷ x) ≡ before (stops false) (c ∷ x)) × (behind isE (c ∷ x) ≡ tail (Rest (c ∷ x)))
+    go : (startsPoint (Rest x) ≡ false → (Raw x ≡ before (stops false) x) × (behind isE x ≡ tail (Rest x))) → (a b : Bool) → isPoint c ≡ a →
+        isE c ≡ b → (Raw (c ∷ x) ≡ before (stops false) (c ∷ x)) × (behind isE (c ∷ x) ≡ tail (Rest (c ∷ x)))
     go h true b k m = absurd (true≢false (sym k ∙ (rw (before-stop (stops false) c x (rw k refl)) at e)))
     go h false true k m = rw (before-stop (stops false) c x (rw (k, m) refl), raw-e c x m, behind-stop isE c x m) (refl, refl)
     go h false false k m =
@@ -283,7 +310,11 @@ part-prefix : (p : ℕ → Bool) (x : Bytes) → take (length (trimEnd (before p
 part-prefix p x =
     let e = ending (before p x) in
     let t = trimEnd (before p x) in
-    ap (take (length t)) (ahead p x ∙ ap (λ (u : Bytes). u ++ drop (length (before p x)) x) (e .parts) ∙ append-assoc t (replicate (e .zeros) 48) (drop (length (before p x)) x)) ∙ take-append-seam t (replicate (e .zeros) 48 ++ drop (length (before p x)) x)
+    ap (take (length t))
+    (ahead p x ∙
+    ap (λ (u : Bytes). u ++ drop (length (before p x)) x) (e .parts) ∙
+    append-assoc t (replicate (e .zeros) 48) (drop (length (before p x)) x)) ∙
+    take-append-seam t (replicate (e .zeros) 48 ++ drop (length (before p x)) x)
 
 -- no point among them
 abbrev Plain : Bytes → Type 0
@@ -343,7 +374,9 @@ reach-whole f x =
       none = last-none f t;
     }
 
-reach-both : (f : ℕ) (x y : Bytes) (d : ℕ) → Rest x ≡ d ∷ y → isPoint d ≡ true → Reach f (lastOf (f + length (before (stops false) x) + 1) (lastOf f f (trimEnd (before (stops false) x))) (trimEnd (before isE y))) false x (trimEnd (before (stops false) x ++ before isE y))
+reach-both : (f : ℕ) (x y : Bytes) (d : ℕ) → Rest x ≡ d ∷ y → isPoint d ≡ true →
+    Reach f (lastOf (f + length (before (stops false) x) + 1) (lastOf f f (trimEnd (before (stops false) x))) (trimEnd (before isE y)))
+    false x (trimEnd (before (stops false) x ++ before isE y))
 reach-both f x y d e q = go (trimEnd (before isE y)) refl
   where
     a : Bytes
@@ -353,7 +386,12 @@ reach-both f x y d e q = go (trimEnd (before isE y)) refl
     go [] k = rw (trimEnd-none (before isE y) k a) (reach-whole f x)
     go (z ∷ t) k =
         record {
-          are = trimEnd-some (before isE y) z t k a ∙ sym (ap (digitsFrom false) shown ∙ digits-plain a (d ∷ z ∷ t) (part-plain x) ∙ ap (λ (u : Bytes). a ++ u) (digits-opened d (z ∷ t) false q));
+          are =
+              trimEnd-some (before isE y) z t k a ∙
+              sym
+              (ap (digitsFrom false) shown ∙
+              digits-plain a (d ∷ z ∷ t) (part-plain x) ∙
+              ap (λ (u : Bytes). a ++ u) (digits-opened d (z ∷ t) false q));
           none = ap isNothing (trimEnd-some (before isE y) z t k a) ∙ filled a ∙ sym (eqb-false f (f + length a + 1 + length (z ∷ t)) (λ h. absurd (omega (arith, h))));
         }
       where
@@ -445,7 +483,9 @@ module _ (s : Bytes) where
     left-on : at < length s → stops pointed (getD s at 0) ≡ false → Left pointed at ≡ getD s at 0 ∷ Left pointed (at + 1)
     left-on h e = ap (before (stops pointed)) (here at h) ∙ before-on (stops pointed) (getD s at 0) (drop (at + 1) s) e
 
-    part-onward : (next : ℕ) → at < length s → stops pointed (getD s at 0) ≡ false → lastOf at last (trimEnd (getD s at 0 ∷ Left pointed (at + 1))) ≡ lastOf (at + 1) next (trimEnd (Left pointed (at + 1))) → Parting from known pointed (at + 1) next
+    part-onward : (next : ℕ) → at < length s → stops pointed (getD s at 0) ≡ false →
+        lastOf at last (trimEnd (getD s at 0 ∷ Left pointed (at + 1))) ≡ lastOf (at + 1) next (trimEnd (Left pointed (at + 1))) →
+        Parting from known pointed (at + 1) next
     part-onward next h e r =
         record {
           upto = omega (arith, h);
@@ -560,8 +600,14 @@ module _ (s : Bytes) where
 
       found : (p : Bool) → startsPoint (drop (whole .end) s) ≡ p → FractionOf p s whole ends → Found
       found false q f =
-          let r = raw-unpointed (drop zero s) (rw (sym behind-whole) q) in
-          (rw (r .0, ap (λ (k : Ends). k .last) f, w .last) (reach-whole zero (drop zero s)), b .rest ∙ ap (λ (k : Ends). tail (drop (k .end) s)) f ∙ ap tail behind-whole ∙ sym (r .1), rw f (last-upto zero zero false whole w (z .upto)))
+          let r = raw-unpointed (drop zero s) (rw (sym behind-whole) q) in (
+            rw (r .0, ap (λ (k : Ends). k .last) f, w .last) (reach-whole zero (drop zero s)),
+            b .rest ∙
+                ap (λ (k : Ends). tail (drop (k .end) s)) f ∙
+                ap tail behind-whole ∙
+                sym (r .1),
+            rw f (last-upto zero zero false whole w (z .upto)),
+          )
       found true q f = at-point (drop (whole .end) s) refl q
         where
           at-point : (t : Bytes) → drop (whole .end) s ≡ t → startsPoint t ≡ true → Found
@@ -569,19 +615,32 @@ module _ (s : Bytes) where
           at-point (d ∷ y) k h =
               let r = raw-pointed (drop zero s) y d (sym behind-whole ∙ k) h in
               let after : drop (whole .end + 1) s ≡ y = dropped (whole .end) 1 (d ∷ y) k in
-              let el : ends .last ≡ lastOf (zero + length (Left s false zero) + 1) (lastOf zero zero (trimEnd (Left s false zero))) (trimEnd (before isE y)) = f .last ∙ rw (after, w .end, w .last) refl in
+              let el : ends .last ≡
+              lastOf (zero + length (Left s false zero) + 1) (lastOf zero zero (trimEnd (Left s false zero)))
+              (trimEnd (before isE y)) = f .last ∙
+              rw (after, w .end, w .last) refl in
               let ee : ends .end ≡ whole .end + 1 + length (before isE y) = f .end ∙ rw after refl in (
                 rw (r .0, el) (reach-both zero (drop zero s) y d (sym behind-whole ∙ k) h),
                 b .rest ∙ ap (λ (n : ℕ). tail (drop n s)) ee ∙ ap tail (dropped (whole .end + 1) (length (before isE y)) y after) ∙ exponent-behind y ∙ sym (r .1),
                 last-upto (whole .end + 1) (whole .last) true ends f (last-upto zero zero false whole w (z .upto)),
               )
 
-      pub parsed-whole : (negative : Bool) → negative ≡ minus s → FractionOf (startsPoint (drop (whole .end) s)) s whole ends → Parsed s (record { negative = negative; digits = record { at = zero; end = ends .last; pointed = false }; whole = whole .end - start; leading = zero - start; exponent = e })
+      pub parsed-whole : (negative : Bool) → negative ≡ minus s → FractionOf (startsPoint (drop (whole .end) s)) s whole ends →
+          Parsed s
+          (record {
+            negative = negative;
+            digits = record { at = zero; end = ends .last; pointed = false };
+            whole = whole .end - start;
+            leading = zero - start;
+            exponent = e;
+          })
       unfolding digitsAt
       parsed-whole negative n f =
           let g = found (startsPoint (drop (whole .end) s)) refl f in
           let digits : trimEnd (trim (wholePart s ++ fractionPart s)) ≡ trimEnd (Raw (drop zero s)) = ap trimEnd (ap trim raw-is ∙ from .trimmed ∙ ap Raw (sym zero-rest)) in
-          let l : length (wholePart s) ≡ leading u + length (Left s false zero) = ap length whole-is ∙ from .whole ∙ ap (λ (t : Bytes). leading u + length (before (stops false) t)) (sym zero-rest) in
+          let l : length (wholePart s) ≡ leading u + length (Left s false zero) = ap length whole-is ∙
+          from .whole ∙
+          ap (λ (t : Bytes). leading u + length (before (stops false) t)) (sym zero-rest) in
           record {
             negative = n;
             digits = digits ∙ g .0 .are;
@@ -596,19 +655,37 @@ module _ (s : Bytes) where
           }
 
     -- nothing but zeros before the point
-    module _ (first : ℕ) (some : startsPoint (drop zero s) ≡ true) (k : ZerosTold s (zero + 1) first) (ends : Ends) (w : EndsTold s first first true ends) (e : ℕ) (b : BehindTold s (ends .end) e) where
-      pub parsed-fraction : (negative : Bool) → negative ≡ minus s → Parsed s (record { negative = negative; digits = record { at = first; end = ends .last; pointed = true }; whole = zero - start; leading = first - start - 1; exponent = e })
+    module _ (first : ℕ) (some : startsPoint (drop zero s) ≡ true) (k : ZerosTold s (zero + 1) first) (ends : Ends)
+        (w : EndsTold s first first true ends) (e : ℕ) (b : BehindTold s (ends .end) e) where
+      pub parsed-fraction : (negative : Bool) → negative ≡ minus s →
+          Parsed s
+          (record {
+            negative = negative;
+            digits = record { at = first; end = ends .last; pointed = true };
+            whole = zero - start;
+            leading = first - start - 1;
+            exponent = e;
+          })
       unfolding digitsAt
       parsed-fraction negative n = at-point (drop zero s) refl some
         where
-          at-point : (t : Bytes) → drop zero s ≡ t → startsPoint t ≡ true → Parsed s (record { negative = negative; digits = record { at = first; end = ends .last; pointed = true }; whole = zero - start; leading = first - start - 1; exponent = e })
+          at-point : (t : Bytes) → drop zero s ≡ t → startsPoint t ≡ true →
+              Parsed s
+              (record {
+                negative = negative;
+                digits = record { at = first; end = ends .last; pointed = true };
+                whole = zero - start;
+                leading = first - start - 1;
+                exponent = e;
+              })
           at-point [] p h = absurd (true≢false (sym h))
           at-point (d ∷ y) p h =
               let after : drop (zero + 1) s ≡ y = dropped zero 1 (d ∷ y) p in
               let from : FromFraction u y = from-fraction u y d (sym zero-rest ∙ p) h in
               let x : drop first s ≡ trim y = k .rest ∙ ap trim after in
               let c : first ≡ zero + 1 + leading y = k .count ∙ ap (λ (t : Bytes). zero + 1 + leading t) after in
-              let digits : trimEnd (trim (wholePart s ++ fractionPart s)) ≡ trimEnd (before isE (drop first s)) = ap trimEnd (ap trim raw-is ∙ from .trimmed ∙ ap (before isE) (sym x)) in
+              let digits : trimEnd (trim (wholePart s ++ fractionPart s)) ≡
+              trimEnd (before isE (drop first s)) = ap trimEnd (ap trim raw-is ∙ from .trimmed ∙ ap (before isE) (sym x)) in
               let g = reach-fraction first (drop first s) in
               record {
                 negative = n;
@@ -616,7 +693,14 @@ module _ (s : Bytes) where
                 none = ap isNothing digits ∙ g .none ∙ ap (eqb first) (sym (w .last));
                 whole = omega (arith, zero-count, ap length whole-is, from .whole);
                 leads = omega (arith, zero-count, c) ∙ sym (ap leading raw-is ∙ from .leads);
-                exponent = b .rest ∙ ap (λ (m : ℕ). tail (drop m s)) (w .end) ∙ ap tail (dropped first (length (before isE (drop first s))) (drop first s) refl) ∙ exponent-behind (drop first s) ∙ ap (behind isE) x ∙ from .rest ∙ sym exponent-is;
+                exponent =
+                    b .rest ∙
+                    ap (λ (m : ℕ). tail (drop m s)) (w .end) ∙
+                    ap tail (dropped first (length (before isE (drop first s))) (drop first s) refl) ∙
+                    exponent-behind (drop first s) ∙
+                    ap (behind isE) x ∙
+                    from .rest ∙
+                    sym exponent-is;
                 wholeUpto = omega (arith, z .upto);
                 leadsUpto = omega (arith, k .upto);
                 digitsUpto = last-upto first first true ends w (k .upto);

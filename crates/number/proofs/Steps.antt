@@ -92,7 +92,9 @@ module _ (s : Bytes) (c : Cursor) where
   step-none h = no-digit s (c .at) (c .end) (c .pointed) h
 
   module _ (h : c .at < c .end) (k : c .end ≤ length s) where
-    pub step-digit : opens (c .pointed) (getD s (c .at) 0) ≡ false → Stepped s c (steps.Byte (record { byte = getD s (c .at) 0; rest = record { at = c .at + 1; end = c .end; pointed = c .pointed } }))
+    pub step-digit : opens (c .pointed) (getD s (c .at) 0) ≡
+        false → Stepped s c
+        (steps.Byte (record { byte = getD s (c .at) 0; rest = record { at = c .at + 1; end = c .end; pointed = c .pointed } }))
     unfolding Stepped digitsAt
     step-digit e = (one-digit s (c .at) (c .end) (c .pointed) h k e, omega arith, omega (arith, h), refl)
 
@@ -100,18 +102,27 @@ module _ (s : Bytes) (c : Cursor) where
     unfolding Stepped digitsAt
     step-last e l = one-point s (c .at) (c .end) (c .pointed) h k e ∙ no-digit s (c .at + 1) (c .end) true (omega (arith, l))
 
-    pub step-point : opens (c .pointed) (getD s (c .at) 0) ≡ true → (c .end - c .at ≡ 1 → ⊥) → Stepped s c (steps.Byte (record { byte = getD s (c .at + 1) 0; rest = record { at = c .at + 2; end = c .end; pointed = true } }))
+    pub step-point : opens (c .pointed) (getD s (c .at) 0) ≡
+        true → (c .end - c .at ≡ 1 → ⊥) → Stepped s c
+        (steps.Byte (record { byte = getD s (c .at + 1) 0; rest = record { at = c .at + 2; end = c .end; pointed = true } }))
     unfolding Stepped digitsAt
     step-point e l =
         let two : c .at + 1 + 1 ≡ c .at + 2 = omega arith in
-        let f : c .at + 1 < c .end = omega (arith, h, l) in
-        (one-point s (c .at) (c .end) (c .pointed) h k e ∙ one-digit s (c .at + 1) (c .end) true f k refl ∙ ap (λ (n : ℕ). getD s (c .at + 1) 0 ∷ Digits s n (c .end) true n true) two, omega arith, omega (arith, f), refl)
+        let f : c .at + 1 < c .end = omega (arith, h, l) in (
+          one-point s (c .at) (c .end) (c .pointed) h k e ∙
+              one-digit s (c .at + 1) (c .end) true f k refl ∙
+              ap (λ (n : ℕ). getD s (c .at + 1) 0 ∷ Digits s n (c .end) true n true) two,
+          omega arith,
+          omega (arith, f),
+          refl,
+        )
 
 pub was-end : (s : Bytes) (c : Cursor) {r : Step} → Stepped s c r → r ≡ steps.End → digitsAt s c ≡ []
 unfolding Stepped
 was-end s c h e = subst (Stepped s c) e h
 
-pub was-byte : (s : Bytes) (c : Cursor) {r : Step} (t : Taken) → Stepped s c r → r ≡ steps.Byte t → (digitsAt s c ≡ t .byte ∷ digitsAt s (t .rest)) × (c .at < t .rest .at) × (t .rest .at ≤ c .end) × (t .rest .end ≡ c .end)
+pub was-byte : (s : Bytes) (c : Cursor) {r : Step} (t : Taken) → Stepped s c r → r ≡ steps.Byte t →
+    (digitsAt s c ≡ t .byte ∷ digitsAt s (t .rest)) × (c .at < t .rest .at) × (t .rest .at ≤ c .end) × (t .rest .end ≡ c .end)
 unfolding Stepped
 was-byte s c t h e = subst (Stepped s c) e h
 
@@ -121,7 +132,9 @@ pub record Comparing (s t : Bytes) (a b x y : Cursor) : Type 0 where
   pub onY : y .end ≤ length t
   pub same : orderBytes (digitsAt s a) (digitsAt t b) ≡ orderBytes (digitsAt s x) (digitsAt t y)
 
-pub compare-on : (s t : Bytes) (a b x y : Cursor) (p q : Taken) → Comparing s t a b x y → digitsAt s x ≡ p .byte ∷ digitsAt s (p .rest) → digitsAt t y ≡ q .byte ∷ digitsAt t (q .rest) → p .rest .end ≡ x .end → q .rest .end ≡ y .end → p .byte ≡ q .byte → Comparing s t a b (p .rest) (q .rest)
+pub compare-on : (s t : Bytes) (a b x y : Cursor) (p q : Taken) → Comparing s t a b x y → digitsAt s x ≡ p .byte ∷ digitsAt s (p .rest) →
+    digitsAt t y ≡ q .byte ∷ digitsAt t (q .rest) → p .rest .end ≡ x .end → q .rest .end ≡ y .end → p .byte ≡ q .byte →
+    Comparing s t a b (p .rest) (q .rest)
 compare-on s t a b x y p q h i j k l e = record { onX = omega (arith, k, h .onX); onY = omega (arith, l, h .onY); same = h .same ∙ order-on i j e }
 
 -- ---- the place of the point
@@ -163,7 +176,8 @@ module _ (s t : Bytes) where
   pub places-more : Ordering·gt ≡ orderIntegers (scaled s .place) (scaled t .place) → Ordering·gt ≡ scaledOrder (scaled s) (scaled t)
   places-more e = by-places e
 
-  pub places-same : (a b : Decimal) → Parsed s a → Parsed t b → Ordering·eq ≡ orderIntegers (scaled s .place) (scaled t .place) → orderBytes (digitsAt s (a .digits)) (digitsAt t (b .digits)) ≡ scaledOrder (scaled s) (scaled t)
+  pub places-same : (a b : Decimal) → Parsed s a → Parsed t b → Ordering·eq ≡ orderIntegers (scaled s .place) (scaled t .place) →
+      orderBytes (digitsAt s (a .digits)) (digitsAt t (b .digits)) ≡ scaledOrder (scaled s) (scaled t)
   unfolding scaled
   places-same a b f g e = sym (ap₂ orderBytes (f .digits) (g .digits)) ∙ by-places e
 

@@ -10,7 +10,23 @@ use native.Mathlib.Omega.{arith}
 use lib.Dec.{eqb}
 use lib.ListN.{length}
 use Rattle.number.proofs.Digits.{numbers-exact}
-use Rattle.number.proofs.Exact.{Cmp, both-below, cmp, cmp-is, compare-left-out, compare-times, exponents, exponents-are, left-below, less, more, none-below, right-below, same, ten-pos}
+use Rattle.number.proofs.Exact.{
+  Cmp,
+  both-below,
+  cmp,
+  cmp-is,
+  compare-left-out,
+  compare-times,
+  exponents,
+  exponents-are,
+  left-below,
+  less,
+  more,
+  none-below,
+  right-below,
+  same,
+  ten-pos,
+}
 use Rattle.number.proofs.Signs.{both-negative, cmp-of, first-negative, is-less, is-same, none-negative, same-order, second-negative}
 use Rattle.number.proofs.Steps.{looked-at}
 use Rattle.number.specs.Compare.{numberOrder}
@@ -53,7 +69,9 @@ module _ (a b : Decimal) where
 pub exact-cross : (a b : Decimal) → exactOrder a b ≡ orderIntegers (cross a b) (cross b a)
 exact-cross a b = go (below a) (below b) refl refl ∙ sym (same-order (cross a b) (cross b a) (signed (below a) (Size a b)) (signed (below b) (Size b a)) (crossed a b) (crossed b a))
   where
-    by : (x y : Bool) → below a ≡ x → below b ≡ y → orderIntegers (signed x (Size a b)) (signed y (Size b a)) ≡ orderIntegers (signed (below a) (Size a b)) (signed (below b) (Size b a))
+    by : (x y : Bool) → below a ≡ x → below b ≡ y →
+        orderIntegers (signed x (Size a b)) (signed y (Size b a)) ≡
+        orderIntegers (signed (below a) (Size a b)) (signed (below b) (Size b a))
     by x y p q = ap₂ (λ (u v : Bool). orderIntegers (signed u (Size a b)) (signed v (Size b a))) (sym p) (sym q)
 
     go : (x y : Bool) → below a ≡ x → below b ≡ y → exactOrder a b ≡ orderIntegers (signed (below a) (Size a b)) (signed (below b) (Size b a))
@@ -100,7 +118,11 @@ Over a k = signed (a .negative) (a .digits * 10 ^ (a .power .up + k))
 
 over-third : (a b : Decimal) (k x y : ℕ) → x ≡ b .power .down + k → y ≡ a .power .down + k → exactOrder a b ≡ orderIntegers (Over a x) (Over b y)
 over-third a b k x y p q =
-    exact-cross a b ∙ sym (order-times (10 ^ k) (ten-pos k) (a .negative) (b .negative) (Size a b) (Size b a)) ∙ ap₂ (λ (m n : ℕ). orderIntegers (signed (a .negative) m) (signed (b .negative) n)) (exponents (a .digits) (a .power .up + b .power .down) k ∙ exponents-are (a .digits) (omega (arith, p))) (exponents (b .digits) (b .power .up + a .power .down) k ∙ exponents-are (b .digits) (omega (arith, q)))
+    exact-cross a b ∙
+    sym (order-times (10 ^ k) (ten-pos k) (a .negative) (b .negative) (Size a b) (Size b a)) ∙
+    ap₂ (λ (m n : ℕ). orderIntegers (signed (a .negative) m) (signed (b .negative) n))
+    (exponents (a .digits) (a .power .up + b .power .down) k ∙ exponents-are (a .digits) (omega (arith, p)))
+    (exponents (b .digits) (b .power .up + a .power .down) k ∙ exponents-are (b .digits) (omega (arith, q)))
 
 abbrev AtMost : Integer → Integer → Type 0
 AtMost i j = i .up + j .down ≤ j .up + i .down

@@ -90,7 +90,12 @@ below a = a .negative && not (eqb (a .digits) 0)
 
 unfoldable pub exactOrder : Decimal → Decimal → Ordering
 unfolding magnitudes
-exactOrder a b = elim (below a) [ true ↦ elim (below b) [ true ↦ magnitudes b a | false ↦ Ordering·lt ] | false ↦ elim (below b) [ true ↦ Ordering·gt | false ↦ magnitudes a b ] ]
+exactOrder a b =
+    elim (below a) [
+      | true ↦ elim (below b) [ true ↦ magnitudes b a | false ↦ Ordering·lt ]
+      | false ↦ elim (below b)
+          [ true ↦ Ordering·gt | false ↦ magnitudes a b ]
+    ]
 
 -- Two exact values over one power of ten: the first's signed digits, multiplied by ten to its own power and to the second's
 -- negative one. They are one number where these integers are the same.

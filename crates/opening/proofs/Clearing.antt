@@ -99,19 +99,26 @@ zeros-append w n (suc k) =
     ∙ ap (λ (m : ℕ). sets w 0 (zeros m)) more
 
 -- the rows up to the last node's end, and then the links
-pub cleared-rows : {w w₁ w₂ : List ℕ} → 16384 ≤ length w → Bounded w → (n : ℕ) → n ≡ 3 * afterAt w 0 → w₁ ≡ sets w 0 (zeros n) → w₂ ≡ sets w₁ 12288 (zeros 4096) → w₂ ≡ workAfter w
+pub cleared-rows : {w w₁ w₂ : List ℕ} → 16384 ≤ length w → Bounded w → (n : ℕ) → n ≡ 3 * afterAt w 0 → w₁ ≡ sets w 0 (zeros n) →
+    w₂ ≡ sets w₁ 12288 (zeros 4096) → w₂ ≡ workAfter w
 cleared-rows {w} {w₁} {w₂} l b n e f g =
     let all : n + (12288 - n) ≡ 12288 = omega (arith, e, b .few) in
-    let rows : w₁ ≡ sets w 0 (zeros 12288) = f ∙ sym (zeros-over w n (12288 - n) (λ i p q. b .behind i (omega (arith, p, e)) (omega (arith, q, all)))) ∙ ap (λ (m : ℕ). sets w 0 (zeros m)) all in
+    let rows : w₁ ≡ sets w 0 (zeros 12288) = f ∙
+    sym (zeros-over w n (12288 - n) (λ i p q. b .behind i (omega (arith, p, e)) (omega (arith, q, all)))) ∙
+    ap (λ (m : ℕ). sets w 0 (zeros m)) all in
     cleared-table w w₂ l (g ∙ ap (λ (v : List ℕ). sets v 12288 (zeros 4096)) rows ∙ zeros-append w 12288 4096)
 
 pub small-table : (w : List ℕ) → length w < 16384 → w ≡ workAfter w
 small-table w h = sym (by-size w false (lt-leb workWords (length w) h))
 
 -- what the call leaves is told by the table's size and its further words alone
-pub same-left : (w w′ : List ℕ) → length w′ ≡ length w → (length w < 16384 → w′ ≡ w) → (16384 ≤ length w → drop 16384 w′ ≡ drop 16384 w) → workAfter w′ ≡ workAfter w
+pub same-left : (w w′ : List ℕ) → length w′ ≡ length w → (length w < 16384 → w′ ≡ w) → (16384 ≤ length w → drop 16384 w′ ≡ drop 16384 w) →
+    workAfter w′ ≡ workAfter w
 same-left w w′ e small past = go (leb workWords (length w)) refl
   where
     go : (b : Bool) → leb workWords (length w) ≡ b → workAfter w′ ≡ workAfter w
-    go true q = by-size w′ true (ap (leb workWords) e ∙ q) ∙ ap (λ (l : List ℕ). zeros 16384 ++ l) (past (leb→le workWords (length w) (subst T (sym q) tt))) ∙ sym (by-size w true q)
+    go true q =
+        by-size w′ true (ap (leb workWords) e ∙ q) ∙
+        ap (λ (l : List ℕ). zeros 16384 ++ l) (past (leb→le workWords (length w) (subst T (sym q) tt))) ∙
+        sym (by-size w true q)
     go false q = ap workAfter (small (leb-false workWords (length w) q))

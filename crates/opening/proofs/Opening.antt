@@ -146,7 +146,9 @@ module _ {s : Bytes} {w w′ : List ℕ} {r : Read} (t : ReadTold s w w′ r) wh
       still-past : 16384 ≤ length w → drop 16384 w″ ≡ drop 16384 w
       still-past h = o .further ∙ past-table t
 
-      pub stopped-shape : (f : Refusal) {n : ℕ} → n ≡ refusalNumber f → refusalLine f ≡ none → {a : Shape} → Shaped s w″ a → (b : Shape) → a ≡ b → (Shaped s w″ b → readSheet s ≡ refused f) → Opening s w w″ (opened.Refused n)
+      pub stopped-shape :
+          (f : Refusal) {n : ℕ} → n ≡ refusalNumber f → refusalLine f ≡ none → {a : Shape} → Shaped s w″ a → (b : Shape) → a ≡ b →
+          (Shaped s w″ b → readSheet s ≡ refused f) → Opening s w w″ (opened.Refused n)
       unfolding OpenedAs
       stopped-shape f e l h b z i =
           record {

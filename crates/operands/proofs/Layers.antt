@@ -9,8 +9,47 @@ use native.Mathlib.Omega.{arith}
 use lib.ListN.{length}
 use Rattle.paths.specs.Comparing.{alike, holdsOf, nesting, shape}
 use Rattle.paths.specs.Lazy.{Frames, Operand, given, outer, partOf}
-use Rattle.paths.specs.Shape.{Shape, alikeIn, alikeOf, alikeShapes, asDigits, asItems, asWords, containedIn, digits, fields, holdsShapes, items, keysOf, nothing, oneAlike, partsIn, partsOf, shapeOf, truth, twoNumbers, twoTexts, words}
-use Rattle.paths.proofs.Stands.{EachIn, noPart, onePart, EachOf, noMember, oneMember, Stands, itself, inArray, inObject, Standing, standing-length, touch-stands, touched-outer, outer-length}
+use Rattle.paths.specs.Shape.{
+  Shape,
+  alikeIn,
+  alikeOf,
+  alikeShapes,
+  asDigits,
+  asItems,
+  asWords,
+  containedIn,
+  digits,
+  fields,
+  holdsShapes,
+  items,
+  keysOf,
+  nothing,
+  oneAlike,
+  partsIn,
+  partsOf,
+  shapeOf,
+  truth,
+  twoNumbers,
+  twoTexts,
+  words,
+}
+use Rattle.paths.proofs.Stands.{
+  EachIn,
+  noPart,
+  onePart,
+  EachOf,
+  noMember,
+  oneMember,
+  Stands,
+  itself,
+  inArray,
+  inObject,
+  Standing,
+  standing-length,
+  touch-stands,
+  touched-outer,
+  outer-length,
+}
 use Rattle.semantics.specs.Equality.{equal, equalIn, equalOf}
 use Rattle.semantics.specs.Expression.{Env}
 use Rattle.semantics.specs.Forms.{contained, ends, holds, isElement, isGreater, isLess, isPart, memberOf, numbers, texts}
@@ -42,7 +81,8 @@ pub data Fits (R : Operand → Value → Type 0) : Shape Operand → Value → T
   isFields : {xs : List (Bytes × Operand)} {ms : Members} → FitsOf R xs ms → Fits R (fields xs) (object ms)
 
 -- two layers under a pair form, over what is known of the equality of parts
-module _ (R : Operand → Value → Type 0) (m : ℕ) (same : Operand → Operand → Bool) (agrees : (o p : Operand) (v w : Value) → R o v → R p w → depth v < m → same o p ≡ equal kernel v w) where
+module _ (R : Operand → Value → Type 0) (m : ℕ) (same : Operand → Operand → Bool)
+    (agrees : (o p : Operand) (v w : Value) → R o v → R p w → depth v < m → same o p ≡ equal kernel v w) where
   fits-in : {xs ys : List Operand} {vs ws : Values} → FitsIn R xs vs → FitsIn R ys ws → depthIn vs < m → alikeIn same xs ys ≡ equalIn (kernel .sameNumber) vs ws
   unfolding alikeIn equalIn depthIn equal
   fits-in noItem noItem h = refl
@@ -101,7 +141,9 @@ module _ (R : Operand → Value → Type 0) (m : ℕ) (same : Operand → Operan
   fits-one r noItem h = refl
   fits-one {o} {v} r (oneItem {o = p} {v = w} {xs = xs} {vs = ws} q j) h = rw (agrees p o w v q r (omega arith), oneAlike, isElement) (go (fits-one r j (omega arith)) (equal kernel w v))
     where
-      go : oneAlike same o xs ≡ isElement kernel v ws → (b : Bool) → _≡_ {A = Bool} (elim b [ true ↦ true | false ↦ oneAlike same o xs ]) (elim b [ true ↦ true | false ↦ isElement kernel v ws ])
+      go : oneAlike same o xs ≡
+          isElement kernel v ws → (b : Bool) → _≡_ {A = Bool} (elim b [ true ↦ true | false ↦ oneAlike same o xs ])
+          (elim b [ true ↦ true | false ↦ isElement kernel v ws ])
       go below true = refl
       go below false = below
 
@@ -133,7 +175,9 @@ module _ (R : Operand → Value → Type 0) (m : ℕ) (same : Operand → Operan
   fits-contained isDigits r k h = refl
   fits-contained (isWords {s = s}) r k h = ap (λ (x : Option Bytes). elim x as (λ _. Bool) [ none ↦ false | some t ↦ isPart t s ]) (fits-words k)
   fits-contained (isItems j) r k h = fits-one r j (omega arith)
-  fits-contained {t = t} (isFields {ms = ms} j) r k h = ap (λ (ks : List Bytes). elim (asWords t) as (λ _. Bool) [ none ↦ false | some n ↦ isOneOf n ks ]) (fits-keys j) ∙ ap (λ (x : Option Bytes). elim x as (λ _. Bool) [ none ↦ false | some n ↦ isOneOf n (keys ms) ]) (fits-words k)
+  fits-contained {t = t} (isFields {ms = ms} j) r k h =
+      ap (λ (ks : List Bytes). elim (asWords t) as (λ _. Bool) [ none ↦ false | some n ↦ isOneOf n ks ]) (fits-keys j) ∙
+      ap (λ (x : Option Bytes). elim x as (λ _. Bool) [ none ↦ false | some n ↦ isOneOf n (keys ms) ]) (fits-words k)
 
   fits-numbers : (q : Ordering → Bool) {s t : Shape Operand} {v w : Value} → Fits R s v → Fits R t w → twoNumbers q s t ≡ numbers kernel q v w
   fits-numbers q isNothing k = refl
@@ -151,7 +195,8 @@ module _ (R : Operand → Value → Type 0) (m : ℕ) (same : Operand → Operan
   fits-texts q (isItems j) k = refl
   fits-texts q (isFields j) k = refl
 
-  fits-member : {o : Operand} {t : Shape Operand} {v w : Value} → R o v → Fits R t w → depth w ≤ m → elim (asItems t) as (λ _. Bool) [ none ↦ false | some ys ↦ oneAlike same o ys ] ≡ memberOf kernel v w
+  fits-member : {o : Operand} {t : Shape Operand} {v w : Value} → R o v → Fits R t w → depth w ≤ m →
+      elim (asItems t) as (λ _. Bool) [ none ↦ false | some ys ↦ oneAlike same o ys ] ≡ memberOf kernel v w
   unfolding depth
   fits-member r isNothing h = refl
   fits-member r isTruth h = refl
@@ -160,7 +205,9 @@ module _ (R : Operand → Value → Type 0) (m : ℕ) (same : Operand → Operan
   fits-member r (isItems j) h = fits-one r j (omega arith)
   fits-member r (isFields j) h = refl
 
-  fits-holds : (f : Form) {o p : Operand} {s t : Shape Operand} {v w : Value} → R o v → Fits R s v → R p w → Fits R t w → depth v < m → depth w < m → holdsShapes same f o s p t ≡ holds kernel f v w
+  fits-holds :
+      (f : Form) {o p : Operand} {s t : Shape Operand} {v w : Value} → R o v → Fits R s v → R p w → Fits R t w → depth v < m → depth w < m →
+      holdsShapes same f o s p t ≡ holds kernel f v w
   unfolding holdsShapes holds
   fits-holds eq r j q k h l = agrees _ _ _ _ r q h
   fits-holds ne r j q k h l = ap not (agrees _ _ _ _ r q h)
@@ -184,23 +231,28 @@ module _ {C : Type 0} (sheet : Sheet C) where
   given-of empty = noField
   given-of (member k v ms) = oneField itself (given-of ms)
 
-  pub part-stands : {fs : Frames} {env : Env} {b d : ℕ} (v : Value) {w : Value} → Standing sheet fs env → b ≤ length env → d ≤ b → resolve kernel sheet (outer d env) v ≡ ok (present w) → Stands sheet env b (partOf sheet (outer d fs) v) w
+  pub part-stands : {fs : Frames} {env : Env} {b d : ℕ} (v : Value) {w : Value} → Standing sheet fs env → b ≤ length env → d ≤ b →
+      resolve kernel sheet (outer d env) v ≡ ok (present w) → Stands sheet env b (partOf sheet (outer d fs) v) w
   part-stands {fs} {env} {b} {d} v s h k e =
       let l = standing-length sheet s in
       let len = outer-length d fs (omega arith) in
       touched-outer sheet (suc (length (outer d fs))) (touch-stands sheet (suc (length (outer d fs)))) v s h k (omega arith) e
 
-  parts-in : {fs : Frames} {env : Env} {b d : ℕ} {vs ws : Values} → Standing sheet fs env → b ≤ length env → d ≤ b → EachIn sheet (outer d env) vs ws → FitsIn (Stands sheet env b) (partsIn (partOf sheet (outer d fs)) vs) ws
+  parts-in : {fs : Frames} {env : Env} {b d : ℕ} {vs ws : Values} → Standing sheet fs env → b ≤ length env → d ≤ b →
+      EachIn sheet (outer d env) vs ws → FitsIn (Stands sheet env b) (partsIn (partOf sheet (outer d fs)) vs) ws
   unfolding partsIn
   parts-in s h c noPart = noItem
   parts-in s h c (onePart {v = v} r k) = oneItem (part-stands v s h c r) (parts-in s h c k)
 
-  parts-of : {fs : Frames} {env : Env} {b d : ℕ} {ms ns : Members} → Standing sheet fs env → b ≤ length env → d ≤ b → EachOf sheet (outer d env) ms ns → FitsOf (Stands sheet env b) (partsOf (partOf sheet (outer d fs)) ms) ns
+  parts-of : {fs : Frames} {env : Env} {b d : ℕ} {ms ns : Members} → Standing sheet fs env → b ≤ length env → d ≤ b →
+      EachOf sheet (outer d env) ms ns → FitsOf (Stands sheet env b) (partsOf (partOf sheet (outer d fs)) ms) ns
   unfolding partsOf
   parts-of s h c noMember = noField
   parts-of s h c (oneMember {v = v} r k) = oneField (part-stands v s h c r) (parts-of s h c k)
 
-  pub shape-fits : {fs : Frames} {env : Env} {b : ℕ} {o : Operand} {v : Value} → Standing sheet fs env → b ≤ length env → Stands sheet env b o v → Fits (Stands sheet env b) (shape sheet fs o) v
+  pub shape-fits :
+      {fs : Frames} {env : Env} {b : ℕ} {o : Operand} {v : Value} → Standing sheet fs env → b ≤ length env → Stands sheet env b o v →
+      Fits (Stands sheet env b) (shape sheet fs o) v
   unfolding shape shapeOf
   shape-fits s h (itself {v = null}) = isNothing
   shape-fits s h (itself {v = bool b}) = isTruth
@@ -212,11 +264,17 @@ module _ {C : Type 0} (sheet : Sheet C) where
   shape-fits s h (inObject c e) = isFields (parts-of s h c e)
 
   -- Equality agrees, where the number exceeds the brackets of the left value.
-  pub alike-equal : (n : ℕ) {fs : Frames} {env : Env} {b : ℕ} → Standing sheet fs env → b ≤ length env → (o p : Operand) (v w : Value) → Stands sheet env b o v → Stands sheet env b p w → depth v < n → alike sheet n fs o p ≡ equal kernel v w
+  pub alike-equal : (n : ℕ) {fs : Frames} {env : Env} {b : ℕ} → Standing sheet fs env → b ≤ length env → (o p : Operand) (v w : Value) →
+      Stands sheet env b o v → Stands sheet env b p w → depth v < n → alike sheet n fs o p ≡ equal kernel v w
   unfolding alike
   alike-equal zero s h o p v w j k l = absurd (omega arith)
   alike-equal (suc n) {fs} {env} {b} s h o p v w j k l = fits-alike (Stands sheet env b) n (alike sheet n fs) (alike-equal n s h) (shape-fits s h j) (shape-fits s h k) l
 
-  pub holds-agrees : {fs : Frames} {env : Env} (f : Form) (o p : Operand) (v w : Value) → Standing sheet fs env → Stands sheet env (length env) o v → Stands sheet env (length env) p w → depth v < nesting (length fs) → depth w < nesting (length fs) → holdsOf sheet fs f o p ≡ holds kernel f v w
+  pub holds-agrees :
+      {fs : Frames} {env : Env} (f : Form) (o p : Operand) (v w : Value) → Standing sheet fs env → Stands sheet env (length env) o v →
+      Stands sheet env (length env) p w → depth v < nesting (length fs) → depth w < nesting (length fs) →
+      holdsOf sheet fs f o p ≡ holds kernel f v w
   unfolding holdsOf
-  holds-agrees {fs} {env} f o p v w s j k h l = fits-holds (Stands sheet env (length env)) (nesting (length fs)) (alike sheet (nesting (length fs)) fs) (alike-equal (nesting (length fs)) s (omega arith)) f j (shape-fits s (omega arith) j) k (shape-fits s (omega arith) k) h l
+  holds-agrees {fs} {env} f o p v w s j k h l =
+      fits-holds (Stands sheet env (length env)) (nesting (length fs)) (alike sheet (nesting (length fs)) fs)
+      (alike-equal (nesting (length fs)) s (omega arith)) f j (shape-fits s (omega arith) j) k (shape-fits s (omega arith) k) h l

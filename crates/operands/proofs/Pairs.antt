@@ -50,7 +50,8 @@ module _ {s : Bytes} {t : List ℕ} {named whole : Bool} {f : List ℕ → Bool}
     pub looked-on : f (k ∷ childrenOf t c′) ≡ f (childrenOf t c′) → Looking s t named whole f c′
     looked-on q = record { rest = l .rest ∙ ap f (x .children) ∙ q; walk = x .walk; over = x .same ∙ l .over }
 
-pub look-begins : {s : Bytes} {t : List ℕ} (named : Bool) {n : ℕ} {f : List ℕ → Bool} {c : Children} → Holds s t named n → Linked s t → c ≡ begun t n named → Looking s t named (f (kids s t n named)) f c
+pub look-begins : {s : Bytes} {t : List ℕ} (named : Bool) {n : ℕ} {f : List ℕ → Bool} {c : Children} → Holds s t named n → Linked s t →
+    c ≡ begun t n named → Looking s t named (f (kids s t n named)) f c
 look-begins named {f = f} h l e = record { rest = ap f (sym (walk-kids named h l e)); walk = walk-begins named h l e; over = walk-named named h l e }
 
 pub child-node : (s : Bytes) (t : List ℕ) {k : ℕ} → ChildAt s t false k → HasNode s t k
@@ -71,7 +72,8 @@ module _ (f : lazy.Operand → lazy.Operand → Bool) (o : lazy.Operand) (g : �
   unfolding oneAlike eachNode
   element-here k ks e h q = let z : f (g k) o ≡ true = ap (λ (x : lazy.Operand). f x o) (sym e) ∙ sym h ∙ q in rw (z, oneAlike)
 
-  pub element-on : (k : ℕ) (ks : List ℕ) {u : lazy.Operand} {r : Bool} → u ≡ g k → r ≡ f u o → r ≡ false → oneAlike f o (eachNode g (k ∷ ks)) ≡ oneAlike f o (eachNode g ks)
+  pub element-on : (k : ℕ) (ks : List ℕ) {u : lazy.Operand} {r : Bool} → u ≡ g k → r ≡ f u o → r ≡ false →
+      oneAlike f o (eachNode g (k ∷ ks)) ≡ oneAlike f o (eachNode g ks)
   unfolding oneAlike eachNode
   element-on k ks e h q = let z : f (g k) o ≡ false = ap (λ (x : lazy.Operand). f x o) (sym e) ∙ sym h ∙ q in rw (z, oneAlike)
 
@@ -84,7 +86,8 @@ module _ (s : Bytes) (t : List ℕ) (b : Bytes) where
   unfolding isOneOf namesOf
   key-here k ks e h q = let z : sameBytes b (textAt s (startAt t k)) ≡ true = ap (λ (x : ℕ). sameBytes b (textAt s x)) (sym e) ∙ sym h ∙ q in rw (z, isOneOf)
 
-  pub key-on : (k : ℕ) (ks : List ℕ) {a : ℕ} {r : Bool} → a ≡ startAt t k → r ≡ sameBytes b (textAt s a) → r ≡ false → isOneOf b (namesOf s t (k ∷ ks)) ≡ isOneOf b (namesOf s t ks)
+  pub key-on : (k : ℕ) (ks : List ℕ) {a : ℕ} {r : Bool} → a ≡ startAt t k → r ≡ sameBytes b (textAt s a) → r ≡ false →
+      isOneOf b (namesOf s t (k ∷ ks)) ≡ isOneOf b (namesOf s t ks)
   unfolding isOneOf namesOf
   key-on k ks e h q = let z : sameBytes b (textAt s (startAt t k)) ≡ false = ap (λ (x : ℕ). sameBytes b (textAt s x)) (sym e) ∙ sym h ∙ q in rw (z, isOneOf)
 
@@ -135,7 +138,8 @@ second-text p (words b) (fields c) h = refl
 second-text p (items b) y h = refl
 second-text p (fields b) y h = refl
 
-no-items : (f : lazy.Operand → lazy.Operand → Bool) (o : lazy.Operand) (x : Shape lazy.Operand) (p : lazy.Operand) (y : Shape lazy.Operand) → (shapeClass y ≡ 5 → ⊥) → holdsShapes f condition.isIn o x p y ≡ false
+no-items : (f : lazy.Operand → lazy.Operand → Bool) (o : lazy.Operand) (x : Shape lazy.Operand) (p : lazy.Operand) (y : Shape lazy.Operand) →
+    (shapeClass y ≡ 5 → ⊥) → holdsShapes f condition.isIn o x p y ≡ false
 unfolding holdsShapes
 no-items f o x p nothing h = refl
 no-items f o x p (truth true) h = refl
@@ -145,7 +149,8 @@ no-items f o x p (words b) h = refl
 no-items f o x p (items b) h = absurd (h refl)
 no-items f o x p (fields b) h = refl
 
-no-key : (f : lazy.Operand → lazy.Operand → Bool) (xs : List (Bytes × lazy.Operand)) (o : lazy.Operand) (y : Shape lazy.Operand) → (shapeClass y ≡ 4 → ⊥) → containedIn f (fields xs) o y ≡ false
+no-key : (f : lazy.Operand → lazy.Operand → Bool) (xs : List (Bytes × lazy.Operand)) (o : lazy.Operand) (y : Shape lazy.Operand) →
+    (shapeClass y ≡ 4 → ⊥) → containedIn f (fields xs) o y ≡ false
 unfolding containedIn
 no-key f xs o nothing h = refl
 no-key f xs o (truth true) h = refl
@@ -155,11 +160,14 @@ no-key f xs o (words b) h = absurd (h refl)
 no-key f xs o (items b) h = refl
 no-key f xs o (fields b) h = refl
 
-part-in : (f : lazy.Operand → lazy.Operand → Bool) (b : Bytes) (o : lazy.Operand) (y : Shape lazy.Operand) → twoTexts (found wheres.Anywhere) (words b) y ≡ containedIn f (words b) o y
+part-in : (f : lazy.Operand → lazy.Operand → Bool) (b : Bytes) (o : lazy.Operand) (y : Shape lazy.Operand) →
+    twoTexts (found wheres.Anywhere) (words b) y ≡ containedIn f (words b) o y
 unfolding containedIn
 part-in f b o y = refl
 
-no-holder : (f : lazy.Operand → lazy.Operand → Bool) (x : Shape lazy.Operand) (o : lazy.Operand) (y : Shape lazy.Operand) → (shapeClass x ≡ 4 → ⊥) → (shapeClass x ≡ 5 → ⊥) → (shapeClass x ≡ 6 → ⊥) → containedIn f x o y ≡ false
+no-holder :
+    (f : lazy.Operand → lazy.Operand → Bool) (x : Shape lazy.Operand) (o : lazy.Operand) (y : Shape lazy.Operand) → (shapeClass x ≡ 4 → ⊥) →
+    (shapeClass x ≡ 5 → ⊥) → (shapeClass x ≡ 6 → ⊥) → containedIn f x o y ≡ false
 unfolding containedIn
 no-holder f nothing o y h k l = refl
 no-holder f (truth true) o y h k l = refl
@@ -170,7 +178,8 @@ no-holder f (items b) o y h k l = absurd (k refl)
 no-holder f (fields b) o y h k l = absurd (l refl)
 
 module _ (s : Bytes) (t : List ℕ) (a b : Operand) where
-  differs : (sheet : Sheet Condition) (fs : lazy.Frames) (o : Operand) (k : ℕ) {c : ℕ} → c ≡ classOf (o .kind) → (c ≡ k → ⊥) → shapeClass (shapeOf sheet s t fs o) ≡ k → ⊥
+  differs : (sheet : Sheet Condition) (fs : lazy.Frames) (o : Operand) (k : ℕ) {c : ℕ} → c ≡ classOf (o .kind) → (c ≡ k → ⊥) →
+      shapeClass (shapeOf sheet s t fs o) ≡ k → ⊥
   differs sheet fs o k e h q = h (e ∙ sym (class-is sheet s t fs (o .node) (o .depth) (o .kind)) ∙ q)
 
   -- numbers
@@ -180,7 +189,8 @@ module _ (s : Bytes) (t : List ℕ) (a b : Operand) where
   pub second-no-number : (p : Ordering → Bool) {c : ℕ} → c ≡ classOf (b .kind) → (c ≡ 3 → ⊥) → NumbersTold s t a b p false
   second-no-number p e h sheet fs = second-number p (shapeOf sheet s t fs a) (shapeOf sheet s t fs b) (differs sheet fs b 3 e h)
 
-  pub in-order : (p : Ordering → Bool) {o : Ordering} → classOf (a .kind) ≡ 3 → classOf (b .kind) ≡ 3 → o ≡ numberOrder (digitsOf s t (a .node)) (digitsOf s t (b .node)) → NumbersTold s t a b p (p o)
+  pub in-order : (p : Ordering → Bool) {o : Ordering} → classOf (a .kind) ≡ 3 → classOf (b .kind) ≡ 3 →
+      o ≡ numberOrder (digitsOf s t (a .node)) (digitsOf s t (b .node)) → NumbersTold s t a b p (p o)
   in-order p u v e sheet fs = rw (number-is sheet s t fs (a .node) (a .depth) (a .kind) u, number-is sheet s t fs (b .node) (b .depth) (b .kind) v, ← e)
 
   -- texts
@@ -190,7 +200,9 @@ module _ (s : Bytes) (t : List ℕ) (a b : Operand) where
   pub second-no-text : (w : Where) {c : ℕ} → c ≡ classOf (b .kind) → (c ≡ 4 → ⊥) → TextsTold s t a b w false
   second-no-text w e h sheet fs = second-text (found w) (shapeOf sheet s t fs a) (shapeOf sheet s t fs b) (differs sheet fs b 4 e h)
 
-  pub texts-found : (w : Where) {x y : ℕ} {r : Bool} → classOf (a .kind) ≡ 4 → classOf (b .kind) ≡ 4 → TextPlace s t a x → TextPlace s t b y → r ≡ found w (textAt s x) (textAt s y) → TextsTold s t a b w r
+  pub texts-found :
+      (w : Where) {x y : ℕ} {r : Bool} → classOf (a .kind) ≡ 4 → classOf (b .kind) ≡ 4 → TextPlace s t a x → TextPlace s t b y →
+      r ≡ found w (textAt s x) (textAt s y) → TextsTold s t a b w r
   texts-found w u v p q e sheet fs = e ∙ rw (text-is sheet s t fs (a .node) (a .depth) (a .kind) u, text-is sheet s t fs (b .node) (b .depth) (b .kind) v, p .is, q .is)
 
 -- the forms
@@ -198,7 +210,10 @@ module _ (sheet : Sheet Condition) (s : Bytes) (t : List ℕ) (fs : lazy.Frames)
   abbrev f : lazy.Operand → lazy.Operand → Bool
   f = alike sheet (nesting (length fs)) fs
 
-  layers : (x : condition.Form) → holdsOf sheet fs x (operandOf s t a) (operandOf s t b) ≡ holdsShapes (alike sheet (nesting (length fs)) fs) x (operandOf s t a) (shapeOf sheet s t fs a) (operandOf s t b) (shapeOf sheet s t fs b)
+  layers : (x : condition.Form) →
+      holdsOf sheet fs x (operandOf s t a) (operandOf s t b) ≡
+      holdsShapes (alike sheet (nesting (length fs)) fs) x (operandOf s t a) (shapeOf sheet s t fs a) (operandOf s t b)
+      (shapeOf sheet s t fs b)
   unfolding holdsOf
   layers x = rw (shape-kind sheet s t fs (a .node) (a .depth) (a .kind), shape-kind sheet s t fs (b .node) (b .depth) (b .kind))
 
@@ -272,34 +287,64 @@ module _ (sheet : Sheet Condition) (s : Bytes) (t : List ℕ) (fs : lazy.Frames)
   unfolding holdsShapes
   in-none e h = sym (layers condition.isIn ∙ no-items f (operandOf s t a) (shapeOf sheet s t fs a) (operandOf s t b) (shapeOf sheet s t fs b) (differs s t a b sheet fs b 5 e h))
 
-  pub in-some : {r : Bool} → classOf (b .kind) ≡ 5 → r ≡ oneAlike (alike sheet (nesting (length fs)) fs) (operandOf s t a) (eachNode (partAt sheet s t fs b) (kids s t (b .node) false)) → r ≡ holdsOf sheet fs condition.isIn (operandOf s t a) (operandOf s t b)
+  pub in-some : {r : Bool} → classOf (b .kind) ≡ 5 →
+      r ≡ oneAlike (alike sheet (nesting (length fs)) fs) (operandOf s t a) (eachNode (partAt sheet s t fs b) (kids s t (b .node) false)) →
+      r ≡ holdsOf sheet fs condition.isIn (operandOf s t a) (operandOf s t b)
   unfolding holdsShapes
   in-some e h = h ∙ sym (layers condition.isIn ∙ rw (array-is sheet s t fs (b .node) (b .depth) (b .kind) e))
 
   -- contains
   pub contains-text : {r : Bool} → classOf (a .kind) ≡ 4 → TextsTold s t a b wheres.Anywhere r → r ≡ holdsOf sheet fs condition.contains (operandOf s t a) (operandOf s t b)
   unfolding holdsShapes containedIn
-  contains-text e h = let w = text-is sheet s t fs (a .node) (a .depth) (a .kind) e in h sheet fs ∙ ap (λ (x : Shape lazy.Operand). twoTexts (found wheres.Anywhere) x (shapeOf sheet s t fs b)) w ∙ part-in f (wordsOf s t (a .node) (a .kind)) (operandOf s t b) (shapeOf sheet s t fs b) ∙ ap (λ (x : Shape lazy.Operand). containedIn f x (operandOf s t b) (shapeOf sheet s t fs b)) (sym w) ∙ sym (layers condition.contains)
+  contains-text e h =
+      let w = text-is sheet s t fs (a .node) (a .depth) (a .kind) e in h sheet fs ∙
+      ap (λ (x : Shape lazy.Operand). twoTexts (found wheres.Anywhere) x (shapeOf sheet s t fs b)) w ∙
+      part-in f (wordsOf s t (a .node) (a .kind)) (operandOf s t b) (shapeOf sheet s t fs b) ∙
+      ap (λ (x : Shape lazy.Operand). containedIn f x (operandOf s t b) (shapeOf sheet s t fs b)) (sym w) ∙
+      sym (layers condition.contains)
 
-  pub contains-element : {r : Bool} → classOf (a .kind) ≡ 5 → r ≡ oneAlike (alike sheet (nesting (length fs)) fs) (operandOf s t b) (eachNode (partAt sheet s t fs a) (kids s t (a .node) false)) → r ≡ holdsOf sheet fs condition.contains (operandOf s t a) (operandOf s t b)
+  pub contains-element : {r : Bool} → classOf (a .kind) ≡ 5 →
+      r ≡ oneAlike (alike sheet (nesting (length fs)) fs) (operandOf s t b) (eachNode (partAt sheet s t fs a) (kids s t (a .node) false)) →
+      r ≡ holdsOf sheet fs condition.contains (operandOf s t a) (operandOf s t b)
   unfolding holdsShapes containedIn
   contains-element e h = h ∙ sym (layers condition.contains ∙ rw (array-is sheet s t fs (a .node) (a .depth) (a .kind) e))
 
-  pub contains-none : {c : ℕ} → c ≡ classOf (a .kind) → (c ≡ 4 → ⊥) → (c ≡ 5 → ⊥) → (c ≡ 6 → ⊥) → false ≡ holdsOf sheet fs condition.contains (operandOf s t a) (operandOf s t b)
+  pub contains-none : {c : ℕ} → c ≡ classOf (a .kind) → (c ≡ 4 → ⊥) → (c ≡ 5 → ⊥) → (c ≡ 6 → ⊥) →
+      false ≡ holdsOf sheet fs condition.contains (operandOf s t a) (operandOf s t b)
   unfolding holdsShapes
-  contains-none e h k l = sym (layers condition.contains ∙ no-holder f (shapeOf sheet s t fs a) (operandOf s t b) (shapeOf sheet s t fs b) (differs s t a b sheet fs a 4 e h) (differs s t a b sheet fs a 5 e k) (differs s t a b sheet fs a 6 e l))
+  contains-none e h k l =
+      sym
+      (layers condition.contains ∙
+      no-holder f (shapeOf sheet s t fs a) (operandOf s t b) (shapeOf sheet s t fs b) (differs s t a b sheet fs a 4 e h)
+      (differs s t a b sheet fs a 5 e k) (differs s t a b sheet fs a 6 e l))
 
   keys-of : (g : ℕ → lazy.Operand) (ks : List ℕ) → keysOf (eachName s t g ks) ≡ namesOf s t ks
   unfolding keysOf eachName namesOf
   keys-of g [] = refl
   keys-of g (k ∷ ks) = ap (λ (l : List Bytes). textAt s (startAt t k) ∷ l) (keys-of g ks)
 
-  pub contains-no-key : {c : ℕ} → classOf (a .kind) ≡ 6 → c ≡ classOf (b .kind) → (c ≡ 4 → ⊥) → false ≡ holdsOf sheet fs condition.contains (operandOf s t a) (operandOf s t b)
+  pub contains-no-key : {c : ℕ} → classOf (a .kind) ≡ 6 → c ≡ classOf (b .kind) → (c ≡ 4 → ⊥) →
+      false ≡ holdsOf sheet fs condition.contains (operandOf s t a) (operandOf s t b)
   unfolding holdsShapes containedIn
-  contains-no-key e q h = sym (layers condition.contains ∙ ap (λ (x : Shape lazy.Operand). containedIn f x (operandOf s t b) (shapeOf sheet s t fs b)) (object-is sheet s t fs (a .node) (a .depth) (a .kind) e) ∙ no-key f (eachName s t (partAt sheet s t fs a) (kids s t (a .node) true)) (operandOf s t b) (shapeOf sheet s t fs b) (differs s t a b sheet fs b 4 q h))
+  contains-no-key e q h =
+      sym
+      (layers condition.contains ∙
+      ap (λ (x : Shape lazy.Operand). containedIn f x (operandOf s t b) (shapeOf sheet s t fs b))
+      (object-is sheet s t fs (a .node) (a .depth) (a .kind) e) ∙
+      no-key f (eachName s t (partAt sheet s t fs a) (kids s t (a .node) true)) (operandOf s t b) (shapeOf sheet s t fs b)
+      (differs s t a b sheet fs b 4 q h))
 
-  pub contains-key : {r : Bool} {y : ℕ} → classOf (a .kind) ≡ 6 → classOf (b .kind) ≡ 4 → TextPlace s t b y → r ≡ isOneOf (textAt s y) (namesOf s t (kids s t (a .node) true)) → r ≡ holdsOf sheet fs condition.contains (operandOf s t a) (operandOf s t b)
+  pub contains-key : {r : Bool} {y : ℕ} → classOf (a .kind) ≡ 6 → classOf (b .kind) ≡ 4 → TextPlace s t b y →
+      r ≡ isOneOf (textAt s y) (namesOf s t (kids s t (a .node) true)) →
+      r ≡ holdsOf sheet fs condition.contains (operandOf s t a) (operandOf s t b)
   unfolding holdsShapes containedIn
   contains-key {r} e q p h =
-      let w : isOneOf (wordsOf s t (b .node) (b .kind)) (keysOf (eachName s t (partAt sheet s t fs a) (kids s t (a .node) true))) ≡ isOneOf (wordsOf s t (b .node) (b .kind)) (namesOf s t (kids s t (a .node) true)) = ap (isOneOf (wordsOf s t (b .node) (b .kind))) (keys-of (partAt sheet s t fs a) (kids s t (a .node) true)) in
-      h ∙ ap (λ (x : Bytes). isOneOf x (namesOf s t (kids s t (a .node) true))) (p .is) ∙ sym w ∙ sym (layers condition.contains ∙ rw (object-is sheet s t fs (a .node) (a .depth) (a .kind) e, text-is sheet s t fs (b .node) (b .depth) (b .kind) q))
+      let w : isOneOf (wordsOf s t (b .node) (b .kind)) (keysOf (eachName s t (partAt sheet s t fs a) (kids s t (a .node) true))) ≡
+      isOneOf (wordsOf s t (b .node) (b .kind)) (namesOf s t (kids s t (a .node) true)) = ap
+      (isOneOf (wordsOf s t (b .node) (b .kind))) (keys-of (partAt sheet s t fs a) (kids s t (a .node) true)) in
+      h ∙
+      ap (λ (x : Bytes). isOneOf x (namesOf s t (kids s t (a .node) true))) (p .is) ∙
+      sym w ∙
+      sym
+      (layers condition.contains ∙
+      rw (object-is sheet s t fs (a .node) (a .depth) (a .kind) e, text-is sheet s t fs (b .node) (b .depth) (b .kind) q))

@@ -117,7 +117,8 @@ unfolding insert put nodesOf Each
 put-nodes key n [] h = refl
 put-nodes key n (y ∷ ys) h = go (orderBytes (key n) (y .0)) (order-view (key n) (y .0)) refl (put-nodes key n ys (h .1))
   where
-    go : (o : Ordering) → OrderView (key n) (y .0) o → orderBytes (key n) (y .0) ≡ o → insert key n (nodesOf ys) ≡ nodesOf (put (key n, n) ys) → insert key n (nodesOf (y ∷ ys)) ≡ nodesOf (put (key n, n) (y ∷ ys))
+    go : (o : Ordering) → OrderView (key n) (y .0) o → orderBytes (key n) (y .0) ≡ o →
+        insert key n (nodesOf ys) ≡ nodesOf (put (key n, n) ys) → insert key n (nodesOf (y ∷ ys)) ≡ nodesOf (put (key n, n) (y ∷ ys))
     go o (isLt l) e more = rw (← (h .0 .0), e, insert, put, nodesOf)
     go o (isEq′ l) e more = absurd (h .0 .1 l)
     go o (isGt l) e more = rw (← (h .0 .0), e, insert, put, nodesOf) (ap (λ (l : List ℕ). y .1 ∷ l) more)
@@ -136,13 +137,16 @@ unfolding membersBy namesBy Each
 others f s w n zero k e d = tt
 others f s w n (suc m) k e d = go (ltb k e) refl (others f s w n m (afterAt w (k + 1)) e)
   where
-    go : (b : Bool) → ltb k e ≡ b → (isOneOf n (keys (membersBy f s w m (afterAt w (k + 1)) e)) ≡ false → Each (Other (keyAt s w) n) (namesBy s w m (afterAt w (k + 1)) e)) → Each (Other (keyAt s w) n) (namesBy s w (suc m) k e)
+    go : (b : Bool) → ltb k e ≡ b →
+        (isOneOf n (keys (membersBy f s w m (afterAt w (k + 1)) e)) ≡
+        false → Each (Other (keyAt s w) n) (namesBy s w m (afterAt w (k + 1)) e)) → Each (Other (keyAt s w) n) (namesBy s w (suc m) k e)
     go true q more =
         let z = not-one n (keyAt s w k) (keys (membersBy f s w m (afterAt w (k + 1)) e)) (rw (q, membersBy) at d) in
         rw (q, namesBy) ((refl, z .0), more (z .1))
     go false q more = rw (q, namesBy) tt
 
-names-by : (limit : ℕ) (f : ℕ → Value) (s : Bytes) (w : List ℕ) (m k e : ℕ) → tidyOf limit (membersBy f s w m k e) ≡ true → byKey (keyAt s w) (nodesOf (namesBy s w m k e)) ≡ nodesOf (inOrder (namesBy s w m k e))
+names-by : (limit : ℕ) (f : ℕ → Value) (s : Bytes) (w : List ℕ) (m k e : ℕ) → tidyOf limit (membersBy f s w m k e) ≡ true →
+    byKey (keyAt s w) (nodesOf (namesBy s w m k e)) ≡ nodesOf (inOrder (namesBy s w m k e))
 unfolding membersBy namesBy byKey inOrder nodesOf tidyOf
 names-by limit f s w zero k e t = refl
 names-by limit f s w (suc m) k e t = go (ltb k e) refl (names-by limit f s w m (afterAt w (k + 1)) e)
@@ -153,14 +157,20 @@ names-by limit f s w (suc m) k e t = go (ltb k e) refl (names-by limit f s w m (
     ms : Members
     ms = membersBy f s w m (afterAt w (k + 1)) e
 
-    go : (b : Bool) → ltb k e ≡ b → (tidyOf limit ms ≡ true → byKey (keyAt s w) (nodesOf ns) ≡ nodesOf (inOrder ns)) → byKey (keyAt s w) (nodesOf (namesBy s w (suc m) k e)) ≡ nodesOf (inOrder (namesBy s w (suc m) k e))
+    go : (b : Bool) → ltb k e ≡ b → (tidyOf limit ms ≡ true → byKey (keyAt s w) (nodesOf ns) ≡ nodesOf (inOrder ns)) →
+        byKey (keyAt s w) (nodesOf (namesBy s w (suc m) k e)) ≡ nodesOf (inOrder (namesBy s w (suc m) k e))
     go true q more =
         let y = both-true (not (isOneOf (keyAt s w k) (keys ms))) (tidy limit (f (k + 1)) && tidyOf limit ms) (rw (q, membersBy, tidyOf) at t) in
         let z = both-true (tidy limit (f (k + 1))) (tidyOf limit ms) (y .1) in
-        rw (q, namesBy) (ap (insert (keyAt s w) k) (more (z .1)) ∙ put-nodes (keyAt s w) k (inOrder ns) (each-inOrder (Other (keyAt s w) (keyAt s w k)) ns (others f s w (keyAt s w k) m (afterAt w (k + 1)) e (not-true _ (y .0)))))
+        rw (q, namesBy)
+        (ap (insert (keyAt s w) k) (more (z .1)) ∙
+        put-nodes (keyAt s w) k (inOrder ns)
+        (each-inOrder (Other (keyAt s w) (keyAt s w k)) ns
+        (others f s w (keyAt s w k) m (afterAt w (k + 1)) e (not-true _ (y .0)))))
     go false q more = rw (q, namesBy)
 
 -- Where no name stands twice, an object's names sorted are its names in order.
-pub names-sorted : (limit : ℕ) (s : Bytes) (w : List ℕ) (k e : ℕ) → tidyOf limit (membersAt s w k e) ≡ true → byKey (keyAt s w) (nodesOf (namesAt s w k e)) ≡ nodesOf (inOrder (namesAt s w k e))
+pub names-sorted : (limit : ℕ) (s : Bytes) (w : List ℕ) (k e : ℕ) → tidyOf limit (membersAt s w k e) ≡ true →
+    byKey (keyAt s w) (nodesOf (namesAt s w k e)) ≡ nodesOf (inOrder (namesAt s w k e))
 unfolding membersAt namesAt
 names-sorted limit s w k e t = names-by limit (valueAt s w) s w (e - k) k e t

@@ -23,7 +23,8 @@ unfolding namesBy nodesOf
 nodes-by s t w zero k e = refl
 nodes-by s t w (suc m) k e = go (ltb k e) refl (nodes-by s t w m (afterAt w (k + 1)) e)
   where
-    go : (b : Bool) → ltb k e ≡ b → nodesOf (namesBy s w m (afterAt w (k + 1)) e) ≡ nodesOf (namesBy t w m (afterAt w (k + 1)) e) → nodesOf (namesBy s w (suc m) k e) ≡ nodesOf (namesBy t w (suc m) k e)
+    go : (b : Bool) → ltb k e ≡ b → nodesOf (namesBy s w m (afterAt w (k + 1)) e) ≡ nodesOf (namesBy t w m (afterAt w (k + 1)) e) →
+        nodesOf (namesBy s w (suc m) k e) ≡ nodesOf (namesBy t w (suc m) k e)
     go true q below = rw (q, namesBy) (ap {B = List ℕ} (λ l. k ∷ l) below)
     go false q below = rw (q, namesBy)
 
@@ -64,12 +65,18 @@ module _ {w : List ℕ} {from end : ℕ} {names : List ℕ} {count k : ℕ} (g :
         members = record { left = g .members .left; members = x .others };
         passed = omega (arith, g .passed, x .past);
         enough = omega (arith, g .enough, length-set names count k);
-        all = rw (add-one count, take-suc-set names count k within, append-assoc) (ap (λ (l : List (Bytes × ℕ)). take count names ++ nodesOf l) (sym (names-more (g .sheet) w (g .members .members) l)) ∙ g .all);
+        all =
+            rw (add-one count, take-suc-set names count k within, append-assoc)
+            (ap (λ (l : List (Bytes × ℕ)). take count names ++ nodesOf l) (sym (names-more (g .sheet) w (g .members .members) l)) ∙ g .all);
       }
 
   pub gathered-all : end ≤ k → Gathered w from end names count
   unfolding nodesOf
   gathered-all l = record {
     few = omega (arith, g .passed, g .enough, ordered-members (g .sheet) w (g .members .members));
-    nodes = λ t. sym (append-nil (take count names)) ∙ ap (λ (l : List (Bytes × ℕ)). take count names ++ nodesOf l) (sym (names-done (g .sheet) w l)) ∙ g .all ∙ nodes-same (g .sheet) t w from end;
+    nodes =
+        λ t. sym (append-nil (take count names)) ∙
+        ap (λ (l : List (Bytes × ℕ)). take count names ++ nodesOf l) (sym (names-done (g .sheet) w l)) ∙
+        g .all ∙
+        nodes-same (g .sheet) t w from end;
   }

@@ -46,7 +46,11 @@ module _ (s : Bytes) (w left nodes₀ : List ℕ) where
         sym (take-append-drop k nodes) ∙ rw (e, ← rising-byKey (keyAt s w) (m .risingToo)) (rw (drop-of-length-le left {i = i} h, e) at (m .whole))
 
     -- one more is put in its place
-    placed : (v i′ j′ : ℕ) → i′ ≤ length left → j′ ≤ length nodes → k < j′ → k + 1 + length left ≡ i′ + j′ → Rising (keyAt s w) (drop i′ left) → Rising (keyAt s w) (drop j′ nodes) → TextNodes s w (drop j′ nodes) → byKey (keyAt s w) (drop i left ++ drop j nodes) ≡ v ∷ byKey (keyAt s w) (drop i′ left ++ drop j′ nodes) → Merging s w left nodes₀ (set nodes k v) i′ j′ (k + 1)
+    placed :
+        (v i′ j′ : ℕ) → i′ ≤ length left → j′ ≤ length nodes → k < j′ → k + 1 + length left ≡ i′ + j′ → Rising (keyAt s w) (drop i′ left) →
+        Rising (keyAt s w) (drop j′ nodes) → TextNodes s w (drop j′ nodes) →
+        byKey (keyAt s w) (drop i left ++ drop j nodes) ≡ v ∷ byKey (keyAt s w) (drop i′ left ++ drop j′ nodes) →
+        Merging s w left nodes₀ (set nodes k v) i′ j′ (k + 1)
     placed v i′ j′ a b h p r q t step =
         let same = drop-set-lt j′ nodes k v h in
         let long = length-set nodes k v in
@@ -58,7 +62,11 @@ module _ (s : Bytes) (w left nodes₀ : List ℕ) where
           rising = r;
           risingToo = rw same q;
           texts = rw same t;
-          whole = rw (same, add-one, take-suc-set nodes k v (omega arith)) (append-snoc (take k nodes) v (byKey (keyAt s w) (drop i′ left ++ drop j′ nodes)) ∙ ap (λ (l : List ℕ). take k nodes ++ l) (sym step) ∙ m .whole);
+          whole =
+              rw (same, add-one, take-suc-set nodes k v (omega arith))
+              (append-snoc (take k nodes) v (byKey (keyAt s w) (drop i′ left ++ drop j′ nodes)) ∙
+              ap (λ (l : List ℕ). take k nodes ++ l) (sym step) ∙
+              m .whole);
         }
 
     -- the next comes from behind, or from the left, as a comparison told
@@ -75,10 +83,12 @@ module _ (s : Bytes) (w left nodes₀ : List ℕ) where
           let r = rw y at (m .risingToo) in
           let q = rw x at (m .rising) in
           let t = rw y at (m .texts) in
-          placed (getD nodes j 0) i (j + 1) (m .within) (omega arith) (omega arith) (omega arith) (m .rising) (rw add-one (rising-rest r)) (rw add-one (t .1)) (rw (x, y, add-one) (first-right (keyAt s w) q r (rw y at (sym e ∙ a))))
+          placed (getD nodes j 0) i (j + 1) (m .within) (omega arith) (omega arith) (omega arith) (m .rising)
+          (rw add-one (rising-rest r)) (rw add-one (t .1)) (rw (x, y, add-one) (first-right (keyAt s w) q r (rw y at (sym e ∙ a))))
 
       pub turn-left : told ≡ false → Merging s w left nodes₀ (set nodes k (getD left i 0)) (i + 1) j (k + 1)
       turn-left a =
           let x = drop-cons left i 0 h in
           let q = rw x at (m .rising) in
-          placed (getD left i 0) (i + 1) j (omega arith) (m .upto) (omega arith) (omega arith) (rw add-one (rising-rest q)) (m .risingToo) (m .texts) (rw (x, add-one) (first-left (keyAt s w) q (m .risingToo) (sym e ∙ a)))
+          placed (getD left i 0) (i + 1) j (omega arith) (m .upto) (omega arith) (omega arith) (rw add-one (rising-rest q))
+          (m .risingToo) (m .texts) (rw (x, add-one) (first-left (keyAt s w) q (m .risingToo) (sym e ∙ a)))

@@ -33,7 +33,10 @@ module _ (s : Bytes) (w nodes : List ℕ) where
     rest = byKey (keyAt s w) (drop (i + 1) nodes)
 
     opened : l ≡ take i nodes ++ x ∷ rest
-    opened = let more : take (i + 1) nodes ≡ take i nodes ++ x ∷ [] = rw add-one (take-suc nodes i 0 h) in e ∙ ap (λ (a : List ℕ). a ++ rest) more ∙ append-assoc (take i nodes) (x ∷ []) rest
+    opened =
+        let more : take (i + 1) nodes ≡ take i nodes ++ x ∷ [] = rw add-one (take-suc nodes i 0 h) in e ∙
+        ap (λ (a : List ℕ). a ++ rest) more ∙
+        append-assoc (take i nodes) (x ∷ []) rest
 
     long : length (take i nodes) ≡ i
     long = length-take-le i nodes (omega arith)

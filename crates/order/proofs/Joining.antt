@@ -23,8 +23,10 @@ module _ (s : Bytes) (w nodes : List ℕ) (mid : ℕ) (j : Joinable s w nodes mi
   in-order a =
       let key = keyAt s w in
       let d = drop-cons nodes mid 0 (j .within) in
-      let first : AtMost (key (getD (take mid nodes) (mid - 1) 0)) (key (getD nodes mid 0)) = rw (getD-take mid nodes (mid - 1) 0 (omega arith)) (not-after key (getD nodes (mid - 1) 0) (getD nodes mid 0) a) in
-      let r = rising-join key (take mid nodes) (mid - 1) (getD nodes mid 0) (drop (suc mid) nodes) (omega (arith, front)) first (sorted-rises key (take mid nodes) (j .inOrder)) (rw d at (sorted-rises key (drop mid nodes) (j .othersToo))) in
+      let first : AtMost (key (getD (take mid nodes) (mid - 1) 0)) (key (getD nodes mid 0)) = rw
+      (getD-take mid nodes (mid - 1) 0 (omega arith)) (not-after key (getD nodes (mid - 1) 0) (getD nodes mid 0) a) in
+      let r = rising-join key (take mid nodes) (mid - 1) (getD nodes mid 0) (drop (suc mid) nodes) (omega (arith, front)) first
+      (sorted-rises key (take mid nodes) (j .inOrder)) (rw d at (sorted-rises key (drop mid nodes) (j .othersToo))) in
       sym (rising-byKey key (rw (← d, take-append-drop mid nodes) at r))
 
   -- the first part, copied to the front of another list
@@ -85,7 +87,9 @@ module _ (s : Bytes) (w nodes a : List ℕ) (mid : ℕ) (h : mid ≤ length node
         let key = keyAt s w in
         let left : take mid (a ++ b) ≡ a = take-at a b mid long-a in
         let right : drop mid (a ++ b) ≡ b = drop-at a b mid long-a in
-        let sorted : TextNodes s w (byKey key (take mid nodes) ++ byKey key (drop mid nodes)) = text-append s w _ _ (text-nodes-sorted s w (take mid nodes) (text-take s w nodes mid texts)) (text-nodes-sorted s w (drop mid nodes) (text-drop s w nodes mid texts)) in
+        let sorted : TextNodes s w (byKey key (take mid nodes) ++ byKey key (drop mid nodes)) = text-append s w _ _
+        (text-nodes-sorted s w (take mid nodes) (text-take s w nodes mid texts))
+        (text-nodes-sorted s w (drop mid nodes) (text-drop s w nodes mid texts)) in
         rw twice-is
         (record {
           long = long;
@@ -97,4 +101,8 @@ module _ (s : Bytes) (w nodes a : List ℕ) (mid : ℕ) (h : mid ≤ length node
         })
 
     pub all-sorted : (l : List ℕ) → l ≡ byKey (keyAt s w) twice → l ≡ byKey (keyAt s w) nodes
-    all-sorted l q = let same : byKey (keyAt s w) twice ≡ byKey (keyAt s w) nodes = rw (twice-is, e, b-is, byKey-parts (keyAt s w) (take mid nodes) (drop mid nodes), take-append-drop mid nodes) in q ∙ same
+    all-sorted l q =
+        let same : byKey (keyAt s w) twice ≡
+        byKey (keyAt s w) nodes = rw
+        (twice-is, e, b-is, byKey-parts (keyAt s w) (take mid nodes) (drop mid nodes), take-append-drop mid nodes) in q ∙
+        same

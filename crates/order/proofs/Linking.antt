@@ -42,7 +42,9 @@ pub fewer : (w v : List ℕ) (m : ℕ) → m ≤ maxNodes → take firstMark v �
 fewer w v m h e = let l : 3 * m ≤ firstMark = omega arith in sym (take-take (3 * m) firstMark v l) ∙ ap (take (3 * m)) e ∙ take-take (3 * m) firstMark w l
 
 -- links through the names as they were are links through the names as they are
-linked-rows : {s : Bytes} (w v : List ℕ) (n : ℕ) → take firstMark v ≡ take firstMark w → n < maxNodes → afterAt w n ≤ maxNodes → HasMembers s w (n + 1) (afterAt w n) → linkedBy v (afterAt w n - (n + 1)) (linkAt v n) (afterAt w n) ≡ nodesOf (inOrder (namesAt s w (n + 1) (afterAt w n))) → LinkedAt s v n
+linked-rows : {s : Bytes} (w v : List ℕ) (n : ℕ) → take firstMark v ≡ take firstMark w → n < maxNodes → afterAt w n ≤ maxNodes →
+    HasMembers s w (n + 1) (afterAt w n) →
+    linkedBy v (afterAt w n - (n + 1)) (linkAt v n) (afterAt w n) ≡ nodesOf (inOrder (namesAt s w (n + 1) (afterAt w n))) → LinkedAt s v n
 linked-rows {s} w v n e h l m q =
     let a : afterAt v n ≡ afterAt w n = word-prefix w v firstMark e (3 * n + 2) (omega arith) in
     rw (a, names-rows s w v (fewer w v (afterAt w n) l e) m) q
@@ -88,18 +90,29 @@ module _ (s : Bytes) (w : List ℕ) (u : Unordered s w) where
 
     pub linked-here : LinkedAt s (orderedAt s w n) n
     linked-here = linked-rows w (orderedAt s w n) n rows (omega (arith, count-small)) (members-within members .1) members (
-        chained-leads w n inKeys end (end - (n + 1)) (u .long) distinct (omega (arith, count-small)) small (λ j i. omega (arith, name-row s w members (within i) .upto)) (omega (arith, length-byKey (keyAt s w) names, names-few s w members))
+        chained-leads w n inKeys end (end - (n + 1)) (u .long) distinct (omega (arith, count-small)) small
+        (λ j i. omega (arith, name-row s w members (within i) .upto))
+        (omega (arith, length-byKey (keyAt s w) names, names-few s w members))
         ∙ names-sorted maxNumber s w (n + 1) end (object n below isObject .isTidy)
         )
 
     pub linked-there : (i : ℕ) → (i ≡ n → ⊥) → i < afterAt w 0 → kindAt w i ≡ 6 → LinkedAt s w i → LinkedAt s (orderedAt s w n) i
-    linked-there i f h q l = linked-rows w (orderedAt s w n) i rows (omega (arith, count-small)) (members-within (object i h q .members) .1) (object i h q .members) (ap (λ (k : ℕ). linkedBy (orderedAt s w n) (afterAt w i - (i + 1)) k (afterAt w i)) first ∙ leads-still w (orderedAt s w n) (afterAt w i - (i + 1)) (linkAt w i) (afterAt w i) same ∙ l)
+    linked-there i f h q l =
+        linked-rows w (orderedAt s w n) i rows (omega (arith, count-small)) (members-within (object i h q .members) .1)
+        (object i h q .members)
+        (ap (λ (k : ℕ). linkedBy (orderedAt s w n) (afterAt w i - (i + 1)) k (afterAt w i)) first ∙
+        leads-still w (orderedAt s w n) (afterAt w i - (i + 1)) (linkAt w i) (afterAt w i) same ∙
+        l)
       where
         first : linkAt (orderedAt s w n) i ≡ linkAt w i
         first = chained-other w n inKeys end i f (λ m. no-object below isObject (within m) q)
 
         own : (j : ℕ) → List·Memᴰ j (linkedBy w (afterAt w i - (i + 1)) (linkAt w i) (afterAt w i)) → List·Memᴰ j (nodesOf (namesAt s w (i + 1) (afterAt w i)))
-        own j m = byKey-within (keyAt s w) (nodesOf (namesAt s w (i + 1) (afterAt w i))) (subst (λ (x : List ℕ). List·Memᴰ j x) (l ∙ sym (names-sorted maxNumber s w (i + 1) (afterAt w i) (object i h q .isTidy))) m)
+        own j m =
+            byKey-within (keyAt s w) (nodesOf (namesAt s w (i + 1) (afterAt w i)))
+            (subst (λ (x : List ℕ). List·Memᴰ j x) (l ∙ sym (names-sorted maxNumber s w (i + 1) (afterAt w i) (object i h q .isTidy))) m)
 
         same : (j : ℕ) → List·Memᴰ j (linkedBy w (afterAt w i - (i + 1)) (linkAt w i) (afterAt w i)) → linkAt (orderedAt s w n) j ≡ linkAt w j
-        same j m = chained-other w n inKeys end j (λ e. no-object h q (own j m) (ap (kindAt w) e ∙ isObject)) (λ k. owned s w (u .root) i n j (omega arith) h q (omega arith) below isObject f (own j m) (within k))
+        same j m =
+            chained-other w n inKeys end j (λ e. no-object h q (own j m) (ap (kindAt w) e ∙ isObject))
+            (λ k. owned s w (u .root) i n j (omega arith) h q (omega arith) below isObject f (own j m) (within k))

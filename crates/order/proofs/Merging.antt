@@ -119,7 +119,8 @@ module _ (key : ℕ → Bytes) where
   swap [] h = rw (insert-past [] h) (insert-here [] (below h))
   swap {n} {m} (x ∷ xs) h = go (side (key n) (key x)) (side (key m) (key x)) (swap xs h)
     where
-      go : Side (key n) (key x) → Side (key m) (key x) → insert key m (insert key n xs) ≡ insert key n (insert key m xs) → insert key m (insert key n (x ∷ xs)) ≡ insert key n (insert key m (x ∷ xs))
+      go : Side (key n) (key x) → Side (key m) (key x) → insert key m (insert key n xs) ≡ insert key n (insert key m xs) →
+          insert key m (insert key n (x ∷ xs)) ≡ insert key n (insert key m (x ∷ xs))
       go (before a) b more = rw (insert-here xs a, insert-here (x ∷ xs) (below h), insert-here xs (below (less-most h a)), insert-past (x ∷ xs) h, insert-here xs a)
       go (behind a) (before b) more = rw (insert-past xs a, insert-here xs b, insert-here (insert key n xs) b, insert-past (x ∷ xs) h, insert-past xs a)
       go (behind a) (behind b) more = rw (insert-past xs a, insert-past xs b, insert-past (insert key n xs) b, insert-past (insert key m xs) a) (ap (λ (l : List ℕ). x ∷ l) more)
@@ -129,7 +130,8 @@ module _ (key : ℕ → Bytes) where
   byKey-insert n [] ys = refl
   byKey-insert n (x ∷ xs) ys = go (side (key n) (key x)) (byKey-insert n xs ys)
     where
-      go : Side (key n) (key x) → byKey key (insert key n xs ++ ys) ≡ insert key n (byKey key (xs ++ ys)) → byKey key (insert key n (x ∷ xs) ++ ys) ≡ insert key n (byKey key (x ∷ xs ++ ys))
+      go : Side (key n) (key x) → byKey key (insert key n xs ++ ys) ≡ insert key n (byKey key (xs ++ ys)) →
+          byKey key (insert key n (x ∷ xs) ++ ys) ≡ insert key n (byKey key (x ∷ xs ++ ys))
       go (before b) more = rw (insert-here xs b)
       go (behind b) more = rw (insert-past xs b) (ap (insert key x) more ∙ swap (byKey key (xs ++ ys)) b)
 
@@ -174,7 +176,8 @@ module _ (key : ℕ → Bytes) where
       go o (isGt h) e = absurd (false≢true (sym e))
 
   -- the next of two lists in order
-  pub first-right : {x y : ℕ} {xs ys : List ℕ} → Rising key (x ∷ xs) → Rising key (y ∷ ys) → isAfter key x y ≡ true → byKey key ((x ∷ xs) ++ y ∷ ys) ≡ y ∷ byKey key ((x ∷ xs) ++ ys)
+  pub first-right : {x y : ℕ} {xs ys : List ℕ} → Rising key (x ∷ xs) → Rising key (y ∷ ys) → isAfter key x y ≡ true →
+      byKey key ((x ∷ xs) ++ y ∷ ys) ≡ y ∷ byKey key ((x ∷ xs) ++ ys)
   first-right {x} {y} (risingMore f r) (risingMore g q) e = least-right (is-after x y e) (fromMore (alike refl) f) g
 
   pub first-left : {x : ℕ} {xs ys : List ℕ} → Rising key (x ∷ xs) → Rising key ys → isAbove key x ys ≡ false → byKey key ((x ∷ xs) ++ ys) ≡ x ∷ byKey key (xs ++ ys)
@@ -195,7 +198,9 @@ module _ (key : ℕ → Bytes) where
   lead h (risingMore g r) = risingMore (fromMore h (from-trans h g)) (risingMore g r)
 
   -- where the last of the first is not after the first of the other
-  pub rising-join : (xs : List ℕ) (n y : ℕ) (ys : List ℕ) → length xs ≡ suc n → AtMost (key (getD xs n 0)) (key y) → Rising key xs → Rising key (y ∷ ys) → Rising key (xs ++ y ∷ ys)
+  pub rising-join :
+      (xs : List ℕ) (n y : ℕ) (ys : List ℕ) → length xs ≡ suc n → AtMost (key (getD xs n 0)) (key y) → Rising key xs → Rising key (y ∷ ys) →
+      Rising key (xs ++ y ∷ ys)
   rising-join [] n y ys l h r q = absurd (omega arith)
   rising-join (x ∷ []) zero y ys l h r q = lead h q
   rising-join (x ∷ []) (suc n) y ys l h r q = absurd (omega arith)

@@ -43,7 +43,8 @@ module _ (s : Bytes) (w : List ℕ) where
       k′ : ℕ
       k′ = afterAt w (k + 1)
 
-      go : (AreMembers s w left k′ e → e - k′ ≤ m → e - k′ ≤ n → namesBy s w m k′ e ≡ namesBy s w n k′ e) → (b : Bool) → ltb k e ≡ b → namesBy s w (suc m) k e ≡ namesBy s w (suc n) k e
+      go : (AreMembers s w left k′ e → e - k′ ≤ m → e - k′ ≤ n → namesBy s w m k′ e ≡ namesBy s w n k′ e) → (b : Bool) → ltb k e ≡ b →
+          namesBy s w (suc m) k e ≡ namesBy s w (suc n) k e
       go below false r = rw (r, namesBy)
       go below true r =
           let x = members-more s w h (ltb-true k e r) in
@@ -54,7 +55,9 @@ module _ (s : Bytes) (w : List ℕ) where
   names-more {left} {k} {e} h l =
       let x = members-more s w h l in
       let q : e - k ≡ suc (e - (k + 1)) = omega arith in
-      rw (q, lt-ltb k e l, namesBy) (ap {B = List (Bytes × ℕ)} (λ y. (textAt s (startAt w k), k) ∷ y) (names-enough (e - (k + 1)) (e - afterAt w (k + 1)) (x .others) (omega (arith, x .past)) (omega arith)))
+      rw (q, lt-ltb k e l, namesBy)
+      (ap {B = List (Bytes × ℕ)} (λ y. (textAt s (startAt w k), k) ∷ y)
+      (names-enough (e - (k + 1)) (e - afterAt w (k + 1)) (x .others) (omega (arith, x .past)) (omega arith)))
 
   pub names-done : {k e : ℕ} → e ≤ k → namesAt s w k e ≡ []
   unfolding namesAt namesBy
@@ -65,7 +68,8 @@ module _ (s : Bytes) (w : List ℕ) where
   unfolding nodesOf
   name-none {k} {e} {j} l m = List·Memᴰ·not-nil (subst (λ (xs : List (Bytes × ℕ)). List·Memᴰ j (nodesOf xs)) (names-done l) m)
 
-  pub name-cases : {left k e j : ℕ} → AreMembers s w left k e → k < e → List·Memᴰ j (nodesOf (namesAt s w k e)) → (j ≡ k) ⊎ List·Memᴰ j (nodesOf (namesAt s w (afterAt w (k + 1)) e))
+  pub name-cases : {left k e j : ℕ} → AreMembers s w left k e → k < e → List·Memᴰ j (nodesOf (namesAt s w k e)) →
+      (j ≡ k) ⊎ List·Memᴰ j (nodesOf (namesAt s w (afterAt w (k + 1)) e))
   unfolding nodesOf
   name-cases {j = j} h l m = List·Memᴰ·cases-cons (subst (λ (xs : List (Bytes × ℕ)). List·Memᴰ j (nodesOf xs)) (names-more h l) m)
 
@@ -73,14 +77,21 @@ module _ (s : Bytes) (w : List ℕ) where
   module _ {left e : ℕ} (P : ℕ → Type 0) (done : (k : ℕ) → e ≤ k → P k) (more : (k : ℕ) → AreMembers s w left k e → k < e → P (afterAt w (k + 1)) → P k) where
     by-length : (m k : ℕ) → e - k ≤ m → AreMembers s w left k e → P k
     by-length zero k q h = done k (omega arith)
-    by-length (suc m) k q h = elim (decLt k e) [ yes l ↦ let x = members-more s w h l in more k h l (by-length m (afterAt w (k + 1)) (omega (arith, x .past)) (x .others)) | no l ↦ done k (omega arith) ]
+    by-length (suc m) k q h =
+        elim (decLt k e) [
+          | yes l ↦ let x = members-more s w h l in more k h l (by-length m (afterAt w (k + 1)) (omega (arith, x .past)) (x .others))
+          | no l
+              ↦ done k (omega arith)
+        ]
 
     pub by-members : (k : ℕ) → AreMembers s w left k e → P k
     by-members k h = by-length (e - k) k (omega arith) h
 
   -- A name's row.
   pub name-row : {k e j : ℕ} → HasMembers s w k e → List·Memᴰ j (nodesOf (namesAt s w k e)) → NameRow s w k e j
-  name-row {k} {e} {j} h = by-members (λ i. List·Memᴰ j (nodesOf (namesAt s w i e)) → NameRow s w i e j) (λ i l m. absurd (name-none l m)) (λ i a l below m. ⊎-elim (first i a l) (λ b. later i a l (below b)) (name-cases a l m)) k (h .members)
+  name-row {k} {e} {j} h =
+      by-members (λ i. List·Memᴰ j (nodesOf (namesAt s w i e)) → NameRow s w i e j) (λ i l m. absurd (name-none l m))
+      (λ i a l below m. ⊎-elim (first i a l) (λ b. later i a l (below b)) (name-cases a l m)) k (h .members)
     where
       first : (i : ℕ) → AreMembers s w (h .left) i e → i < e → j ≡ i → NameRow s w i e j
       first i a l q =
@@ -99,7 +110,9 @@ module _ (s : Bytes) (w : List ℕ) where
   -- The nodes of the names ascend.
   pub names-ascend : {k e : ℕ} → HasMembers s w k e → Ascends (nodesOf (namesAt s w k e))
   unfolding nodesOf Ascends
-  names-ascend {k} {e} h = by-members (λ i. Ascends (nodesOf (namesAt s w i e))) (λ i l. rw (names-done l) tt) (λ i a l below. rw (names-more a l) ((λ m b. before i a l m b), below)) k (h .members)
+  names-ascend {k} {e} h =
+      by-members (λ i. Ascends (nodesOf (namesAt s w i e))) (λ i l. rw (names-done l) tt)
+      (λ i a l below. rw (names-more a l) ((λ m b. before i a l m b), below)) k (h .members)
     where
       before : (i : ℕ) → AreMembers s w (h .left) i e → i < e → (m : ℕ) → List·Memᴰ m (nodesOf (namesAt s w (afterAt w (i + 1)) e)) → i < m
       before i a l m b = let x = members-more s w a l in omega (arith, x .past, name-row (record { left = h .left; members = x .others }) b .from)
@@ -107,4 +120,6 @@ module _ (s : Bytes) (w : List ℕ) where
   -- Each name has a value behind it, so that the names are half of the nodes at most.
   pub names-few : {k e : ℕ} → HasMembers s w k e → 2 * length (nodesOf (namesAt s w k e)) ≤ e - k
   unfolding nodesOf
-  names-few {k} {e} h = by-members (λ i. 2 * length (nodesOf (namesAt s w i e)) ≤ e - i) (λ i l. rw (names-done l) (omega arith)) (λ i a l below. let x = members-more s w a l in rw (names-more a l) (omega (arith, x .past, x .upto))) k (h .members)
+  names-few {k} {e} h =
+      by-members (λ i. 2 * length (nodesOf (namesAt s w i e)) ≤ e - i) (λ i l. rw (names-done l) (omega arith))
+      (λ i a l below. let x = members-more s w a l in rw (names-more a l) (omega (arith, x .past, x .upto))) k (h .members)

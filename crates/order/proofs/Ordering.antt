@@ -65,7 +65,12 @@ module _ {s : Bytes} {w v : List ℕ} {k : ℕ} (u : Unordered s w) (long : leng
   its-members q = object s v still k here q .members
 
   pub linked-one : kindAt v k ≡ 6 → LinkedUpto s w (orderedAt s v k) (k + 1)
-  linked-one isObject = record { rows = rows s v still k here isObject ∙ l .rows; further = further-words s v still k here isObject ∙ l .further; links = λ n h q. go n h q (eqb n k) refl }
+  linked-one isObject =
+      record {
+        rows = rows s v still k here isObject ∙ l .rows;
+        further = further-words s v still k here isObject ∙ l .further;
+        links = λ n h q. go n h q (eqb n k) refl;
+      }
     where
       go : (n : ℕ) → n < k + 1 → kindAt w n ≡ 6 → (b : Bool) → eqb n k ≡ b → LinkedAt s (orderedAt s v k) n
       go n h q true e = subst (LinkedAt s (orderedAt s v k)) (sym (eqb-true n k e)) (linked-here s v still k here isObject)

@@ -20,14 +20,32 @@ module _ (s : Bytes) (w v : List ℕ) where
   node-rows {left} {n} e h = (record { tree = h .tree; held = held; depth = h .depth; most = h .most }, value-is s v (h .depth) held ∙ sym (value-is s w (h .depth) (h .held)))
     where
       held : NodeAt s v left n (h .tree)
-      held = record { words = begins-prefix w v (3 * afterAt w n) e (3 * n) (rows (h .tree) n) (omega (arith, length-rows (h .tree) n, node-after s w left n (h .tree) (h .held))) (h .held .words); shallow = h .held .shallow; fits = h .held .fits }
+      held =
+          record {
+            words = begins-prefix w v (3 * afterAt w n) e (3 * n) (rows (h .tree) n)
+                (omega (arith, length-rows (h .tree) n, node-after s w left n (h .tree) (h .held))) (h .held .words);
+            shallow = h .held .shallow;
+            fits = h .held .fits;
+          }
 
   -- ---- members and their names
   module _ {e : ℕ} (same : take (3 * e) v ≡ take (3 * e) w) where
     are-members : {left k : ℕ} → AreMembers s w left k e → AreMembers s v left k e
     are-members {left} {k} h =
         let f = h .held in
-        record { tree = h .tree; held = record { words = begins-prefix w v (3 * e) same (3 * k) (rowsOf (h .tree) k) (omega (arith, length-rowsOf (h .tree) k, f .upto)) (f .words); upto = f .upto; shallow = f .shallow; fits = f .fits }; depth = h .depth; most = h .most }
+        record {
+          tree = h .tree;
+          held =
+              record {
+                words = begins-prefix w v (3 * e) same (3 * k) (rowsOf (h .tree) k)
+                    (omega (arith, length-rowsOf (h .tree) k, f .upto)) (f .words);
+                upto = f .upto;
+                shallow = f .shallow;
+                fits = f .fits;
+              };
+          depth = h .depth;
+          most = h .most;
+        }
 
     pub names-rows : {k : ℕ} → HasMembers s w k e → namesAt s v k e ≡ namesAt s w k e
     names-rows {k} h = by-members s w (λ i. namesAt s v i e ≡ namesAt s w i e) (λ i l. names-done s v l ∙ sym (names-done s w l)) more k (h .members)

@@ -23,13 +23,19 @@ data RowOf (s : Bytes) (w : List ℕ) (e : ℕ) (isTidy : Bool) (i : ℕ) : Type
 -- by the tree: the row is the first one of a node, or stands in one of its parts
 module _ (s : Bytes) (w : List ℕ) (end : ℕ) (top : Bool) (few : end ≤ maxNodes) (i : ℕ) where
   -- the first row of a node
-  here : {left n : ℕ} (t : Node) → NodeAt s w left n t → left ≤ maxDepth → n + size t ≤ end → (top ≡ true → tidy maxNumber (erase s t) ≡ true) → n ≡ i → RowOf s w end top i
-  here {left} {n} t h l m g q = subst (λ (j : ℕ). RowOf s w end top j) q (ofNode (record { left = left; isNode = record { tree = t; held = h; depth = l; most = omega arith } }) (omega (arith, node-after s w left n t h)) (λ x. ap (tidy maxNumber) (value-is s w l h) ∙ g x))
+  here :
+      {left n : ℕ} (t : Node) → NodeAt s w left n t → left ≤ maxDepth → n + size t ≤ end → (top ≡ true → tidy maxNumber (erase s t) ≡ true) →
+      n ≡ i → RowOf s w end top i
+  here {left} {n} t h l m g q =
+      subst (λ (j : ℕ). RowOf s w end top j) q
+      (ofNode (record { left = left; isNode = record { tree = t; held = h; depth = l; most = omega arith } })
+      (omega (arith, node-after s w left n t h)) (λ x. ap (tidy maxNumber) (value-is s w l h) ∙ g x))
 
   mutual
     unfolding size erase tidy
 
-    row : {left n : ℕ} (t : Node) → NodeAt s w left n t → left ≤ maxDepth → n + size t ≤ end → (top ≡ true → tidy maxNumber (erase s t) ≡ true) → n ≤ i → i < n + size t → RowOf s w end top i
+    row : {left n : ℕ} (t : Node) → NodeAt s w left n t → left ≤ maxDepth → n + size t ≤ end →
+        (top ≡ true → tidy maxNumber (erase s t) ≡ true) → n ≤ i → i < n + size t → RowOf s w end top i
     row (leaf k a e) h l m g from to = here (leaf k a e) h l m g (omega arith)
     row {left} {n} (arr a e ts) h l m g from to =
         let p = arr-parts s w left n a e ts h in
@@ -38,22 +44,32 @@ module _ (s : Bytes) (w : List ℕ) (end : ℕ) (top : Bool) (few : end ≤ maxN
         let p = obj-parts s w left n a e fs h in
         elim (decLt n i) [ yes q ↦ rowOf fs (p .1) (omega arith) (omega arith) g (omega arith) (omega arith) | no q ↦ here (obj a e fs) h l m g (omega arith) ]
 
-    rowIn : {left k e : ℕ} (ts : Nodes) → NodesAt s w left k e ts → left ≤ maxDepth → e ≤ end → (top ≡ true → tidyIn maxNumber (eraseIn s ts) ≡ true) → k ≤ i → i < e → RowOf s w end top i
+    rowIn : {left k e : ℕ} (ts : Nodes) → NodesAt s w left k e ts → left ≤ maxDepth → e ≤ end →
+        (top ≡ true → tidyIn maxNumber (eraseIn s ts) ≡ true) → k ≤ i → i < e → RowOf s w end top i
     rowIn noNode h l m g from to = absurd (omega (arith, h .upto))
     rowIn {left} {k} {e} (node t ts) h l m g from to =
         let p = nodes-parts s w left k e t ts h in
-        let both : top ≡ true → (tidy maxNumber (erase s t) ≡ true) × (tidyIn maxNumber (eraseIn s ts) ≡ true) = λ x. and-eq-true-iff (tidy maxNumber (erase s t)) (tidyIn maxNumber (eraseIn s ts)) .0 (g x) in
+        let both : top ≡ true → (tidy maxNumber (erase s t) ≡ true) ×
+        (tidyIn maxNumber (eraseIn s ts) ≡ true) = λ x. and-eq-true-iff (tidy maxNumber (erase s t))
+        (tidyIn maxNumber (eraseIn s ts)) .0 (g x) in
         elim (decLt i (k + size t)) [ yes q ↦ row t (p .0) l (omega (arith, h .upto)) (λ x. both x .0) from q | no q ↦ rowIn ts (p .1) l m (λ x. both x .1) (omega arith) to ]
 
-    rowOf : {left k e : ℕ} (fs : Fields) → FieldsAt s w left k e fs → left ≤ maxDepth → e ≤ end → (top ≡ true → tidyOf maxNumber (eraseOf s fs) ≡ true) → k ≤ i → i < e → RowOf s w end top i
+    rowOf : {left k e : ℕ} (fs : Fields) → FieldsAt s w left k e fs → left ≤ maxDepth → e ≤ end →
+        (top ≡ true → tidyOf maxNumber (eraseOf s fs) ≡ true) → k ≤ i → i < e → RowOf s w end top i
     rowOf noField h l m g from to = absurd (omega (arith, h .upto))
     rowOf {left} {k} {e} (field a b t fs) h l m g from to =
         let p = fields-parts s w left k e a b t fs h in
         let v = tidy maxNumber (erase s t) in
         let vs = tidyOf maxNumber (eraseOf s fs) in
-        let both : top ≡ true → (v ≡ true) × (vs ≡ true) = λ x. and-eq-true-iff v vs .0 (and-eq-true-iff (not (isOneOf (textAt s a) (keys (eraseOf s fs)))) (v && vs) .0 (g x) .1) in
+        let both : top ≡ true → (v ≡ true) ×
+        (vs ≡ true) = λ x. and-eq-true-iff v vs .0
+        (and-eq-true-iff (not (isOneOf (textAt s a) (keys (eraseOf s fs)))) (v && vs) .0 (g x) .1) in
         elim (decLt k i) [
-          | yes q ↦ elim (decLt i (k + 1 + size t)) [ yes r ↦ row t (p .2) l (omega (arith, h .upto)) (λ x. both x .0) (omega arith) r | no r ↦ rowOf fs (p .3) l m (λ x. both x .1) (omega arith) to ]
+          | yes q ↦ elim (decLt i (k + 1 + size t)) [
+            | yes r ↦ row t (p .2) l (omega (arith, h .upto)) (λ x. both x .0) (omega arith) r
+            | no r ↦ rowOf fs (p .3) l m
+                (λ x. both x .1) (omega arith) to
+          ]
           | no q ↦ subst (λ (j : ℕ). RowOf s w end top j) (omega arith) (ofName (p .0 .isKind) (p .0 .isAfter) (omega (arith, h .upto, size-pos t)))
         ]
 
@@ -85,7 +101,8 @@ module _ (s : Bytes) (w : List ℕ) where
     row-of : RowOf s w (afterAt w p) (tidy maxNumber (valueAt s w p)) i
     row-of =
         let a = node-after s w left p (root .tree) (root .held) in
-        row s w (afterAt w p) (tidy maxNumber (valueAt s w p)) (after-node s w root .1) i (root .tree) (root .held) (root .depth) (omega arith) (λ x. ap (tidy maxNumber) (sym (value-is s w (root .depth) (root .held))) ∙ x) from (omega arith)
+        row s w (afterAt w p) (tidy maxNumber (valueAt s w p)) (after-node s w root .1) i (root .tree) (root .held) (root .depth)
+        (omega arith) (λ x. ap (tidy maxNumber) (sym (value-is s w (root .depth) (root .held))) ∙ x) from (omega arith)
 
     -- Rows lie within one another.
     pub nested : (i < afterAt w i) × (afterAt w i ≤ afterAt w p)
@@ -106,7 +123,9 @@ module _ (s : Bytes) (w : List ℕ) where
     pub object-members : kindAt w i ≡ 6 → HasMembers s w (i + 1) (afterAt w i)
     object-members q = object-node (kind-6 q .0) q .0
 
-  pub object-row : {left p : ℕ} → IsNode s w left p → tidy maxNumber (valueAt s w p) ≡ true → (i : ℕ) → p ≤ i → i < afterAt w p → kindAt w i ≡ 6 → ObjectRow s w i (afterAt w p)
+  pub object-row :
+      {left p : ℕ} → IsNode s w left p → tidy maxNumber (valueAt s w p) ≡ true → (i : ℕ) → p ≤ i → i < afterAt w p → kindAt w i ≡ 6 →
+      ObjectRow s w i (afterAt w p)
   unfolding tidy
   object-row root t i from to q =
       let n = kind-6 root i from to q in

@@ -7,7 +7,26 @@ use mathlib.Core.Path.{ap, refl, subst, sym, _∙_, _≡_}
 use Prim.Native.Nat.{Ordering, Ordering·eq, suc, zero, ℕ, _+_, _-_, _<_, _≤_}
 use native.Mathlib.Omega.{arith}
 use Rattle.json.proofs.Laws.{sameBytes-true}
-use Rattle.json.proofs.Sorted.{Above, Ascending, Less, OrderView, aboveMore, aboveNone, ascMore, ascNone, eachSorted, entries-sorted, inOrder-ascending, isEq′, isGt, isLt, less-order, less-trans, order-view, same-order}
+use Rattle.json.proofs.Sorted.{
+  Above,
+  Ascending,
+  Less,
+  OrderView,
+  aboveMore,
+  aboveNone,
+  ascMore,
+  ascNone,
+  eachSorted,
+  entries-sorted,
+  inOrder-ascending,
+  isEq′,
+  isGt,
+  isLt,
+  less-order,
+  less-trans,
+  order-view,
+  same-order,
+}
 use Rattle.json.proofs.Walk.{MoreMembers, members-done, members-more}
 use Rattle.json.specs.Bytes.{Bytes, find, orderBytes, sameBytes}
 use Rattle.json.specs.Cursor.{OnText}
@@ -71,7 +90,9 @@ module _ {A : Type 0} where
       none-above : Less (x .0) (y .0) → sameBytes k (x .0) ≡ true → find k (y ∷ ys) ≡ none
       none-above h q = subst (λ (j : Bytes). find j (y ∷ ys) ≡ none) (sym (sameBytes-true k (x .0) q)) (rw (less-apart h, find) (find-above h a))
 
-      go : (o : Ordering) → OrderView (x .0) (y .0) o → orderBytes (x .0) (y .0) ≡ o → (b : Bool) → sameBytes k (x .0) ≡ b → (c : Bool) → sameBytes k (y .0) ≡ c → find k (put x ys) ≡ orEarlier (find k ys) (hit k x) → find k (put x (y ∷ ys)) ≡ orEarlier (find k (y ∷ ys)) (hit k x)
+      go : (o : Ordering) → OrderView (x .0) (y .0) o → orderBytes (x .0) (y .0) ≡ o → (b : Bool) → sameBytes k (x .0) ≡ b → (c : Bool) →
+          sameBytes k (y .0) ≡ c → find k (put x ys) ≡ orEarlier (find k ys) (hit k x) →
+          find k (put x (y ∷ ys)) ≡ orEarlier (find k (y ∷ ys)) (hit k x)
       go o (isLt h) e true q c p below = rw (e, put, none-above h q, q, find)
       go o (isLt h) e false q c p below = rw (e, put, q, find) (sym (or-none (find k (y ∷ ys))))
       go o (isEq′ h) e b q true p below = rw (e, put, p, find)
@@ -127,9 +148,15 @@ module _ {s : Bytes} {t : List ℕ} {key : Bytes} {n : ℕ} where
       pub pick-falls : {k′ : ℕ} → k′ ≡ afterAt t (k + 1) → (k < k′) × (k′ ≤ e)
       pick-falls q = (omega (arith, m .past), omega (arith, m .upto))
 
-      one-more : find key (entries (fieldsOf s t n)) ≡ orEarlier (findLast key (eachSorted (entries (membersAt s t (afterAt t (k + 1)) e)))) (orEarlier (hit key (textAt s (startAt t k), tree s t (k + 1))) (foundTree s t found))
+      one-more : find key (entries (fieldsOf s t n)) ≡
+          orEarlier (findLast key (eachSorted (entries (membersAt s t (afterAt t (k + 1)) e))))
+          (orEarlier (hit key (textAt s (startAt t k), tree s t (k + 1))) (foundTree s t found))
       unfolding findLast eachSorted tree
-      one-more = l .rest ∙ rw (m .value) (or-assoc (findLast key (eachSorted (entries (membersAt s t (afterAt t (k + 1)) e)))) (hit key (textAt s (startAt t k), tree s t (k + 1))) (foundTree s t found))
+      one-more =
+          l .rest ∙
+          rw (m .value)
+          (or-assoc (findLast key (eachSorted (entries (membersAt s t (afterAt t (k + 1)) e))))
+          (hit key (textAt s (startAt t k), tree s t (k + 1))) (foundTree s t found))
 
       pub pick-on : {a f k′ : ℕ} → a ≡ startAt t k → f ≡ cond (sameBytes key (textAt s a)) (k + 1) found → k′ ≡ afterAt t (k + 1) → Picking s t key n e f k′
       pick-on {a} {f} {k′} p q r = go (sameBytes key (textAt s (startAt t k))) refl

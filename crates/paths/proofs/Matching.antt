@@ -97,10 +97,16 @@ module _ {path s : Bytes} {name n : ℕ} (l : Alongside path s name n) where
         let f′ : getD s (name + n) 0 ≡ 34 → ⊥ = λ q. f (e ∙ q) in
         let g′ : getD s (name + n) 0 ≡ 92 → ⊥ = λ q. g (e ∙ q) in
         let x : name + (n + 1) ≡ name + n + 1 = omega arith in
-        record { onPath = text-behind (l .onPath) f g; onName = rw x (text-behind (l .onName) f′ g′); same = l .same ∙ part-on _ (text-begins (l .onPath) f g) m (text-begins (l .onName) f′ g′) e ∙ rw x }
+        record {
+          onPath = text-behind (l .onPath) f g;
+          onName = rw x (text-behind (l .onName) f′ g′);
+          same = l .same ∙ part-on _ (text-begins (l .onPath) f g) m (text-begins (l .onName) f′ g′) e ∙ rw x;
+        }
 
   -- two bytes that differ, none of which begins an escape: only a dot may stand where the text ends
-  pub alongside-apart : (getD path n 0 ≡ getD s (name + n) 0 → ⊥) → (getD path n 0 ≡ 92 → ⊥) → (getD s (name + n) 0 ≡ 92 → ⊥) → (getD path n 0 ≡ 46 → ⊥) → false ≡ sameBytes (part (textAt path 0)) (textAt s name)
+  pub alongside-apart :
+      (getD path n 0 ≡ getD s (name + n) 0 → ⊥) → (getD path n 0 ≡ 92 → ⊥) → (getD s (name + n) 0 ≡ 92 → ⊥) → (getD path n 0 ≡ 46 → ⊥) →
+      false ≡ sameBytes (part (textAt path 0)) (textAt s name)
   alongside-apart a g h m = sym (l .same ∙ go (eqb (getD path n 0) 34) refl (eqb (getD s (name + n) 0) 34) refl)
     where
       go : (b : Bool) → eqb (getD path n 0) 34 ≡ b → (k : Bool) → eqb (getD s (name + n) 0) 34 ≡ k → sameBytes (part (textAt path n)) (textAt s (name + n)) ≡ false

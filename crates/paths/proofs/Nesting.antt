@@ -58,7 +58,8 @@ unfolding walk
 walk-low [] v {w} e = let z : v ≡ w = cc in rw z (omega arith)
 walk-low (k ∷ ks) v {w} e = go (λ u. walk-low ks u) (memberStep k v) refl e
   where
-    go : ((u : Value) → walk kernel ks u ≡ some w → depth w ≤ depth u) → (x : Option Value) → memberStep k v ≡ x → elim x as (λ _. Option Value) [ none ↦ none | some u ↦ walk kernel ks u ] ≡ some w → depth w ≤ depth v
+    go : ((u : Value) → walk kernel ks u ≡ some w → depth w ≤ depth u) → (x : Option Value) → memberStep k v ≡ x →
+        elim x as (λ _. Option Value) [ none ↦ none | some u ↦ walk kernel ks u ] ≡ some w → depth w ≤ depth v
     go rest none q z = absurd (impossible (cc))
     go rest (some u) q z = let a = step-low k v q in let b = rest u z in omega arith
 
@@ -123,7 +124,8 @@ module _ {C : Type 0} (sheet : Sheet C) (low : LowSheet sheet) where
   unfolding LowAnswer unbound
   unbound-low e name [] v h = go (find name (roots sheet)) refl h
     where
-      go : (x : Option (Result (Option Value))) → find name (roots sheet) ≡ x → elim x as (λ _. Result (Option Value)) [ none ↦ refused (unknownExpression (36 ∷ e)) | some r ↦ r ] ≡ ok (some v) → depth v ≤ 64
+      go : (x : Option (Result (Option Value))) → find name (roots sheet) ≡ x →
+          elim x as (λ _. Result (Option Value)) [ none ↦ refused (unknownExpression (36 ∷ e)) | some r ↦ r ] ≡ ok (some v) → depth v ≤ 64
       go none q z = absurd (impossible (cc))
       go (some r) q z = find-entry LowAnswer name (roots sheet) roots-low q v z
   unbound-low e name (p ∷ ps) v h = go (find name (bases sheet)) refl h
@@ -132,7 +134,9 @@ module _ {C : Type 0} (sheet : Sheet C) (low : LowSheet sheet) where
       inside [] ms k z = absurd (impossible (cc))
       inside (c ∷ q) ms k z = let y : walk kernel ((c ∷ q) ∷ ps) (object ms) ≡ some v = cc in let d = walk-low ((c ∷ q) ∷ ps) (object ms) y in omega arith
 
-      go : (x : Option Members) → find name (bases sheet) ≡ x → elim x as (λ _. Result (Option Value)) [ none ↦ refused (unknownExpression (36 ∷ e)) | some ms ↦ ok (below kernel sheet p ps ms) ] ≡ ok (some v) → depth v ≤ 64
+      go : (x : Option Members) → find name (bases sheet) ≡ x →
+          elim x as (λ _. Result (Option Value))
+          [ none ↦ refused (unknownExpression (36 ∷ e)) | some ms ↦ ok (below kernel sheet p ps ms) ] ≡ ok (some v) → depth v ≤ 64
       go none q z = absurd (impossible (cc))
       go (some ms) q z = inside p ms (find-entry (λ ms. depth (object ms) ≤ 64) name (bases sheet) bases-low q) z
 
@@ -153,7 +157,9 @@ module _ {C : Type 0} (sheet : Sheet C) (low : LowSheet sheet) where
       go [] z = absurd (impossible (cc))
       go (name ∷ path) z = decide (find name env) refl z
         where
-          decide : (x : Option Value) → find name env ≡ x → elim x as (λ _. Result (Option Value)) [ some u ↦ ok (walk kernel path u) | none ↦ unbound kernel sheet e name path ] ≡ ok (some v) → depth v ≤ 64 * (length env + 1)
+          decide : (x : Option Value) → find name env ≡ x →
+              elim x as (λ _. Result (Option Value)) [ some u ↦ ok (walk kernel path u) | none ↦ unbound kernel sheet e name path ] ≡
+              ok (some v) → depth v ≤ 64 * (length env + 1)
           decide none q y = let k = unbound-low e name path v y in omega arith
           decide (some u) q y = let k = env-low name env h q in let w : walk kernel path u ≡ some v = cc in let l = walk-low path u w in omega arith
 

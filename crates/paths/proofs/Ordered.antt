@@ -44,7 +44,8 @@ module _ (t : List ℕ) (c : Children) where
       go zero = refl
       go (suc m) = rw (le-ltb (c .at) (c .end) h, nextBy)
 
-  pub next-is : {a : ℕ} → (c .left ≡ 0 → ⊥) → c .at < c .end → a ≡ onward t (c .named) (c .at) → child.Is (record { node = c .at; rest = record { named = c .named; end = c .end; at = a; left = c .left - 1 } }) ≡ nextOf t c
+  pub next-is : {a : ℕ} → (c .left ≡ 0 → ⊥) → c .at < c .end → a ≡ onward t (c .named) (c .at) →
+      child.Is (record { node = c .at; rest = record { named = c .named; end = c .end; at = a; left = c .left - 1 } }) ≡ nextOf t c
   unfolding nextBy
   next-is n h e = let q : c .left ≡ suc (c .left - 1) = omega arith in rw e (sym (ap (nextBy t (c .named) (c .end) (c .at)) q ∙ rw (lt-ltb (c .at) (c .end) h, nextBy)))
 
@@ -54,7 +55,8 @@ unfolding childrenBy
 ChildTold s t c child.End = childrenOf t c ≡ []
 ChildTold s t c (child.Is x) = Given s t c (x .node) (x .rest)
 
-next-told : (s : Bytes) (t : List ℕ) (named : Bool) (e k m : ℕ) → ChildrenAt s t (record { named = named; end = e; at = k; left = m }) → ChildTold s t (record { named = named; end = e; at = k; left = m }) (nextBy t named e k m)
+next-told : (s : Bytes) (t : List ℕ) (named : Bool) (e k m : ℕ) → ChildrenAt s t (record { named = named; end = e; at = k; left = m }) →
+    ChildTold s t (record { named = named; end = e; at = k; left = m }) (nextBy t named e k m)
 unfolding ChildTold childrenBy nextBy EachAt
 next-told s t named e k zero a = refl
 next-told s t named e k (suc m) a = go (ltb k e) refl

@@ -50,7 +50,9 @@ nothing-at : (s : Bytes) (t : List ℕ) → OperandAt s t (record { node = 0; de
 unfolding Fits
 nothing-at s t = record { node = omega arith; depth = omega arith; fits = tt }
 
-pub null-none : {r x : Looked} {o : Operand} → r ≡ x → o ≡ record { node = 0; depth = 0; kind = kinds.Null } → ((s : Bytes) (t : List ℕ) (e : Bytes) → orNull (lookedOf s t e x) ≡ given null) → NullTold r o
+pub null-none : {r x : Looked} {o : Operand} → r ≡ x → o ≡
+    record { node = 0; depth = 0; kind = kinds.Null } → ((s : Bytes) (t : List ℕ) (e : Bytes) → orNull (lookedOf s t e x) ≡ given null) →
+    NullTold r o
 unfolding meant
 null-none q p z s t e h = rw (q, p) (record { means = sym (z s t e); fits = nothing-at s t })
 
@@ -88,11 +90,13 @@ parts-on e z = parts-by e ∙ ap (λ (o : Option Bytes). part e ∷ partsAfter o
 
 -- `touched` is how a written part is read
 module _ (sheet : Sheet Condition) (touched : lazy.Frames → Value → lazy.Operand) (fs : lazy.Frames) where
-  look-bound : (e : Bytes) {name : Bytes} {path : List Bytes} {o : lazy.Operand} → parts e ≡ name ∷ path → find name fs ≡ some o → look sheet touched fs e ≡ ok (walkFrom sheet touched fs path o)
+  look-bound : (e : Bytes) {name : Bytes} {path : List Bytes} {o : lazy.Operand} → parts e ≡ name ∷ path → find name fs ≡ some o →
+      look sheet touched fs e ≡ ok (walkFrom sheet touched fs path o)
   unfolding look lookParts
   look-bound e p q = ap (lookParts sheet touched fs e) p ∙ rw (q, lookParts)
 
-  look-free : (e : Bytes) {name : Bytes} {path : List Bytes} → parts e ≡ name ∷ path → find name fs ≡ none → look sheet touched fs e ≡ (unbound kernel sheet e name path >>= λ x. ok (mapSome given x))
+  look-free : (e : Bytes) {name : Bytes} {path : List Bytes} → parts e ≡ name ∷ path → find name fs ≡ none →
+      look sheet touched fs e ≡ (unbound kernel sheet e name path >>= λ x. ok (mapSome given x))
   unfolding look lookParts
   look-free e p q = ap (lookParts sheet touched fs e) p ∙ rw (q, lookParts)
 
@@ -101,7 +105,8 @@ module _ (sheet : Sheet Condition) (touched : lazy.Frames → Value → lazy.Ope
   unfolding walkFrom
   walk-none k ks o q = rw (q, walkFrom)
 
-  walk-some : (k : Bytes) (ks : List Bytes) (o : lazy.Operand) {p : lazy.Operand} → stepFrom sheet touched fs k o ≡ some p → walkFrom sheet touched fs (k ∷ ks) o ≡ walkFrom sheet touched fs ks p
+  walk-some : (k : Bytes) (ks : List Bytes) (o : lazy.Operand) {p : lazy.Operand} → stepFrom sheet touched fs k o ≡ some p →
+      walkFrom sheet touched fs (k ∷ ks) o ≡ walkFrom sheet touched fs ks p
   unfolding walkFrom
   walk-some k ks o q = rw (q, walkFrom)
 
@@ -111,15 +116,22 @@ module _ (sheet : Sheet Condition) (touched : lazy.Frames → Value → lazy.Ope
   given-walk [] x = refl
   given-walk (k ∷ ks) x = go (memberStep k x) refl (λ y. given-walk ks y)
     where
-      go : (o : Option Value) → memberStep k x ≡ o → ((y : Value) → walkFrom sheet touched fs ks (given y) ≡ mapSome given (walk kernel ks y)) → walkFrom sheet touched fs (k ∷ ks) (given x) ≡ mapSome given (walk kernel (k ∷ ks) x)
+      go : (o : Option Value) → memberStep k x ≡ o →
+          ((y : Value) → walkFrom sheet touched fs ks (given y) ≡ mapSome given (walk kernel ks y)) →
+          walkFrom sheet touched fs (k ∷ ks) (given x) ≡ mapSome given (walk kernel (k ∷ ks) x)
       go none q further-on = let w : walk kernel (k ∷ ks) x ≡ none = rw (q, walk) in walk-none k ks (given x) (ap (mapSome given) q) ∙ ap (mapSome given) (sym w)
-      go (some y) q further-on = let w : walk kernel (k ∷ ks) x ≡ walk kernel ks y = rw (q, walk) in walk-some k ks (given x) (ap (mapSome given) q) ∙ further-on y ∙ ap (mapSome given) (sym w)
+      go (some y) q further-on =
+          let w : walk kernel (k ∷ ks) x ≡ walk kernel ks y = rw (q, walk) in walk-some k ks (given x) (ap (mapSome given) q) ∙
+          further-on y ∙
+          ap (mapSome given) (sym w)
 
-from-base : (sheet : Sheet Condition) (e name : Bytes) (p : Bytes) (ps : List Bytes) {ms : Members} → find name (bases sheet) ≡ some ms → unbound kernel sheet e name (p ∷ ps) ≡ ok (below kernel sheet p ps ms)
+from-base : (sheet : Sheet Condition) (e name : Bytes) (p : Bytes) (ps : List Bytes) {ms : Members} → find name (bases sheet) ≡ some ms →
+    unbound kernel sheet e name (p ∷ ps) ≡ ok (below kernel sheet p ps ms)
 unfolding unbound
 from-base sheet e name p ps q = rw (q, unbound)
 
-no-base : (sheet : Sheet Condition) (e name : Bytes) (p : Bytes) (ps : List Bytes) → find name (bases sheet) ≡ none → unbound kernel sheet e name (p ∷ ps) ≡ refused (unknownExpression (36 ∷ e))
+no-base : (sheet : Sheet Condition) (e name : Bytes) (p : Bytes) (ps : List Bytes) → find name (bases sheet) ≡ none →
+    unbound kernel sheet e name (p ∷ ps) ≡ refused (unknownExpression (36 ∷ e))
 unfolding unbound
 no-base sheet e name p ps q = rw (q, unbound)
 
@@ -135,7 +147,9 @@ module _ (sheet : Sheet Condition) (touched : lazy.Frames → Value → lazy.Ope
     look-root q z w = rw (look-free sheet touched fs e (parts-last e z) (bound-not h q), root-whole sheet e (part e)) w
 
     module _ (rest : Bytes) (z : further e ≡ some rest) where
-      pub look-walk : (o : Operand) → b ≡ bounds.At o → {w : Bound} {r : Looked} → BoundAs s t w (walkFrom sheet touched fs (parts rest) (operandOf s t o)) → r ≡ foundAs w → LookedAs s t e r (look sheet touched fs e)
+      pub look-walk : (o : Operand) → b ≡ bounds.At o → {w : Bound} {r : Looked} →
+          BoundAs s t w (walkFrom sheet touched fs (parts rest) (operandOf s t o)) → r ≡ foundAs w →
+          LookedAs s t e r (look sheet touched fs e)
       look-walk o q w p = rw (look-bound sheet touched fs e (parts-on e z) (bound-is h o q)) (bound-looked w e p)
 
       module _ (q : b ≡ bounds.Nothing) {c : Bound} (g : BoundAs s t c (baseGives sheet (rootOf (part e)))) where
@@ -149,7 +163,8 @@ module _ (sheet : Sheet Condition) (touched : lazy.Frames → Value → lazy.Ope
         unfolding baseGives mapSome lookedOf LookedFits
         look-unknown p = go (baseMembers sheet (rootOf (part e))) refl (bound-not g p)
           where
-            go : (x : Option Members) → baseMembers sheet (rootOf (part e)) ≡ x → mapSome (λ ms. given (object ms)) x ≡ none → LookedAs s t e lookeds.Unknown (look sheet touched fs e)
+            go : (x : Option Members) → baseMembers sheet (rootOf (part e)) ≡ x → mapSome (λ ms. given (object ms)) x ≡ none →
+                LookedAs s t e lookeds.Unknown (look sheet touched fs e)
             go none k l = record { means = sym (free ∙ rw (no-base sheet e (part e) (part rest) others (base-whole sheet (part e) ∙ k))); fits = tt }
             go (some ms) k l = absurd (impossible (cc))
 
@@ -166,11 +181,16 @@ module _ (sheet : Sheet Condition) (touched : lazy.Frames → Value → lazy.Ope
           unfolding lookedOf LookedFits mapSome
           look-empty k = based λ ms l _. record { means = sym (free ∙ rw (sameBytes-true (part rest) [] (sym k), from-base sheet e (part e) [] others l)); fits = tt }
 
-          pub look-base : false ≡ sameBytes (part rest) [] → {w : Bound} {r : Looked} → BoundAs s t w (walkFrom sheet touched fs (parts rest) (operandOf s t o)) → r ≡ foundAs w → LookedAs s t e r (look sheet touched fs e)
+          pub look-base : false ≡ sameBytes (part rest) [] → {w : Bound} {r : Looked} →
+              BoundAs s t w (walkFrom sheet touched fs (parts rest) (operandOf s t o)) → r ≡ foundAs w →
+              LookedAs s t e r (look sheet touched fs e)
           unfolding sameBytes
           look-base k {w} y r = based λ ms l v. rw (free ∙ go (part rest) refl ms l v) (bound-looked y e r)
             where
-              go : (n : Bytes) → part rest ≡ n → (ms : Members) → find (part e) (bases sheet) ≡ some ms → given (object ms) ≡ operandOf s t o → (unbound kernel sheet e (part e) (part rest ∷ others) >>= λ x. ok (mapSome given x)) ≡ ok (walkFrom sheet touched fs (parts rest) (operandOf s t o))
+              go :
+                  (n : Bytes) → part rest ≡ n → (ms : Members) → find (part e) (bases sheet) ≡ some ms → given (object ms) ≡ operandOf s t o →
+                  (unbound kernel sheet e (part e) (part rest ∷ others) >>= λ x. ok (mapSome given x)) ≡
+                  ok (walkFrom sheet touched fs (parts rest) (operandOf s t o))
               go [] n ms l v = absurd (impossible (let a : false ≡ true = k ∙ rw n in cc))
               go (d ∷ n) m ms l v =
                   rw (m, from-base sheet e (part e) (d ∷ n) others l)
@@ -180,14 +200,31 @@ module _ (sheet : Sheet Condition) (touched : lazy.Frames → Value → lazy.Ope
   module _ (o : lazy.Operand) {b : Bound} (h : BoundAs s t b (stepFrom sheet touched fs (part e) o)) where
     pub walk-stops : b ≡ bounds.Nothing → BoundAs s t bounds.Nothing (walkFrom sheet touched fs (parts e) o)
     unfolding boundOf BoundFits
-    walk-stops q = record { means = sym (ap (λ (l : List Bytes). walkFrom sheet touched fs l o) (parts-by e) ∙ walk-none sheet touched fs (part e) (partsAfter (further e)) o (bound-not h q)); fits = tt }
+    walk-stops q =
+        record {
+          means = sym
+              (ap (λ (l : List Bytes). walkFrom sheet touched fs l o) (parts-by e) ∙
+              walk-none sheet touched fs (part e) (partsAfter (further e)) o (bound-not h q));
+          fits = tt;
+        }
 
     pub walk-arrives : (p : Operand) → b ≡ bounds.At p → further e ≡ none → BoundAs s t (bounds.At p) (walkFrom sheet touched fs (parts e) o)
     unfolding boundOf BoundFits walkFrom
-    walk-arrives p q z = record { means = sym (ap (λ (l : List Bytes). walkFrom sheet touched fs l o) (parts-last e z) ∙ walk-some sheet touched fs (part e) [] o (bound-is h p q)); fits = bound-fits h p q }
+    walk-arrives p q z =
+        record {
+          means = sym
+              (ap (λ (l : List Bytes). walkFrom sheet touched fs l o) (parts-last e z) ∙
+              walk-some sheet touched fs (part e) [] o (bound-is h p q));
+          fits = bound-fits h p q;
+        }
 
-    pub walk-goes : (p : Operand) → b ≡ bounds.At p → (rest : Bytes) → further e ≡ some rest → {w : Bound} → BoundAs s t w (walkFrom sheet touched fs (parts rest) (operandOf s t p)) → BoundAs s t w (walkFrom sheet touched fs (parts e) o)
-    walk-goes p q rest z {w} y = subst (BoundAs s t w) (sym (ap (λ (l : List Bytes). walkFrom sheet touched fs l o) (parts-on e z) ∙ walk-some sheet touched fs (part e) (parts rest) o (bound-is h p q))) y
+    pub walk-goes : (p : Operand) → b ≡ bounds.At p → (rest : Bytes) → further e ≡ some rest → {w : Bound} →
+        BoundAs s t w (walkFrom sheet touched fs (parts rest) (operandOf s t p)) → BoundAs s t w (walkFrom sheet touched fs (parts e) o)
+    walk-goes p q rest z {w} y =
+        subst (BoundAs s t w)
+        (sym
+        (ap (λ (l : List Bytes). walkFrom sheet touched fs l o) (parts-on e z) ∙
+        walk-some sheet touched fs (part e) (parts rest) o (bound-is h p q))) y
 
 -- a member that was found
 module _ {s : Bytes} {t : List ℕ} {k : Bytes} {n v : ℕ} (h : MemberTold s t k n v) where
@@ -199,7 +236,8 @@ module _ {s : Bytes} {t : List ℕ} {k : Bytes} {n v : ℕ} (h : MemberTold s t 
   unfolding foundTree FoundNode
   member-is q = go v (h .is) (h .node) q
     where
-      go : (x : ℕ) → find k (entries (fieldsOf s t n)) ≡ foundTree s t x → FoundNode s t x → (x ≡ 0 → ⊥) → (find k (entries (fieldsOf s t n)) ≡ some (tree s t x)) × HasNode s t x
+      go : (x : ℕ) → find k (entries (fieldsOf s t n)) ≡ foundTree s t x → FoundNode s t x → (x ≡ 0 → ⊥) →
+          (find k (entries (fieldsOf s t n)) ≡ some (tree s t x)) × HasNode s t x
       go zero i f z = absurd (z refl)
       go (suc x) i f z = (i, f)
 
@@ -215,7 +253,9 @@ module _ (sheet : Sheet Condition) (touched : lazy.Frames → Value → lazy.Ope
   unfolding stepFrom meant boundOf BoundFits mapSome
   object-none q h z = record { means = rw (meant-as s t o kinds.Object q, member-not h z); fits = tt }
 
-  pub object-some : {v : ℕ} {p : Operand} → o .kind ≡ kinds.Object → MemberTold s t k (o .node) v → (v ≡ 0 → ⊥) → Means s t p (given (tree s t v)) → BoundAs s t (bounds.At p) (stepFrom sheet touched fs k (operandOf s t o))
+  pub object-some :
+      {v : ℕ} {p : Operand} → o .kind ≡ kinds.Object → MemberTold s t k (o .node) v → (v ≡ 0 → ⊥) → Means s t p (given (tree s t v)) →
+      BoundAs s t (bounds.At p) (stepFrom sheet touched fs k (operandOf s t o))
   unfolding stepFrom meant boundOf BoundFits mapSome
   object-some q h z m = record { means = rw (meant-as s t o kinds.Object q, member-is h z .0, m .means); fits = m .fits }
 
@@ -223,7 +263,8 @@ module _ (sheet : Sheet Condition) (touched : lazy.Frames → Value → lazy.Ope
   unfolding stepFrom meant boundOf BoundFits mapSome
   named-none q h z = record { means = rw (meant-as s t o kinds.Named q, member-not h z); fits = tt }
 
-  pub named-some : {v : ℕ} {p : Operand} → o .kind ≡ kinds.Named → MemberTold s t k (o .node) v → (v ≡ 0 → ⊥) → Means s t p (touched (outer (o .depth) fs) (tree s t v)) → BoundAs s t (bounds.At p) (stepFrom sheet touched fs k (operandOf s t o))
+  pub named-some : {v : ℕ} {p : Operand} → o .kind ≡ kinds.Named → MemberTold s t k (o .node) v → (v ≡ 0 → ⊥) →
+      Means s t p (touched (outer (o .depth) fs) (tree s t v)) → BoundAs s t (bounds.At p) (stepFrom sheet touched fs k (operandOf s t o))
   unfolding stepFrom meant boundOf BoundFits mapSome
   named-some q h z m = record { means = rw (meant-as s t o kinds.Named q, member-is h z .0, m .means); fits = m .fits }
 
@@ -254,7 +295,9 @@ module _ (sheet : Sheet Condition) {s : Bytes} {t : List ℕ} (fs : lazy.Frames)
   touch-none left e q = rw (e, q) (record { means = refl; fits = nothing-at s t })
 
   module _ (left : ℕ) (more : left ≡ 0 → ⊥) where
-    pub touch-written : HasNode s t n → (c : ℕ) → c ≡ kindAt t n → (c ≡ 4 → ⊥) → {x : Kind} → x ≡ writtenKind c → {d : ℕ} → d ≡ length fs → d ≤ 32 → Means s t (record { node = n; depth = d; kind = x }) (touch sheet left fs (tree s t n))
+    pub touch-written :
+        HasNode s t n → (c : ℕ) → c ≡ kindAt t n → (c ≡ 4 → ⊥) → {x : Kind} → x ≡ writtenKind c → {d : ℕ} → d ≡ length fs → d ≤ 32 →
+        Means s t (record { node = n; depth = d; kind = x }) (touch sheet left fs (tree s t n))
     unfolding readPart meant Fits
     touch-written h c e u {x} p {d} l few = rw (once-more sheet fs left (tree s t n) more, p) (go (layer s t n h))
       where
@@ -272,10 +315,17 @@ module _ (sheet : Sheet Condition) {s : Bytes} {t : List ℕ} (fs : lazy.Frames)
       unfolding readPart meant Fits
       touch-plain e = rw (once-more sheet fs left (tree s t n) more, text-row row .value, e, readPart) (record { means = refl; fits = operand-at (row .node) (omega arith) row })
 
-      pub touch-less : {p : ℕ} → readText (textAt s (startAt t n)) ≡ escaped (textAt s p) → Behind s (startAt t n) p → Means s t (record { node = n; depth = 0; kind = kinds.Less }) (touch sheet left fs (tree s t n))
+      pub touch-less : {p : ℕ} → readText (textAt s (startAt t n)) ≡ escaped (textAt s p) → Behind s (startAt t n) p →
+          Means s t (record { node = n; depth = 0; kind = kinds.Less }) (touch sheet left fs (tree s t n))
       unfolding readPart meant Fits
-      touch-less {p} e b = rw (once-more sheet fs left (tree s t n) more, text-row row .value, e, readPart) (record { means = ap (λ (x : Bytes). given (text (lessOne x))) (b .dollar); fits = operand-at (row .node) (omega arith) (row, (textAt s p, b .dollar)) })
+      touch-less {p} e b =
+          rw (once-more sheet fs left (tree s t n) more, text-row row .value, e, readPart)
+          (record {
+            means = ap (λ (x : Bytes). given (text (lessOne x))) (b .dollar);
+            fits = operand-at (row .node) (omega arith) (row, (textAt s p, b .dollar));
+          })
 
-      pub touch-looked : {e : Bytes} {r : Looked} {o : Operand} → readText (textAt s (startAt t n)) ≡ expression e → LookedAs s t e r (look sheet (touch sheet (left - 1)) fs e) → NullTold r o → Means s t o (touch sheet left fs (tree s t n))
+      pub touch-looked : {e : Bytes} {r : Looked} {o : Operand} → readText (textAt s (startAt t n)) ≡ expression e →
+          LookedAs s t e r (look sheet (touch sheet (left - 1)) fs e) → NullTold r o → Means s t o (touch sheet left fs (tree s t n))
       unfolding readPart
       touch-looked {e} {r} {o} q l z = rw (once-more sheet fs left (tree s t n) more, text-row row .value, q, readPart, ← l .means) (z s t e (l .fits))

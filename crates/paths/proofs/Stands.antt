@@ -9,7 +9,28 @@ use native.Mathlib.Omega.{arith}
 use lib.Dec.{leb}
 use lib.ListN.{length}
 use borrow.Author.Tests.{leb-true, leb-false}
-use Rattle.paths.specs.Lazy.{Frames, Operand, given, listed, look, lookParts, lookup, mapSome, named, observe, operand, operandIn, operandOf, operandText, orNull, outer, readPart, stepFrom, touch, walkFrom}
+use Rattle.paths.specs.Lazy.{
+  Frames,
+  Operand,
+  given,
+  listed,
+  look,
+  lookParts,
+  lookup,
+  mapSome,
+  named,
+  observe,
+  operand,
+  operandIn,
+  operandOf,
+  operandText,
+  orNull,
+  outer,
+  readPart,
+  stepFrom,
+  touch,
+  walkFrom,
+}
 use Rattle.semantics.specs.Expression.{Env, gives, givesParts, parts, unbound, walk}
 use Rattle.semantics.specs.Names.{Names}
 use Rattle.semantics.specs.Operand.{Resolved, Written, both, escaped, expression, missing, observed, plain, present, readText, resolve, resolveIn, resolveOf, resolveText, same}
@@ -58,7 +79,8 @@ outer-outer {A} d e (x ∷ xs) h = go (outer-outer d e xs h) (leb (suc (length x
     go below false q = let k = leb-false (suc (length xs)) e q in rw (outer-cons e x xs (omega arith), outer-cons d x xs (omega arith)) below
 
 -- what a present whole says of its parts
-pub both-inv : {A B D : Type 0} (f : A → B → D) {d : D} (x : Result (Resolved A)) (y : Result (Resolved B)) → (x >>= λ r. y >>= λ q. ok (both f r q)) ≡ ok (present d) → (a : A) × (b : B) × (x ≡ ok (present a)) × (y ≡ ok (present b)) × (f a b ≡ d)
+pub both-inv : {A B D : Type 0} (f : A → B → D) {d : D} (x : Result (Resolved A)) (y : Result (Resolved B)) →
+    (x >>= λ r. y >>= λ q. ok (both f r q)) ≡ ok (present d) → (a : A) × (b : B) × (x ≡ ok (present a)) × (y ≡ ok (present b)) × (f a b ≡ d)
 both-inv f (ok (present a)) (ok (present b)) e = (a, b, refl, refl, cc)
 both-inv f (ok (present a)) (ok (missing ns)) e = absurd (impossible (cc))
 both-inv f (ok (present a)) (refused r) e = absurd (impossible (cc))
@@ -163,7 +185,8 @@ module _ {C : Type 0} (sheet : Sheet C) where
   binder-found name noFrame = neither
   binder-found name (frame {x = x} {o = o} {v = v} {fs = fs} {env = env} h s) = go (binder-found name s) (sameBytes name x) refl
     where
-      go : Maybe (Bound env) (find name fs) (find name env) → (b : Bool) → sameBytes name x ≡ b → Maybe (Bound ((x, v) ∷ env)) (find name ((x, o) ∷ fs)) (find name ((x, v) ∷ env))
+      go : Maybe (Bound env) (find name fs) (find name env) → (b : Bool) → sameBytes name x ≡ b →
+          Maybe (Bound ((x, v) ∷ env)) (find name ((x, o) ∷ fs)) (find name ((x, v) ∷ env))
       go below true e = rw (e, find) (each (record { under = length env; fewer = omega arith; stands = stands-under (omega arith) h }))
       go below false e = rw (e, find) (lift below)
         where
@@ -177,21 +200,30 @@ module _ {C : Type 0} (sheet : Sheet C) where
   member-found k noMember = neither
   member-found {env} k (oneMember {k = l} {v = v} {w = w} {ms = ms} {ns = ns} h s) = go (member-found k s) (sameBytes k l) refl
     where
-      go : Maybe (λ v w. resolve kernel sheet env v ≡ ok (present w)) (find k (entries ms)) (find k (entries ns)) → (b : Bool) → sameBytes k l ≡ b → Maybe (λ v w. resolve kernel sheet env v ≡ ok (present w)) (find k (entries (member l v ms))) (find k (entries (member l w ns)))
+      go : Maybe (λ v w. resolve kernel sheet env v ≡ ok (present w)) (find k (entries ms)) (find k (entries ns)) → (b : Bool) →
+          sameBytes k l ≡ b →
+          Maybe (λ v w. resolve kernel sheet env v ≡ ok (present w)) (find k (entries (member l v ms))) (find k (entries (member l w ns)))
       go below true e = rw (e, find) (each h)
       go below false e = rw (e, find) below
 
   -- parts are touched rightly, where the number exceeds the frames
   abbrev pub Touches : ℕ → Type 0
-  Touches n = (fs : Frames) (env : Env) (v w : Value) → Standing fs env → length env < n → resolve kernel sheet env v ≡ ok (present w) → Stands env (length env) (touch sheet n fs v) w
+  Touches n =
+      (fs : Frames) (env : Env) (v w : Value) → Standing fs env → length env < n → resolve kernel sheet env v ≡
+      ok (present w) → Stands env (length env) (touch sheet n fs v) w
 
   module _ (n : ℕ) (touches : Touches n) where
-    pub touched-outer : {fs : Frames} {env : Env} {b d : ℕ} (v : Value) {w : Value} → Standing fs env → b ≤ length env → d ≤ b → d < n → resolve kernel sheet (outer d env) v ≡ ok (present w) → Stands env b (touch sheet n (outer d fs) v) w
+    pub touched-outer : {fs : Frames} {env : Env} {b d : ℕ} (v : Value) {w : Value} → Standing fs env → b ≤ length env → d ≤ b → d < n →
+        resolve kernel sheet (outer d env) v ≡ ok (present w) → Stands env b (touch sheet n (outer d fs) v) w
     touched-outer {fs} {env} {b} {d} v {w} s h k l e =
         let len : length (outer d env) ≡ d = outer-length d env (omega arith) in
-        stands-mono k (stands-outer d (subst (λ (m : ℕ). Stands (outer d env) m (touch sheet n (outer d fs) v) w) len (touches (outer d fs) (outer d env) v w (standing-outer d s) (omega arith) e)))
+        stands-mono k
+        (stands-outer d
+        (subst (λ (m : ℕ). Stands (outer d env) m (touch sheet n (outer d fs) v) w) len
+        (touches (outer d fs) (outer d env) v w (standing-outer d s) (omega arith) e)))
 
-    step-stands : {fs : Frames} {env : Env} {b : ℕ} {o : Operand} {v : Value} (k : Bytes) → Standing fs env → b ≤ length env → b < n → Stands env b o v → Maybe (Stands env b) (stepFrom sheet (touch sheet n) fs k o) (memberStep k v)
+    step-stands : {fs : Frames} {env : Env} {b : ℕ} {o : Operand} {v : Value} (k : Bytes) → Standing fs env → b ≤ length env → b < n →
+        Stands env b o v → Maybe (Stands env b) (stepFrom sheet (touch sheet n) fs k o) (memberStep k v)
     unfolding stepFrom mapSome
     step-stands {env = env} {b = b} {v = v} k s h l itself = go (memberStep k v)
       where
@@ -205,16 +237,21 @@ module _ {C : Type 0} (sheet : Sheet C) where
         go neither = neither
         go (each r) = each (touched-outer _ s h c (omega arith) r)
 
-    walk-stands : {fs : Frames} {env : Env} {b : ℕ} {o : Operand} {v : Value} (ks : List Bytes) → Standing fs env → b ≤ length env → b < n → Stands env b o v → Maybe (Stands env b) (walkFrom sheet (touch sheet n) fs ks o) (walk kernel ks v)
+    walk-stands : {fs : Frames} {env : Env} {b : ℕ} {o : Operand} {v : Value} (ks : List Bytes) → Standing fs env → b ≤ length env → b < n →
+        Stands env b o v → Maybe (Stands env b) (walkFrom sheet (touch sheet n) fs ks o) (walk kernel ks v)
     unfolding walkFrom walk
     walk-stands [] s h l st = each st
     walk-stands {fs} {env} {b} {o} {v} (k ∷ ks) s h l st = go (λ p w q. walk-stands ks s h l q) (step-stands k s h l st)
       where
-        go : ((p : Operand) (w : Value) → Stands env b p w → Maybe (Stands env b) (walkFrom sheet (touch sheet n) fs ks p) (walk kernel ks w)) → {x : Option Operand} {y : Option Value} → Maybe (Stands env b) x y → Maybe (Stands env b) (elim x [ none ↦ none | some p ↦ walkFrom sheet (touch sheet n) fs ks p ]) (elim y [ none ↦ none | some w ↦ walk kernel ks w ])
+        go : ((p : Operand) (w : Value) → Stands env b p w → Maybe (Stands env b) (walkFrom sheet (touch sheet n) fs ks p)
+            (walk kernel ks w)) → {x : Option Operand} {y : Option Value} → Maybe (Stands env b) x y →
+            Maybe (Stands env b) (elim x [ none ↦ none | some p ↦ walkFrom sheet (touch sheet n) fs ks p ])
+            (elim y [ none ↦ none | some w ↦ walk kernel ks w ])
         go below neither = neither
         go below (each q) = below _ _ q
 
-    look-stands : {fs : Frames} {env : Env} (e : Bytes) → Standing fs env → length env ≤ n → Found (Stands env (length env)) (look sheet (touch sheet n) fs e) (gives kernel sheet env e)
+    look-stands : {fs : Frames} {env : Env} (e : Bytes) → Standing fs env → length env ≤ n →
+        Found (Stands env (length env)) (look sheet (touch sheet n) fs e) (gives kernel sheet env e)
     unfolding look lookParts gives givesParts mapSome
     look-stands {fs} {env} e s h = go (parts e)
       where
@@ -234,7 +271,14 @@ module _ {C : Type 0} (sheet : Sheet C) where
         go [] = notFound
         go (name ∷ path) = decide (binder-found name s)
           where
-            decide : {p : Option Operand} {q : Option Value} → Maybe (Bound env) p q → Found (Stands env (length env)) (elim p [ some o ↦ ok (walkFrom sheet (touch sheet n) fs path o) | none ↦ (unbound kernel sheet e name path >>= λ g. ok (mapSome given g)) ]) (elim q [ some v ↦ ok (walk kernel path v) | none ↦ unbound kernel sheet e name path ])
+            decide : {p : Option Operand} {q : Option Value} → Maybe (Bound env) p q →
+                Found (Stands env (length env))
+                (elim p [
+                  | some o ↦ ok (walkFrom sheet (touch sheet n) fs path o)
+                  | none ↦
+                      (unbound kernel sheet e name path >>= λ g. ok (mapSome given g))
+                ])
+                (elim q [ some v ↦ ok (walk kernel path v) | none ↦ unbound kernel sheet e name path ])
             decide neither = free (unbound kernel sheet e name path)
             decide (each k) = bound path k
 
@@ -264,7 +308,8 @@ module _ {C : Type 0} (sheet : Sheet C) where
   stands-given : {env : Env} {b : ℕ} {v w : Value} → ok (present v) ≡ ok (present w) → Stands env b (given v) w
   stands-given {env} {b} {v} {w} e = let z : v ≡ w = cc in subst (λ (x : Value). Stands env b (given v) x) z itself
 
-  touch-text : (n : ℕ) → Touches n → {fs : Frames} {env : Env} (t : Bytes) {w : Value} → Standing fs env → length env ≤ n → resolveText kernel sheet env t ≡ ok (present w) → Stands env (length env) (readPart sheet (touch sheet n) fs (text t)) w
+  touch-text : (n : ℕ) → Touches n → {fs : Frames} {env : Env} (t : Bytes) {w : Value} → Standing fs env → length env ≤ n →
+      resolveText kernel sheet env t ≡ ok (present w) → Stands env (length env) (readPart sheet (touch sheet n) fs (text t)) w
   unfolding readPart resolveText orNull
   touch-text n touches {fs} {env} t {w} s h e = go (readText t) refl
     where
@@ -296,7 +341,11 @@ module _ {C : Type 0} (sheet : Sheet C) where
   lookup-stands {fs} e s = let l = standing-length s in look-stands (length fs) (touch-stands (length fs)) e s (omega arith)
 
   -- Resolving agrees: present, missing with the same names in the same order, or the same refusal.
-  agree-both : {A B D E F : Type 0} {R : A → B → Type 0} {S : D → E → Type 0} {T : Unit {0} → F → Type 0} (f : B → E → F) {x : Result (Resolved A)} {y : Result (Resolved B)} {p : Result (Resolved D)} {q : Result (Resolved E)} → ((b : B) (d : D) (e : E) → y ≡ ok (present b) → S d e → T tt (f b e)) → Agree R x y → Agree S p q → Agree T (x >>= λ r. p >>= λ rs. ok (both (λ _ _. tt) r rs)) (y >>= λ r. q >>= λ rs. ok (both f r rs))
+  agree-both :
+      {A B D E F : Type 0} {R : A → B → Type 0} {S : D → E → Type 0} {T : Unit {0} → F → Type 0} (f : B → E → F) {x : Result (Resolved A)}
+      {y : Result (Resolved B)} {p : Result (Resolved D)} {q : Result (Resolved E)} →
+      ((b : B) (d : D) (e : E) → y ≡ ok (present b) → S d e → T tt (f b e)) → Agree R x y → Agree S p q →
+      Agree T (x >>= λ r. p >>= λ rs. ok (both (λ _ _. tt) r rs)) (y >>= λ r. q >>= λ rs. ok (both f r rs))
   agree-both f h refusing k = refusing
   agree-both f h lacking refusing = refusing
   agree-both f h lacking lacking = lacking
@@ -313,7 +362,8 @@ module _ {C : Type 0} (sheet : Sheet C) where
       null-missing x v true e = rw (e, observe, observed) lacking
       null-missing x v false e = rw (e, observe, observed) (standing itself)
 
-      found : (x : Bytes) {p : Result (Option Operand)} {q : Result (Option Value)} → Found (Stands env (length env)) p q → Agree (Stands env (length env)) (p >>= λ g. ok (observe x g)) (q >>= λ g. ok (observed x g))
+      found : (x : Bytes) {p : Result (Option Operand)} {q : Result (Option Value)} → Found (Stands env (length env)) p q →
+          Agree (Stands env (length env)) (p >>= λ g. ok (observe x g)) (q >>= λ g. ok (observed x g))
       found x notFound = refusing
       found x (finding neither) = lacking
       found x (finding (each (itself {v = v}))) = null-missing x v (isNull v) refl
@@ -335,13 +385,15 @@ module _ {C : Type 0} (sheet : Sheet C) where
     operand-agrees (text t) s = agree-text t s
     operand-agrees {fs} {env} (array vs) s = whole (operandIn-agrees vs s)
       where
-        whole : {x : Result (Resolved (Unit {0}))} {y : Result (Resolved Values)} → Agree (λ _ ws. EachIn env vs ws) x y → Agree (Stands env (length env)) (x >>= λ r. ok (same (λ _. listed (length fs) vs) r)) (y >>= λ r. ok (same array r))
+        whole : {x : Result (Resolved (Unit {0}))} {y : Result (Resolved Values)} → Agree (λ _ ws. EachIn env vs ws) x y →
+            Agree (Stands env (length env)) (x >>= λ r. ok (same (λ _. listed (length fs) vs) r)) (y >>= λ r. ok (same array r))
         whole refusing = refusing
         whole lacking = lacking
         whole (standing h) = standing (stands-in s h)
     operand-agrees {fs} {env} (object ms) s = whole (operandOf-agrees ms s)
       where
-        whole : {x : Result (Resolved (Unit {0}))} {y : Result (Resolved Members)} → Agree (λ _ ns. EachOf env ms ns) x y → Agree (Stands env (length env)) (x >>= λ r. ok (same (λ _. named (length fs) ms) r)) (y >>= λ r. ok (same object r))
+        whole : {x : Result (Resolved (Unit {0}))} {y : Result (Resolved Members)} → Agree (λ _ ns. EachOf env ms ns) x y →
+            Agree (Stands env (length env)) (x >>= λ r. ok (same (λ _. named (length fs) ms) r)) (y >>= λ r. ok (same object r))
         whole refusing = refusing
         whole lacking = lacking
         whole (standing h) = standing (stands-of s h)

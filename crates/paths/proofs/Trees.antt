@@ -140,7 +140,9 @@ unfolding valuesBy childrenBy fromNodes sortedIn
 items-by f t zero k e = refl
 items-by f t (suc m) k e = go (ltb k e) refl (items-by f t m (afterAt t k) e)
   where
-    go : (b : Bool) → ltb k e ≡ b → sortedIn (valuesBy f t m (afterAt t k) e) ≡ fromNodes (λ j. sorted (f j)) (childrenBy t false e (afterAt t k) m) → sortedIn (valuesBy f t (suc m) k e) ≡ fromNodes (λ j. sorted (f j)) (childrenBy t false e k (suc m))
+    go : (b : Bool) → ltb k e ≡ b →
+        sortedIn (valuesBy f t m (afterAt t k) e) ≡ fromNodes (λ j. sorted (f j)) (childrenBy t false e (afterAt t k) m) →
+        sortedIn (valuesBy f t (suc m) k e) ≡ fromNodes (λ j. sorted (f j)) (childrenBy t false e k (suc m))
     go true q below = rw (q, valuesBy, childrenBy) (ap (cons (sorted (f k))) below)
     go false q below = rw (q, valuesBy, childrenBy)
 
@@ -189,7 +191,9 @@ module _ (s : Bytes) (t : List ℕ) where
   named-names zero h = tt
   named-names (suc m) {left} {k} {e} h = go (ltb k e) refl (λ a. named-names m a)
     where
-      go : (b : Bool) → ltb k e ≡ b → (AreMembers s t left (afterAt t (k + 1)) e → Each (λ x. Named s t (x .1)) (namesBy s t m (afterAt t (k + 1)) e)) → Each (λ x. Named s t (x .1)) (namesBy s t (suc m) k e)
+      go : (b : Bool) → ltb k e ≡ b →
+          (AreMembers s t left (afterAt t (k + 1)) e → Each (λ x. Named s t (x .1)) (namesBy s t m (afterAt t (k + 1)) e)) →
+          Each (λ x. Named s t (x .1)) (namesBy s t (suc m) k e)
       go true q below =
           let x = members-more s t h (ltb-true k e q) in
           rw (q, namesBy) (record { text = record { stop = endAt t k; text = x .name; few = omega arith }; value = record { left = left; isNode = x .here } }, below (x .others))
@@ -205,7 +209,8 @@ module _ (s : Bytes) (t : List ℕ) where
   each-item zero h = tt
   each-item (suc m) {left} {k} {e} h = go (ltb k e) refl (λ a. each-item m a)
     where
-      go : (b : Bool) → ltb k e ≡ b → (AreNodes s t left (afterAt t k) e → EachAt s t false (childrenBy t false e (afterAt t k) m)) → EachAt s t false (childrenBy t false e k (suc m))
+      go : (b : Bool) → ltb k e ≡ b → (AreNodes s t left (afterAt t k) e → EachAt s t false (childrenBy t false e (afterAt t k) m)) →
+          EachAt s t false (childrenBy t false e k (suc m))
       go true q below =
           let x = values-more s t h (ltb-true k e q) in
           rw (q, childrenBy) (record { left = left; isNode = x .here }, below (x .others))
@@ -221,7 +226,9 @@ module _ (s : Bytes) (t : List ℕ) where
   linked-are zero k e = refl
   linked-are (suc m) k e = go (ltb k e) (linked-are m (linkAt t k) e)
     where
-      go : (b : Bool) → childrenBy t true e (linkAt t k) m ≡ linkedBy t m (linkAt t k) e → _≡_ {A = List ℕ} (elim b [ true ↦ k ∷ childrenBy t true e (linkAt t k) m | false ↦ [] ]) (elim b [ true ↦ k ∷ linkedBy t m (linkAt t k) e | false ↦ [] ])
+      go : (b : Bool) → childrenBy t true e (linkAt t k) m ≡
+          linkedBy t m (linkAt t k) e → _≡_ {A = List ℕ} (elim b [ true ↦ k ∷ childrenBy t true e (linkAt t k) m | false ↦ [] ])
+          (elim b [ true ↦ k ∷ linkedBy t m (linkAt t k) e | false ↦ [] ])
       go true below = ap (λ (l : List ℕ). k ∷ l) below
       go false below = refl
 

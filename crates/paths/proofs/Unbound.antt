@@ -15,7 +15,23 @@ use Rattle.members.specs.Sheet.{Sheet, noSheet}
 use Rattle.semantics.specs.Expression.{bases, below, roots, unbound}
 use Rattle.paths.specs.Lazy.{given, mapSome}
 use Rattle.paths.specs.Reached.{BoundAs, BoundFits, LookedAs, LookedFits, boundOf, lookedOf}
-use Rattle.paths.specs.Rooted.{BaseTold, IsNumber, IsObject, IsText, MayBeText, RootTold, baseGives, baseMembers, objectOperand, orUnknown, rootGives, rootNames, rootOf, rootValue, textLooked}
+use Rattle.paths.specs.Rooted.{
+  BaseTold,
+  IsNumber,
+  IsObject,
+  IsText,
+  MayBeText,
+  RootTold,
+  baseGives,
+  baseMembers,
+  objectOperand,
+  orUnknown,
+  rootGives,
+  rootNames,
+  rootOf,
+  rootValue,
+  textLooked,
+}
 use Rattle.semantics.specs.Semantics.{kernel}
 use Rattle.paths.specs.Stored.{Fits, meant}
 use Rattle.paths.specs.declared.operand.Bound.the-variants as bounds
@@ -50,7 +66,12 @@ module _ (sheet : Sheet Condition) (e k : Bytes) where
   no-entry = record { agree = refl }
 
   all-entries : Entries rootNames (roots sheet)
-  all-entries = entry root.Id (entry root.Entity (entry root.Version (entry root.FromState (entry root.ToState (entry root.ToState (entry root.Args (entry root.Fields (entry root.OldFields no-entry))))))))
+  all-entries =
+      entry root.Id
+      (entry root.Entity
+      (entry root.Version
+      (entry root.FromState
+      (entry root.ToState (entry root.ToState (entry root.Args (entry root.Fields (entry root.OldFields no-entry))))))))
 
   pub root-whole : unbound kernel sheet e k [] ≡ rootValue sheet e (rootOf k)
   unfolding unbound rootOf find

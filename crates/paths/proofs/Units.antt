@@ -205,7 +205,8 @@ pub unit-ended : (s : Bytes) (at : ℕ) {r : units.Unit} → UnitTold s at r →
 unfolding UnitTold
 unit-ended s at h e = subst (UnitTold s at) e h
 
-pub rest-was : {path : Bytes} {r : Rest} (p : ℕ) → RestTold path r → r ≡ rests.At p → (further (textAt path 0) ≡ some (textAt path p)) × OnText path p 0 × (0 < p) × (p ≤ length path)
+pub rest-was : {path : Bytes} {r : Rest} (p : ℕ) → RestTold path r → r ≡ rests.At p →
+    (further (textAt path 0) ≡ some (textAt path p)) × OnText path p 0 × (0 < p) × (p ≤ length path)
 unfolding RestTold
 rest-was {path} p h e = subst (RestTold path) e h
 

@@ -75,7 +75,9 @@ pub record ResolvedAs (quiet : Bool) (s : Bytes) (w w′ : List ℕ) (r : Resolv
 
 -- an expression's operand: null is missing
 abbrev pub Observed : Bool → List ℕ → List ℕ → Operand → ℕ → Resolved → Type 0
-Observed quiet w w′ o n r = ((o .kind ≡ kinds.Null) × (r ≡ resolved.Missing) × (w′ ≡ missed quiet w n)) ⊎ ((o .kind ≡ kinds.Null → ⊥) × (r ≡ resolved.Present o) × (w′ ≡ w))
+Observed quiet w w′ o n r =
+    ((o .kind ≡ kinds.Null) × (r ≡ resolved.Missing) × (w′ ≡ missed quiet w n)) ⊎
+    ((o .kind ≡ kinds.Null → ⊥) × (r ≡ resolved.Present o) × (w′ ≡ w))
 
 abbrev pub seenOf : Resolved → Part
 seenOf (resolved.Present o) = part.Seen true

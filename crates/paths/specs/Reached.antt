@@ -21,7 +21,10 @@ use Rattle.paths.specs.declared.operand.Looked.the-variants as lookeds
 
 -- the kind of a row of that code: a value of the sheet, and a written one
 abbrev pub valueKind : ℕ → Kind
-valueKind c = choose ((eqb c 0, kinds.Null) ∷ (eqb c 1, kinds.True) ∷ (eqb c 2, kinds.False) ∷ (eqb c 3, kinds.Number) ∷ (eqb c 4, kinds.Text) ∷ (eqb c 5, kinds.Array) ∷ []) kinds.Object
+valueKind c =
+    choose
+    ((eqb c 0, kinds.Null) ∷ (eqb c 1, kinds.True) ∷ (eqb c 2, kinds.False) ∷ (eqb c 3, kinds.Number) ∷ (eqb c 4, kinds.Text) ∷
+    (eqb c 5, kinds.Array) ∷ []) kinds.Object
 
 abbrev pub writtenKind : ℕ → Kind
 writtenKind c = choose ((eqb c 5, kinds.Listed) ∷ (eqb c 6, kinds.Named) ∷ []) (valueKind c)

@@ -70,8 +70,17 @@ module _ (s : Bytes) (left at n₀ : ℕ) where
     where
       go : (sep : Sep) → Opens s at 93 sep → ArrayNext noNode (n₀ + 1) sep
       go seps.Neither o = absurd o
-      go (seps.Shut e) o = (array-shut s (λ m a. readAt left s m a) n₀ at room (o .0) ∙ ap {B = Result (Placed Node)} (λ (k : ℕ). ok (record { tree = arr at k noNode; place = k; count = n₀ + 1 })) (sym (o .1)), o .2)
-      go (seps.On h) o = (subst (λ (k : ℕ). Reading s (λ m a. readAt left s m a) at whole noNode k (n₀ + 1)) (sym (o .1)) (array-opens s (λ m a. readAt left s m a) n₀ at room (o .0) (omega (arith, o .1, o .2))), o .2, o .3)
+      go (seps.Shut e) o = (
+        array-shut s (λ m a. readAt left s m a) n₀ at room (o .0) ∙
+            ap {B = Result (Placed Node)} (λ (k : ℕ). ok (record { tree = arr at k noNode; place = k; count = n₀ + 1 })) (sym (o .1)),
+        o .2,
+      )
+      go (seps.On h) o = (
+        subst (λ (k : ℕ). Reading s (λ m a. readAt left s m a) at whole noNode k (n₀ + 1)) (sym (o .1))
+            (array-opens s (λ m a. readAt left s m a) n₀ at room (o .0) (omega (arith, o .1, o .2))),
+        o .2,
+        o .3,
+      )
 
   module _ {w₀ w : List ℕ} {n : ℕ} where
     pub array-long : {sep : Sep} → ArrayState w₀ w n sep → length w ≡ length w₀
@@ -110,7 +119,14 @@ module _ (s : Bytes) (left at n₀ : ℕ) where
 
       pub array-on : {w′ : List ℕ} {p : Place} → Rows (readAt left s n here) w w′ n p → (sep : Sep) → Continues s (p .at) 93 sep → ArrayState w₀ w′ (p .node) sep
       unfolding ArrayNext Continues
-      array-on {w′} {p} r sep c = record { ts = joined (l .ts) (node (r .tree) noNode); words = words-item w₀ w w′ (n₀ + 1) n (l .ts) (r .tree) (l .words) (r .words) (l .count); count = omega (arith, l .count, f .1 .counted, sizeIn-more (l .ts) (r .tree)); below = f .1 .most; next = go sep c }
+      array-on {w′} {p} r sep c =
+          record {
+            ts = joined (l .ts) (node (r .tree) noNode);
+            words = words-item w₀ w w′ (n₀ + 1) n (l .ts) (r .tree) (l .words) (r .words) (l .count);
+            count = omega (arith, l .count, f .1 .counted, sizeIn-more (l .ts) (r .tree));
+            below = f .1 .most;
+            next = go sep c;
+          }
         where
           v : Placed Node
           v = record { tree = r .tree; place = p .at; count = p .node }
@@ -123,8 +139,19 @@ module _ (s : Bytes) (left at n₀ : ℕ) where
 
           go : (sep : Sep) → Continues s (p .at) 93 sep → ArrayNext (joined (l .ts) (node (r .tree) noNode)) (p .node) sep
           go seps.Neither c = item-fails reading v (r .read) inside (f .1 .past) (c .0) (c .1)
-          go (seps.Shut e) c = (item-ends reading v (r .read) inside (f .1 .past) (c .0) ∙ ap {B = Result (Placed Node)} (λ (k : ℕ). ok (record { tree = arr at k (joined (l .ts) (node (r .tree) noNode)); place = k; count = p .node })) (sym (c .1)), c .2)
-          go (seps.On h) c = (subst (λ (k : ℕ). Reading s (λ m a. readAt left s m a) at whole (joined (l .ts) (node (r .tree) noNode)) k (p .node)) (sym (c .1)) (item-on reading v (r .read) inside (f .1 .past) (c .0) (omega (arith, c .1, c .2, f .1 .past))), omega (arith, c .2, f .1 .past, l .next .1), c .3)
+          go (seps.Shut e) c = (
+            item-ends reading v (r .read) inside (f .1 .past) (c .0) ∙
+                ap {B = Result (Placed Node)}
+                (λ (k : ℕ). ok (record { tree = arr at k (joined (l .ts) (node (r .tree) noNode)); place = k; count = p .node }))
+                (sym (c .1)),
+            c .2,
+          )
+          go (seps.On h) c = (
+            subst (λ (k : ℕ). Reading s (λ m a. readAt left s m a) at whole (joined (l .ts) (node (r .tree) noNode)) k (p .node))
+                (sym (c .1)) (item-on reading v (r .read) inside (f .1 .past) (c .0) (omega (arith, c .1, c .2, f .1 .past))),
+            omega (arith, c .2, f .1 .past, l .next .1),
+            c .3,
+          )
 
       pub array-past : {w′ : List ℕ} {p : Place} → Rows (readAt left s n here) w w′ n p → (here < p .at) × (p .at ≤ length s)
       array-past {w′} {p} r = let f = read-facts left s n here (record { tree = r .tree; place = p .at; count = p .node }) array-here (r .read) .1 in (f .past, f .upto)
@@ -135,7 +162,8 @@ pub record ArrayTurn (s : Bytes) (left at n₀ : ℕ) (w₀ w : List ℕ) (seen�
   pub grown : Grown seen₀ seen
   pub marks : length seen ≡ length seen₀
 
-pub array-turn : {s : Bytes} {left at n₀ : ℕ} {w₀ w : List ℕ} {seen₀ seen : List Bool} {n : ℕ} {sep : Sep} (sep′ : Sep) → ArrayTurn s left at n₀ w₀ w seen₀ seen n sep → sep ≡ sep′ → ArrayState s left at n₀ w₀ w n sep′
+pub array-turn : {s : Bytes} {left at n₀ : ℕ} {w₀ w : List ℕ} {seen₀ seen : List Bool} {n : ℕ} {sep : Sep} (sep′ : Sep) →
+    ArrayTurn s left at n₀ w₀ w seen₀ seen n sep → sep ≡ sep′ → ArrayState s left at n₀ w₀ w n sep′
 array-turn {s} {left} {at} {n₀} {w₀} {w} {n = n} sep′ l e = subst (ArrayState s left at n₀ w₀ w n) e (l .state)
 
 -- what an answer that is known says

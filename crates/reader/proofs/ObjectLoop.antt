@@ -45,7 +45,8 @@ use Rattle.leaves.specs.declared.bracket.Sep.the-variants as seps
 use borrow.Author.Tests.{eqb-true}
 
 -- ---- a name that was refused, and one that was read
-both-refuse : {A B C : Type 0} (x : Result A) (f : A → Result B) (g : A → Result C) (r : Refusal) → (x >>= f) ≡ refused r → ((a : A) → f a ≡ refused r → g a ≡ refused r) → (x >>= g) ≡ refused r
+both-refuse : {A B C : Type 0} (x : Result A) (f : A → Result B) (g : A → Result C) (r : Refusal) → (x >>= f) ≡ refused r →
+    ((a : A) → f a ≡ refused r → g a ≡ refused r) → (x >>= g) ≡ refused r
 both-refuse (ok a) f g r e k = k a e
 both-refuse {A} {B} {C} (refused q) f g r e k = let z : q ≡ r = cc in ap {B = Result C} (λ y. refused y) z
 
@@ -118,9 +119,13 @@ unfolding joinedOf deepOf
 deep-more noField a e t left h k = omega arith
 deep-more (field b c u fs) a e t left h k = omega (arith, deep-more fs a e t left (omega arith) k)
 
-noted-more : (s : Bytes) (seen seen′ : List Bool) (object : ℕ) (fs : Fields) (a e : ℕ) (t : Node) → Noted seen object (keys (eraseOf s fs)) → Grown seen seen′ → getD seen′ (hashed object (textAt s a)) false ≡ true → Noted seen′ object (keys (eraseOf s (joinedOf fs (field a e t noField))))
+noted-more : (s : Bytes) (seen seen′ : List Bool) (object : ℕ) (fs : Fields) (a e : ℕ) (t : Node) → Noted seen object (keys (eraseOf s fs)) →
+    Grown seen seen′ → getD seen′ (hashed object (textAt s a)) false ≡ true →
+    Noted seen′ object (keys (eraseOf s (joinedOf fs (field a e t noField))))
 unfolding isOneOf
-noted-more s seen seen′ object fs a e t f g h k q = go (sameBytes k (textAt s a)) refl (sym (one-more k (textAt s a) (keys (eraseOf s fs))) ∙ ap (isOneOf k) (sym (keys-more s fs a e t)) ∙ q)
+noted-more s seen seen′ object fs a e t f g h k q =
+    go (sameBytes k (textAt s a)) refl
+    (sym (one-more k (textAt s a) (keys (eraseOf s fs))) ∙ ap (isOneOf k) (sym (keys-more s fs a e t)) ∙ q)
   where
     go : (b : Bool) → sameBytes k (textAt s a) ≡ b → isOneOf k (textAt s a ∷ keys (eraseOf s fs)) ≡ true → getD seen′ (hashed object k) false ≡ true
     go true p o = ap (λ (x : Bytes). getD seen′ (hashed object x) false) (sameBytes-true k (textAt s a) p) ∙ h
@@ -128,7 +133,11 @@ noted-more s seen seen′ object fs a e t f g h k q = go (sameBytes k (textAt s 
 
 -- rows that were written are what the table begins with there
 begins : (w₀ w vs : List ℕ) (i : ℕ) → w ≡ sets w₀ i vs → i + length vs ≤ length w₀ → Begins w i vs
-begins w₀ w vs i e h = (drop (i + length vs) w₀, ap (drop i) (e ∙ sets-eq vs w₀ i h ∙ append-assoc (take i w₀) vs (drop (i + length vs) w₀)) ∙ drop-at (take i w₀) (vs ++ drop (i + length vs) w₀) i (length-take-le i w₀ (omega arith)))
+begins w₀ w vs i e h = (
+  drop (i + length vs) w₀,
+  ap (drop i) (e ∙ sets-eq vs w₀ i h ∙ append-assoc (take i w₀) vs (drop (i + length vs) w₀)) ∙
+      drop-at (take i w₀) (vs ++ drop (i + length vs) w₀) i (length-take-le i w₀ (omega arith)),
+)
 
 -- ---- the loop
 module _ (s : Bytes) (left at n₀ : ℕ) where
@@ -153,15 +162,34 @@ module _ (s : Bytes) (left at n₀ : ℕ) where
 
   pub object-starts : (w : List ℕ) (seen : List Bool) (sep : Sep) → at < length s → n₀ < maxNodes → Opens s at 125 sep → ObjectState w w seen (n₀ + 1) sep
   unfolding ObjectNext Opens rowsOf sizeOf deepOf eraseOf isOneOf
-  object-starts w seen sep inside room o = record { fs = noField; words = refl; count = omega arith; below = omega arith; fits = fitsEmpty; shallow = omega arith; noted = λ k q. none q; next = go sep o }
+  object-starts w seen sep inside room o =
+      record {
+        fs = noField;
+        words = refl;
+        count = omega arith;
+        below = omega arith;
+        fits = fitsEmpty;
+        shallow = omega arith;
+        noted = λ k q. none q;
+        next = go sep o;
+      }
     where
       none : {X : Type 0} → false ≡ true → X
       none q = let z : _≡_ {A = ℕ} 0 1 = cc in absurd (omega arith)
 
       go : (sep : Sep) → Opens s at 125 sep → ObjectNext noField (n₀ + 1) sep
       go seps.Neither o = absurd o
-      go (seps.Shut e) o = (object-shut s (λ m a. readAt left s m a) n₀ at room (o .0) ∙ ap {B = Result (Placed Node)} (λ (k : ℕ). ok (record { tree = obj at k noField; place = k; count = n₀ + 1 })) (sym (o .1)), o .2)
-      go (seps.On h) o = (subst (λ (k : ℕ). Naming s (λ m a. readAt left s m a) at whole noField k (n₀ + 1)) (sym (o .1)) (object-opens s (λ m a. readAt left s m a) n₀ at room (o .0) (omega (arith, o .1, o .2))), o .2, o .3)
+      go (seps.Shut e) o = (
+        object-shut s (λ m a. readAt left s m a) n₀ at room (o .0) ∙
+            ap {B = Result (Placed Node)} (λ (k : ℕ). ok (record { tree = obj at k noField; place = k; count = n₀ + 1 })) (sym (o .1)),
+        o .2,
+      )
+      go (seps.On h) o = (
+        subst (λ (k : ℕ). Naming s (λ m a. readAt left s m a) at whole noField k (n₀ + 1)) (sym (o .1))
+            (object-opens s (λ m a. readAt left s m a) n₀ at room (o .0) (omega (arith, o .1, o .2))),
+        o .2,
+        o .3,
+      )
 
   module _ {w₀ w : List ℕ} {seen : List Bool} {n : ℕ} where
     pub object-long : {sep : Sep} → ObjectState w₀ w seen n sep → length w ≡ length w₀
@@ -185,7 +213,14 @@ module _ (s : Bytes) (left at n₀ : ℕ) where
     -- the members stand in the table
     module _ {sep : Sep} (l : ObjectState w₀ w seen n sep) (long : 12288 ≤ length w₀) (depth : left ≤ maxDepth) where
       held : FieldsAt s w left (n₀ + 1) n (l .fs)
-      held = record { words = begins w₀ w (rowsOf (l .fs) (n₀ + 1)) (3 * (n₀ + 1)) (l .words) (omega (arith, length-rowsOf (l .fs) (n₀ + 1), l .count, l .below)); upto = l .count; shallow = l .shallow; fits = l .fits }
+      held =
+          record {
+            words = begins w₀ w (rowsOf (l .fs) (n₀ + 1)) (3 * (n₀ + 1)) (l .words)
+                (omega (arith, length-rowsOf (l .fs) (n₀ + 1), l .count, l .below));
+            upto = l .count;
+            shallow = l .shallow;
+            fits = l .fits;
+          }
 
       pub object-members : HasMembers s w (n₀ + 1) n
       object-members = record { left = left; members = record { tree = l .fs; held = held; depth = depth; most = l .below } }
@@ -222,21 +257,29 @@ module _ (s : Bytes) (left at n₀ : ℕ) where
 
       module _ {w₁ : List ℕ} {seen₁ : List Bool} {k : Spelt} (a : NameLaid s w w₁ seen seen₁ n₀ here n k) where
         facts : NameFacts s (keys (eraseOf s (l .fs))) n here (record { stop = k .stop; value = k .value })
-        facts = name-facts s (keys (eraseOf s (l .fs))) n here (record { stop = k .stop; value = k .value }) (ap (λ (xs : List Bytes). nameAt s xs n here) (sym (object-earlier l long depth)) ∙ a .read)
+        facts =
+            name-facts s (keys (eraseOf s (l .fs))) n here (record { stop = k .stop; value = k .value })
+            (ap (λ (xs : List Bytes). nameAt s xs n here) (sym (object-earlier l long depth)) ∙ a .read)
 
         inside : here < length s
         inside = byte-inside s here 34 (facts .isQuote) (omega arith)
 
         pub object-value-here : (k .value ≤ length s) × (n + 1 ≤ maxNodes)
-        object-value-here = (skip-past s (skipAt s (facts .end) + 1) (k .value) (omega (arith, byte-inside s (skipAt s (facts .end)) 58 (facts .isColon) (omega arith))) (facts .value) .1, omega (arith, facts .room))
+        object-value-here = (
+          skip-past s (skipAt s (facts .end) + 1) (k .value)
+              (omega (arith, byte-inside s (skipAt s (facts .end)) 58 (facts .isColon) (omega arith))) (facts .value) .1,
+          omega (arith, facts .room),
+        )
 
         pub object-value-long : length w₁ ≡ length w₀
         object-value-long = ap length (a .words) ∙ length-sets w (3 * n) ((8 * (here + 1) + 4) ∷ k .stop ∷ (n + 1) ∷ []) ∙ object-long l
 
-        pub object-value-bad : (w₂ : List ℕ) (r : Why) → ParsedTold (readAt left s (n + 1) (k .value)) w₁ w₂ (n + 1) (parseds.Bad r) → ParsedTold whole w₀ w₂ n₀ (parseds.Bad r)
+        pub object-value-bad : (w₂ : List ℕ) (r : Why) → ParsedTold (readAt left s (n + 1) (k .value)) w₁ w₂ (n + 1) (parseds.Bad r) →
+            ParsedTold whole w₀ w₂ n₀ (parseds.Bad r)
         unfolding ParsedTold
         object-value-bad w₂ r p = (
-          value-refused naming (facts .isQuote) inside (facts .room) (facts .end) (facts .isText) (facts .isNew) (facts .isColon) (refusalOf r) (ap (readAt left s (n + 1)) (sym (facts .value)) ∙ p .0),
+          value-refused naming (facts .isQuote) inside (facts .room) (facts .end) (facts .isText) (facts .isNew) (facts .isColon)
+              (refusalOf r) (ap (readAt left s (n + 1)) (sym (facts .value)) ∙ p .0),
           p .1 ∙ past-rows w w₁ ((8 * (here + 1) + 4) ∷ k .stop ∷ (n + 1) ∷ []) (3 * n) (a .words) (omega (arith, facts .room)) ∙ object-still l,
         )
 
@@ -264,7 +307,9 @@ module _ (s : Bytes) (left at n₀ : ℕ) where
           unfolding ObjectNext Continues
           object-on seen₂ g sep c = record {
             fs = more;
-            words = words-member w₀ w w₂ (n₀ + 1) n (l .fs) (here + 1) (facts .end - 1) (r .tree) w₁ (l .words) (a .words ∙ ap (λ (i : ℕ). sets w (3 * n) ((8 * (here + 1) + 4) ∷ i ∷ (n + 1) ∷ [])) (facts .stop)) (r .words) (l .count);
+            words =
+                words-member w₀ w w₂ (n₀ + 1) n (l .fs) (here + 1) (facts .end - 1) (r .tree) w₁ (l .words)
+                (a .words ∙ ap (λ (i : ℕ). sets w (3 * n) ((8 * (here + 1) + 4) ∷ i ∷ (n + 1) ∷ [])) (facts .stop)) (r .words) (l .count);
             count = omega (arith, l .count, read .1 .counted, sizeOf-more (l .fs) (here + 1) (facts .end - 1) (r .tree));
             below = read .1 .most;
             fits = fits-more (l .fs) (l .fits) (text-read s (here + 1) (facts .end) (omega (arith, inside)) (facts .isText) .0) (read .1 .fits);
@@ -275,8 +320,20 @@ module _ (s : Bytes) (left at n₀ : ℕ) where
             where
               go : (sep : Sep) → Continues s (p .at) 125 sep → ObjectNext more (p .node) sep
               go seps.Neither c = member-fails naming (facts .isQuote) inside (facts .room) (facts .end) (facts .isText) (facts .isNew) (facts .isColon) v isV (c .0) (c .1)
-              go (seps.Shut e) c = (member-ends naming (facts .isQuote) inside (facts .room) (facts .end) (facts .isText) (facts .isNew) (facts .isColon) v isV (c .0) ∙ ap {B = Result (Placed Node)} (λ (i : ℕ). ok (record { tree = obj at i more; place = i; count = p .node })) (sym (c .1)), c .2)
-              go (seps.On h) c = (subst (λ (i : ℕ). Naming s (λ m a. readAt left s m a) at whole more i (p .node)) (sym (c .1)) (member-on naming (facts .isQuote) inside (facts .room) (facts .end) (facts .isText) (facts .isNew) (facts .isColon) v isV (c .0) (omega (arith, c .1, c .2, object-past .0))), omega (arith, c .2, object-past .0, l .next .1), c .3)
+              go (seps.Shut e) c = (
+                member-ends naming (facts .isQuote) inside (facts .room) (facts .end) (facts .isText) (facts .isNew) (facts .isColon)
+                    v isV (c .0) ∙
+                    ap {B = Result (Placed Node)} (λ (i : ℕ). ok (record { tree = obj at i more; place = i; count = p .node }))
+                    (sym (c .1)),
+                c .2,
+              )
+              go (seps.On h) c = (
+                subst (λ (i : ℕ). Naming s (λ m a. readAt left s m a) at whole more i (p .node)) (sym (c .1))
+                    (member-on naming (facts .isQuote) inside (facts .room) (facts .end) (facts .isText) (facts .isNew) (facts .isColon)
+                    v isV (c .0) (omega (arith, c .1, c .2, object-past .0))),
+                omega (arith, c .2, object-past .0, l .next .1),
+                c .3,
+              )
 
 -- at a turn of the loop, with the marks that the members added
 pub record ObjectTurn (s : Bytes) (left at n₀ : ℕ) (w₀ w : List ℕ) (seen₀ seen : List Bool) (n : ℕ) (sep : Sep) : Type 0 where
@@ -284,14 +341,18 @@ pub record ObjectTurn (s : Bytes) (left at n₀ : ℕ) (w₀ w : List ℕ) (seen
   pub grown : Grown seen₀ seen
   pub marks : length seen ≡ length seen₀
 
-pub object-turn : {s : Bytes} {left at n₀ : ℕ} {w₀ w : List ℕ} {seen₀ seen : List Bool} {n : ℕ} {sep : Sep} (sep′ : Sep) → ObjectTurn s left at n₀ w₀ w seen₀ seen n sep → sep ≡ sep′ → ObjectState s left at n₀ w₀ w seen n sep′
+pub object-turn : {s : Bytes} {left at n₀ : ℕ} {w₀ w : List ℕ} {seen₀ seen : List Bool} {n : ℕ} {sep : Sep} (sep′ : Sep) →
+    ObjectTurn s left at n₀ w₀ w seen₀ seen n sep → sep ≡ sep′ → ObjectState s left at n₀ w₀ w seen n sep′
 object-turn {s} {left} {at} {n₀} {w₀} {w} {seen₀} {seen} {n} sep′ l e = subst (ObjectState s left at n₀ w₀ w seen n) e (l .state)
 
 -- what an answer that is known says
-pub name-was-bad : (s : Bytes) (w w′ : List ℕ) (seen seen′ : List Bool) (object at n : ℕ) {r : Named} (q : Why) → NameTold s w w′ seen seen′ object at n r → r ≡ nameds.Bad q → (nameAt s (earlier s w object n) n at ≡ refused (refusalOf q)) × (w′ ≡ w) × (seen′ ≡ seen)
+pub name-was-bad :
+    (s : Bytes) (w w′ : List ℕ) (seen seen′ : List Bool) (object at n : ℕ) {r : Named} (q : Why) → NameTold s w w′ seen seen′ object at n r →
+    r ≡ nameds.Bad q → (nameAt s (earlier s w object n) n at ≡ refused (refusalOf q)) × (w′ ≡ w) × (seen′ ≡ seen)
 unfolding NameTold
 name-was-bad s w w′ seen seen′ object at n q t e = subst (NameTold s w w′ seen seen′ object at n) e t
 
-pub name-was : (s : Bytes) (w w′ : List ℕ) (seen seen′ : List Bool) (object at n : ℕ) {r : Named} (k : Spelt) → NameTold s w w′ seen seen′ object at n r → r ≡ nameds.Is k → NameLaid s w w′ seen seen′ object at n k
+pub name-was : (s : Bytes) (w w′ : List ℕ) (seen seen′ : List Bool) (object at n : ℕ) {r : Named} (k : Spelt) →
+    NameTold s w w′ seen seen′ object at n r → r ≡ nameds.Is k → NameLaid s w w′ seen seen′ object at n k
 unfolding NameTold
 name-was s w w′ seen seen′ object at n k t e = subst (NameTold s w w′ seen seen′ object at n) e t

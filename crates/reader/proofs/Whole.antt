@@ -23,7 +23,31 @@ use Rattle.json.specs.Placing.{Placed, readAt, skipAt, spanned, wholeAt}
 use Rattle.json.specs.Reader.{json}
 use Rattle.strings.specs.Reads.{HoldsOf, ReadTold, readOf, reading}
 use Rattle.json.specs.Refusal.{Refusal, Result, notJson, notUtf8, ok, refused, tooLong, _>>=_}
-use Rattle.json.specs.Spans.{Fields, Node, Nodes, Plain, arr, erase, eraseIn, eraseOf, field, isFalse, isNull, isNumber, isText, isTrue, leaf, noField, noNode, node, obj, plain, size, sizeIn, sizeOf}
+use Rattle.json.specs.Spans.{
+  Fields,
+  Node,
+  Nodes,
+  Plain,
+  arr,
+  erase,
+  eraseIn,
+  eraseOf,
+  field,
+  isFalse,
+  isNull,
+  isNumber,
+  isText,
+  isTrue,
+  leaf,
+  noField,
+  noNode,
+  node,
+  obj,
+  plain,
+  size,
+  sizeIn,
+  sizeOf,
+}
 use Rattle.json.specs.Table.{rows, valueAt}
 use Rattle.json.specs.Utf8.{scalar, utf8}
 use Rattle.strings.specs.declared.answer.Parsed.the-variants as parseds
@@ -107,7 +131,9 @@ module _ (s : Bytes) (w : List ℕ) (enough : 16384 ≤ length w) where
     unfolding readOf HoldsOf erased
     told-refused r e = record { answers = is-json ∙ json-erased s ∙ ap (erased s) e; holds = tt; small = λ h. absurd (omega arith); past = past }
 
-    pub told-table : (p : Place) (at k : ℕ) → length s ≤ maxBytes → utf8 scalar s ≡ true → at ≡ skipAt s 0 → Rows (readAt maxDepth s 0 at) w w′ 0 p → k ≡ skipAt s (p .at) → k ≡ length s → ReadTold s w w′ (reads.Table (p .node))
+    pub told-table :
+        (p : Place) (at k : ℕ) → length s ≤ maxBytes → utf8 scalar s ≡ true → at ≡ skipAt s 0 → Rows (readAt maxDepth s 0 at) w w′ 0 p →
+        k ≡ skipAt s (p .at) → k ≡ length s → ReadTold s w w′ (reads.Table (p .node))
     unfolding readOf HoldsOf
     told-table p at k bytes u isAt r q z =
         let v : Placed Node = record { tree = r .tree; place = p .at; count = p .node } in
@@ -118,7 +144,19 @@ module _ (s : Bytes) (w : List ℕ) (enough : 16384 ≤ length w) where
         let m : nodes (valueAt s w′ 0) ≡ size (b .tree) = ap nodes (value-is s w′ (b .depth) (b .held)) ∙ nodes-size s (b .tree) in
         record {
           answers = is-json ∙ a .0 ∙ ap {B = Result Value} (λ y. ok y) (sym (a .1));
-          holds = record { bytes = bytes; root = b; count = omega (arith, n, f .1 .counted); after = node-after s w′ maxDepth 0 (b .tree) (b .held) ∙ omega (arith, n, m, f .1 .counted); spans = (r .tree, spanned-is s bytes u at isAt v k (r .read) q z, stored w w′ (r .tree) (r .words) (omega (arith, f .1 .counted, f .1 .most))) };
+          holds =
+              record {
+                bytes = bytes;
+                root = b;
+                count = omega (arith, n, f .1 .counted);
+                after = node-after s w′ maxDepth 0 (b .tree) (b .held) ∙ omega (arith, n, m, f .1 .counted);
+                spans = (
+                  r .tree,
+                  spanned-is s bytes u at isAt v k (r .read) q z,
+                  stored w w′ (r .tree) (r .words)
+                      (omega (arith, f .1 .counted, f .1 .most)),
+                );
+              };
           small = λ h. absurd (omega arith);
           past = past;
         }
@@ -129,6 +167,7 @@ still-laid s w w′ at p h r =
     let f = read-facts maxDepth s 0 at (record { tree = r .tree; place = p .at; count = p .node }) h (r .read) in
     past-rows w w′ (rows (r .tree) 0) 0 (r .words) (omega (arith, length-rows (r .tree) 0, f .1 .counted, f .1 .most))
 
-pub refused-is : (x : Result (Placed Node)) (w w′ : List ℕ) (n : ℕ) (r : Why) → ParsedTold x w w′ n (parseds.Bad r) → (x ≡ refused (refusalOf r)) × (drop 12288 w′ ≡ drop 12288 w)
+pub refused-is : (x : Result (Placed Node)) (w w′ : List ℕ) (n : ℕ) (r : Why) → ParsedTold x w w′ n (parseds.Bad r) →
+    (x ≡ refused (refusalOf r)) × (drop 12288 w′ ≡ drop 12288 w)
 unfolding ParsedTold
 refused-is x w w′ n r t = t

@@ -36,7 +36,8 @@ module _ (s : Bytes) (t : List ℕ) where
   unfolding ChildAt
   child-name {named} {k} e h = subst (λ (b : Bool). ChildAt s t b k) e h
 
-  pub names-same : {named : Bool} (i j : ℕ) {a b : ℕ} {r : Bool} → named ≡ true → a ≡ startAt t i → b ≡ startAt t j → r ≡ sameBytes (textAt s a) (textAt s b) → r ≡ namesAgree s t named i j
+  pub names-same : {named : Bool} (i j : ℕ) {a b : ℕ} {r : Bool} → named ≡ true → a ≡ startAt t i → b ≡ startAt t j →
+      r ≡ sameBytes (textAt s a) (textAt s b) → r ≡ namesAgree s t named i j
   unfolding namesAgree
   names-same i j e p q h = h ∙ rw (e, p, q)
 
@@ -104,7 +105,8 @@ module _ (s : Bytes) (t : List ℕ) (f : lazy.Operand → lazy.Operand → Bool)
       pub names-differ : {r : Bool} → r ≡ namesAgree s t named i j → not r ≡ true → false ≡ whole
       names-differ {r} e z = sym (turn ∙ rw (sym e ∙ not-yes r z))
 
-      module _ {b : Bool} (agree : b ≡ namesAgree s t named i j) (yes : not b ≡ false) {r : Bool} {u v : lazy.Operand} (part : r ≡ f u v) (isU : u ≡ g (valueNode named i)) (isV : v ≡ h (valueNode named j)) where
+      module _ {b : Bool} (agree : b ≡ namesAgree s t named i j) (yes : not b ≡ false) {r : Bool} {u v : lazy.Operand}
+          (part : r ≡ f u v) (isU : u ≡ g (valueNode named i)) (isV : v ≡ h (valueNode named j)) where
         compared : whole ≡ (r && alikeNodes s t f named g h (childrenOf t xs) (childrenOf t ys))
         compared = turn ∙ rw (sym agree ∙ not-no b yes, part, isU, isV)
 
@@ -114,7 +116,10 @@ module _ (s : Bytes) (t : List ℕ) (f : lazy.Operand → lazy.Operand → Bool)
         pub parts-same : not r ≡ false → Comparing xs ys
         parts-same z = record { rest = compared ∙ rw (not-no r z); first = p .walk; second = q .walk; names = p .same ∙ l .names; others = q .same ∙ l .others }
 
-pub compare-begins : {s : Bytes} {t : List ℕ} {f : lazy.Operand → lazy.Operand → Bool} {named : Bool} {g h : ℕ → lazy.Operand} {a b : Operand} {x y : Children} → Paired s t named a b → Linked s t → x ≡ begun t (a .node) named → y ≡ begun t (b .node) named → Comparing s t f named g h (alikeNodes s t f named g h (kids s t (a .node) named) (kids s t (b .node) named)) x y
+pub compare-begins :
+    {s : Bytes} {t : List ℕ} {f : lazy.Operand → lazy.Operand → Bool} {named : Bool} {g h : ℕ → lazy.Operand} {a b : Operand}
+    {x y : Children} → Paired s t named a b → Linked s t → x ≡ begun t (a .node) named → y ≡ begun t (b .node) named →
+    Comparing s t f named g h (alikeNodes s t f named g h (kids s t (a .node) named) (kids s t (b .node) named)) x y
 compare-begins {named = named} p l i j = record {
   rest = rw (walk-kids named (p .first) l i, walk-kids named (p .second) l j);
   first = walk-begins named (p .first) l i;
@@ -160,7 +165,16 @@ module _ (sheet : Sheet Condition) (s : Bytes) (t : List ℕ) (fs : lazy.Frames)
 
     module _ {ca cb : ℕ} (isA : ca ≡ classOf (a .kind)) (isB : cb ≡ classOf (b .kind)) where
       pub equal-apart : (ca ≡ cb → ⊥) → false ≡ alike sheet left fs (operandOf s t a) (operandOf s t b)
-      equal-apart h = sym (opened ∙ apart inner (shapeOf sheet s t fs a) (shapeOf sheet s t fs b) (λ e. h (isA ∙ sym (class-is sheet s t fs (a .node) (a .depth) (a .kind)) ∙ e ∙ class-is sheet s t fs (b .node) (b .depth) (b .kind) ∙ sym isB)))
+      equal-apart h =
+          sym
+          (opened ∙
+          apart inner (shapeOf sheet s t fs a) (shapeOf sheet s t fs b)
+          (λ e. h
+          (isA ∙
+          sym (class-is sheet s t fs (a .node) (a .depth) (a .kind)) ∙
+          e ∙
+          class-is sheet s t fs (b .node) (b .depth) (b .kind) ∙
+          sym isB)))
 
       module _ (same : ca ≡ cb) (big : ca < 5 → ⊥) where
         is-array : eqb ca 6 ≡ false → ca ≡ 5
@@ -170,17 +184,50 @@ module _ (sheet : Sheet Condition) (s : Bytes) (t : List ℕ) (fs : lazy.Frames)
         equal-paired h k = go (eqb ca 6) refl
           where
             go : (x : Bool) → eqb ca 6 ≡ x → Paired s t x a b
-            go true q = let e = eqb-true ca 6 q in record { first = object-kind s t (a .node) (a .kind) (h .fits) (sym isA ∙ e); second = object-kind s t (b .node) (b .kind) (k .fits) (sym isB ∙ sym same ∙ e) }
-            go false q = let e = is-array q in record { first = array-kind s t (a .node) (a .kind) (h .fits) (sym isA ∙ e); second = array-kind s t (b .node) (b .kind) (k .fits) (sym isB ∙ sym same ∙ e) }
+            go true q =
+                let e = eqb-true ca 6 q in
+                record {
+                  first = object-kind s t (a .node) (a .kind) (h .fits) (sym isA ∙ e);
+                  second = object-kind s t (b .node) (b .kind) (k .fits) (sym isB ∙ sym same ∙ e);
+                }
+            go false q =
+                let e = is-array q in
+                record {
+                  first = array-kind s t (a .node) (a .kind) (h .fits) (sym isA ∙ e);
+                  second = array-kind s t (b .node) (b .kind) (k .fits) (sym isB ∙ sym same ∙ e);
+                }
 
-        pub equal-whole : {r : Bool} → r ≡ alikeNodes s t (alike sheet (left - 1) fs) (eqb ca 6) (partAt sheet s t fs a) (partAt sheet s t fs b) (kids s t (a .node) (eqb ca 6)) (kids s t (b .node) (eqb ca 6)) → r ≡ alike sheet left fs (operandOf s t a) (operandOf s t b)
+        pub equal-whole : {r : Bool} →
+            r ≡
+            alikeNodes s t (alike sheet (left - 1) fs) (eqb ca 6) (partAt sheet s t fs a) (partAt sheet s t fs b)
+            (kids s t (a .node) (eqb ca 6)) (kids s t (b .node) (eqb ca 6)) → r ≡ alike sheet left fs (operandOf s t a) (operandOf s t b)
         unfolding alikeShapes
         equal-whole {r} h = go (eqb ca 6) refl h
           where
             go : (x : Bool) → eqb ca 6 ≡ x → r ≡ alikeNodes s t inner x (partAt sheet s t fs a) (partAt sheet s t fs b) (kids s t (a .node) x) (kids s t (b .node) x) → r ≡ answer
             go true q k =
                 let e = eqb-true ca 6 q in
-                k ∙ sym (nodes-of s t inner (partAt sheet s t fs a) (partAt sheet s t fs b) (kids s t (a .node) true) (kids s t (b .node) true)) ∙ sym (opened ∙ rw (object-is sheet s t fs (a .node) (a .depth) (a .kind) (sym isA ∙ e), object-is sheet s t fs (b .node) (b .depth) (b .kind) (sym isB ∙ sym same ∙ e)))
+                k ∙
+                sym
+                (nodes-of s t inner (partAt sheet s t fs a) (partAt sheet s t fs b) (kids s t (a .node) true)
+                (kids s t (b .node) true)) ∙
+                sym
+                (opened ∙
+                rw (
+                  object-is sheet s t fs (a .node) (a .depth) (a .kind) (sym isA ∙ e),
+                  object-is sheet s t fs (b .node)
+                      (b .depth) (b .kind) (sym isB ∙ sym same ∙ e),
+                ))
             go false q k =
                 let e = is-array q in
-                k ∙ sym (nodes-in s t inner (partAt sheet s t fs a) (partAt sheet s t fs b) (kids s t (a .node) false) (kids s t (b .node) false)) ∙ sym (opened ∙ rw (array-is sheet s t fs (a .node) (a .depth) (a .kind) (sym isA ∙ e), array-is sheet s t fs (b .node) (b .depth) (b .kind) (sym isB ∙ sym same ∙ e)))
+                k ∙
+                sym
+                (nodes-in s t inner (partAt sheet s t fs a) (partAt sheet s t fs b) (kids s t (a .node) false)
+                (kids s t (b .node) false)) ∙
+                sym
+                (opened ∙
+                rw (
+                  array-is sheet s t fs (a .node) (a .depth) (a .kind) (sym isA ∙ e),
+                  array-is sheet s t fs (b .node) (b .depth)
+                      (b .kind) (sym isB ∙ sym same ∙ e),
+                ))

@@ -40,11 +40,16 @@ use Rattle.paths.proofs.Trees.{Layer, aFalse, aNull, aNumber, aText, aTrue, anA
 use Rattle.paths.proofs.operand.Kind as KindT
 
 -- an operand that is present leaves no mark
-pub present-as : (quiet : Bool) {s : Bytes} {w : List ℕ} {o : Operand} {m : Result (Resolved lazy.Operand)} → stored.OperandAt s (table w) o → ok (present (stored.operandOf s (table w) o)) ≡ m → ResolvedAs quiet s w w (answers.Present o) m
+pub present-as :
+    (quiet : Bool) {s : Bytes} {w : List ℕ} {o : Operand} {m : Result (Resolved lazy.Operand)} → stored.OperandAt s (table w) o →
+    ok (present (stored.operandOf s (table w) o)) ≡ m → ResolvedAs quiet s w w (answers.Present o) m
 present-as quiet {s} {w} f e = record { names = []; met = []; means = e; left = left-none s w; hears = (f, refl) }
 
 -- any but a text or a whole
-pub plain-value : (quiet : Bool) (sheet : Sheet Condition) (fs : lazy.Frames) {s : Bytes} {w : List ℕ} {n c : ℕ} {x : Kind} → HasNode s (table w) n → c ≡ kindAt (table w) n → (c ≡ 4 → ⊥) → (c ≡ 5 → ⊥) → (c ≡ 6 → ⊥) → x ≡ valueKind c → ResolvedAs quiet s w w (answers.Present (record { node = n; depth = 0; kind = x })) (operand sheet fs (tree s (table w) n))
+pub plain-value :
+    (quiet : Bool) (sheet : Sheet Condition) (fs : lazy.Frames) {s : Bytes} {w : List ℕ} {n c : ℕ} {x : Kind} → HasNode s (table w) n →
+    c ≡ kindAt (table w) n → (c ≡ 4 → ⊥) → (c ≡ 5 → ⊥) → (c ≡ 6 → ⊥) → x ≡ valueKind c →
+    ResolvedAs quiet s w w (answers.Present (record { node = n; depth = 0; kind = x })) (operand sheet fs (tree s (table w) n))
 unfolding operand meant Fits
 plain-value quiet sheet fs {s} {w} {n} {c} {x} h e u v z q = rw q (go (layer s (table w) n h))
   where
@@ -66,22 +71,39 @@ module _ (quiet : Bool) (sheet : Sheet Condition) (fs : lazy.Frames) (s : Bytes)
   unfolding operand
   opened = ap (operand sheet fs) (text-row row .value)
 
-  pub text-plain : readText (textAt s (startAt (table w) n)) ≡ plain → ResolvedAs quiet s w w (answers.Present (record { node = n; depth = 0; kind = kinds.Text })) (operand sheet fs (tree s (table w) n))
+  pub text-plain : readText (textAt s (startAt (table w) n)) ≡ plain →
+      ResolvedAs quiet s w w (answers.Present (record { node = n; depth = 0; kind = kinds.Text })) (operand sheet fs (tree s (table w) n))
   unfolding operandText meant Fits
   text-plain e = rw (opened, e, operandText) (present-as quiet (operand-at (row .node) (omega arith) row) refl)
 
-  pub text-escaped : {p : ℕ} → (readText (textAt s (startAt (table w) n)) ≡ escaped (textAt s p)) × Behind s (startAt (table w) n) p → ResolvedAs quiet s w w (answers.Present (record { node = n; depth = 0; kind = kinds.Less })) (operand sheet fs (tree s (table w) n))
+  pub text-escaped : {p : ℕ} → (readText (textAt s (startAt (table w) n)) ≡ escaped (textAt s p)) × Behind s (startAt (table w) n) p →
+      ResolvedAs quiet s w w (answers.Present (record { node = n; depth = 0; kind = kinds.Less })) (operand sheet fs (tree s (table w) n))
   unfolding operandText meant Fits
-  text-escaped {p} (e, b) = rw (opened, e, operandText) (present-as quiet (operand-at (row .node) (omega arith) (row, (textAt s p, b .dollar))) (ap (λ (x : Bytes). ok (present (given (text (lessOne x))))) (b .dollar)))
+  text-escaped {p} (e, b) =
+      rw (opened, e, operandText)
+      (present-as quiet (operand-at (row .node) (omega arith) (row, (textAt s p, b .dollar)))
+      (ap (λ (x : Bytes). ok (present (given (text (lessOne x))))) (b .dollar)))
 
-  module _ {e : Bytes} {d : ℕ} {r : Looked} (q : readText (textAt s (startAt (table w) n)) ≡ expression e) (dollar : textAt s (startAt (table w) n) ≡ 36 ∷ e) (deep : length fs ≡ d) (l : LookedAs s (table w) e r (look sheet (touch sheet d) fs e)) where
+  module _ {e : Bytes} {d : ℕ} {r : Looked} (q : readText (textAt s (startAt (table w) n)) ≡ expression e)
+      (dollar : textAt s (startAt (table w) n) ≡ 36 ∷ e) (deep : length fs ≡ d)
+      (l : LookedAs s (table w) e r (look sheet (touch sheet d) fs e)) where
     looked : operand sheet fs (tree s (table w) n) ≡ (lookedOf s (table w) e r >>= λ g. ok (observe e g))
     unfolding operandText
     looked = opened ∙ rw (q, operandText, l .means, ← deep)
 
-    pub text-nothing : {w′ : List ℕ} {x : code.Resolved} → 16384 ≤ length w → n < 4096 → r ≡ lookeds.Nothing → x ≡ answers.Missing → w′ ≡ missed quiet w n → ResolvedAs quiet s w w′ x (operand sheet fs (tree s (table w) n))
+    pub text-nothing :
+        {w′ : List ℕ} {x : code.Resolved} → 16384 ≤ length w → n < 4096 → r ≡ lookeds.Nothing → x ≡ answers.Missing → w′ ≡ missed quiet w n →
+        ResolvedAs quiet s w w′ x (operand sheet fs (tree s (table w) n))
     unfolding lookedOf observe
-    text-nothing long small z y p = rw (looked, z, y, p) (record { names = (36 ∷ e) ∷ []; met = heard quiet ((36 ∷ e) ∷ []); means = refl; left = left-missed s w n long small row quiet (36 ∷ e) dollar; hears = refl })
+    text-nothing long small z y p =
+        rw (looked, z, y, p)
+        (record {
+          names = (36 ∷ e) ∷ [];
+          met = heard quiet ((36 ∷ e) ∷ []);
+          means = refl;
+          left = left-missed s w n long small row quiet (36 ∷ e) dollar;
+          hears = refl;
+        })
 
     pub text-unknown : r ≡ lookeds.Unknown → ResolvedAs quiet s w w (answers.Unknown n) (operand sheet fs (tree s (table w) n))
     unfolding lookedOf
@@ -91,9 +113,19 @@ module _ (quiet : Bool) (sheet : Sheet Condition) (fs : lazy.Frames) (s : Bytes)
     unfolding lookedOf
     text-no-id z = rw (looked, z) (record { names = []; met = []; means = refl; left = left-none s w; hears = tt })
 
-    pub text-found : {w′ : List ℕ} {x : code.Resolved} (o : Operand) → 16384 ≤ length w → n < 4096 → r ≡ lookeds.At o → Observed quiet w w′ o n x → ResolvedAs quiet s w w′ x (operand sheet fs (tree s (table w) n))
+    pub text-found :
+        {w′ : List ℕ} {x : code.Resolved} (o : Operand) → 16384 ≤ length w → n < 4096 → r ≡ lookeds.At o → Observed quiet w w′ o n x →
+        ResolvedAs quiet s w w′ x (operand sheet fs (tree s (table w) n))
     unfolding lookedOf observe LookedFits meant
-    text-found {w′} {x} o long small z (inl (k, y, p)) = rw (looked, z, y, p, k) (record { names = (36 ∷ e) ∷ []; met = heard quiet ((36 ∷ e) ∷ []); means = refl; left = left-missed s w n long small row quiet (36 ∷ e) dollar; hears = refl })
+    text-found {w′} {x} o long small z (inl (k, y, p)) =
+        rw (looked, z, y, p, k)
+        (record {
+          names = (36 ∷ e) ∷ [];
+          met = heard quiet ((36 ∷ e) ∷ []);
+          means = refl;
+          left = left-missed s w n long small row quiet (36 ∷ e) dollar;
+          hears = refl;
+        })
     text-found {w′} {x} o long small z (inr (k, y, p)) = rw (looked, z, y, p) (present-as quiet (subst (LookedFits s (table w)) z (l .fits)) (seen (o .kind) k))
       where
         seen : (c : Kind) → (c ≡ kinds.Null → ⊥) → ok (present (meant s (table w) (o .node) (o .depth) c)) ≡ ok (observe e (some (meant s (table w) (o .node) (o .depth) c)))

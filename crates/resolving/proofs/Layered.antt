@@ -64,10 +64,16 @@ module _ (sheet : Sheet Condition) (s : Bytes) (t : List ℕ) where
   shape-kind fs n d kinds.Less = refl
   shape-kind fs n d kinds.Array = ap (λ (vs : Values). items (partsIn given vs)) (items-are s t n) ∙ ap items (nodes-in given (kids s t n false))
   shape-kind fs n d kinds.Object = ap (λ (ms : Members). fields (partsOf given ms)) (fields-are s t n) ∙ ap fields (names-of given (kids s t n true))
-  shape-kind fs n d kinds.Listed = ap (λ (vs : Values). items (partsIn (partOf sheet (outer d fs)) vs)) (items-are s t n) ∙ ap items (nodes-in (partOf sheet (outer d fs)) (kids s t n false))
-  shape-kind fs n d kinds.Named = ap (λ (ms : Members). fields (partsOf (partOf sheet (outer d fs)) ms)) (fields-are s t n) ∙ ap fields (names-of (partOf sheet (outer d fs)) (kids s t n true))
+  shape-kind fs n d kinds.Listed =
+      ap (λ (vs : Values). items (partsIn (partOf sheet (outer d fs)) vs)) (items-are s t n) ∙
+      ap items (nodes-in (partOf sheet (outer d fs)) (kids s t n false))
+  shape-kind fs n d kinds.Named =
+      ap (λ (ms : Members). fields (partsOf (partOf sheet (outer d fs)) ms)) (fields-are s t n) ∙
+      ap fields (names-of (partOf sheet (outer d fs)) (kids s t n true))
 
-  pub alike-layers : (m : ℕ) (fs : lazy.Frames) (a b : Operand) → alike sheet (suc m) fs (operandOf s t a) (operandOf s t b) ≡ alikeShapes (alike sheet m fs) (shapeOf sheet s t fs a) (shapeOf sheet s t fs b)
+  pub alike-layers : (m : ℕ) (fs : lazy.Frames) (a b : Operand) →
+      alike sheet (suc m) fs (operandOf s t a) (operandOf s t b) ≡
+      alikeShapes (alike sheet m fs) (shapeOf sheet s t fs a) (shapeOf sheet s t fs b)
   unfolding alike
   alike-layers m fs a b = rw (shape-kind fs (a .node) (a .depth) (a .kind), shape-kind fs (b .node) (b .depth) (b .kind))
 
@@ -357,11 +363,13 @@ within-limit x y h k = rw (le-leb (length x) 255 h, le-leb (length y) 255 k, com
 
 -- equal leaves
 module _ (s : Bytes) (t : List ℕ) (a b : Operand) where
-  pub leaf-number : {o : Ordering} {r : Bool} → classOf (a .kind) ≡ 3 → classOf (b .kind) ≡ 3 → o ≡ numberOrder (digitsOf s t (a .node)) (digitsOf s t (b .node)) → r ≡ isSame o → LeavesAlike s t r a b
+  pub leaf-number : {o : Ordering} {r : Bool} → classOf (a .kind) ≡ 3 → classOf (b .kind) ≡ 3 →
+      o ≡ numberOrder (digitsOf s t (a .node)) (digitsOf s t (b .node)) → r ≡ isSame o → LeavesAlike s t r a b
   unfolding alikeShapes
   leaf-number p q e z sheet f fs = z ∙ rw (number-is sheet s t fs (a .node) (a .depth) (a .kind) p, number-is sheet s t fs (b .node) (b .depth) (b .kind) q, e)
 
-  pub leaf-text : {x y : ℕ} {r : Bool} → classOf (a .kind) ≡ 4 → classOf (b .kind) ≡ 4 → TextPlace s t a x → TextPlace s t b y → r ≡ sameBytes (textAt s x) (textAt s y) → LeavesAlike s t r a b
+  pub leaf-text : {x y : ℕ} {r : Bool} → classOf (a .kind) ≡ 4 → classOf (b .kind) ≡ 4 → TextPlace s t a x → TextPlace s t b y →
+      r ≡ sameBytes (textAt s x) (textAt s y) → LeavesAlike s t r a b
   unfolding alikeShapes
   leaf-text p q u v e sheet f fs = e ∙ rw (text-is sheet s t fs (a .node) (a .depth) (a .kind) p, text-is sheet s t fs (b .node) (b .depth) (b .kind) q, u .is, v .is)
 
@@ -432,10 +440,12 @@ module _ (sheet : Sheet Condition) {s : Bytes} {t : List ℕ} (fs : lazy.Frames)
       go kinds.Listed p = absurd (miss values 8 tt p)
       go kinds.Named p = absurd (miss values 9 tt p)
 
-  pub part-listed : {r : Operand} {gs : lazy.Frames} {m : ℕ} → o .kind ≡ kinds.Listed → gs ≡ outer (o .depth) fs → m ≡ length gs + 1 → Means s t r (touch sheet m gs (tree s t k)) → Means s t r (partAt sheet s t fs o k)
+  pub part-listed : {r : Operand} {gs : lazy.Frames} {m : ℕ} → o .kind ≡ kinds.Listed → gs ≡ outer (o .depth) fs → m ≡ length gs + 1 →
+      Means s t r (touch sheet m gs (tree s t k)) → Means s t r (partAt sheet s t fs o k)
   unfolding partBy
   part-listed q e l w = record { means = w .means ∙ touched-part sheet (tree s t k) e l ∙ rw q; fits = w .fits }
 
-  pub part-named : {r : Operand} {gs : lazy.Frames} {m : ℕ} → o .kind ≡ kinds.Named → gs ≡ outer (o .depth) fs → m ≡ length gs + 1 → Means s t r (touch sheet m gs (tree s t k)) → Means s t r (partAt sheet s t fs o k)
+  pub part-named : {r : Operand} {gs : lazy.Frames} {m : ℕ} → o .kind ≡ kinds.Named → gs ≡ outer (o .depth) fs → m ≡ length gs + 1 →
+      Means s t r (touch sheet m gs (tree s t k)) → Means s t r (partAt sheet s t fs o k)
   unfolding partBy
   part-named q e l w = record { means = w .means ∙ touched-part sheet (tree s t k) e l ∙ rw q; fits = w .fits }

@@ -91,14 +91,33 @@ module _ (s : Bytes) (w : List ℕ) (n : ℕ) (long : 16384 ≤ length w) (small
 
       only : (y : Bytes) (m : Marked s w′ y) (b : Bool) → eqb (m .node) n ≡ b → Marked s w y ⊎ Named y (x ∷ [])
       only y m true q = inr (List·Memᴰ·head (sym (moved y (m .node) (m .text)) ∙ ap (λ (k : ℕ). textAt s (startAt (table w) k)) (eqb-true (m .node) n q) ∙ e))
-      only y m false q = inl (record { node = m .node; small = m .small; mark = ap (λ (k : ℕ). k % 2) (sym (there (m .node) (eqb-false (m .node) n q))) ∙ m .mark; text = moved y (m .node) (m .text) })
+      only y m false q =
+          inl
+          (record {
+            node = m .node;
+            small = m .small;
+            mark = ap (λ (k : ℕ). k % 2) (sym (there (m .node) (eqb-false (m .node) n q))) ∙ m .mark;
+            text = moved y (m .node) (m .text);
+          })
 
       back : (y : Bytes) (m : ℕ) → textAt s (startAt (table w) m) ≡ y → textAt s (startAt (table w′) m) ≡ y
       back y m q = ap (λ (t : List ℕ). textAt s (startAt t m)) same-rows ∙ q
 
       still : (y : Bytes) (m : Marked s w y) (b : Bool) → eqb (m .node) n ≡ b → Marked s w′ y
-      still y m true q = record { node = m .node; small = m .small; mark = ap (λ (k : ℕ). getD w′ (12288 + k) 0 % 2) (eqb-true (m .node) n q) ∙ here; text = back y (m .node) (m .text) }
-      still y m false q = record { node = m .node; small = m .small; mark = ap (λ (k : ℕ). k % 2) (there (m .node) (eqb-false (m .node) n q)) ∙ m .mark; text = back y (m .node) (m .text) }
+      still y m true q =
+          record {
+            node = m .node;
+            small = m .small;
+            mark = ap (λ (k : ℕ). getD w′ (12288 + k) 0 % 2) (eqb-true (m .node) n q) ∙ here;
+            text = back y (m .node) (m .text);
+          }
+      still y m false q =
+          record {
+            node = m .node;
+            small = m .small;
+            mark = ap (λ (k : ℕ). k % 2) (there (m .node) (eqb-false (m .node) n q)) ∙ m .mark;
+            text = back y (m .node) (m .text);
+          }
 
   pub left-missed : (quiet : Bool) (x : Bytes) → textAt s (startAt (table w) n) ≡ x → Left s w (missed quiet w n) (heard quiet (x ∷ []))
   left-missed true x e = left-none s w

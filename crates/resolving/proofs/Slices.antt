@@ -48,7 +48,12 @@ from-text s k e h x =
     record { read = rw (i .1, q); order = omega arith; upto = omega (arith, length-drop k s, x .order, x .upto) }
 
 pub path-from : (s : Bytes) (k : ℕ) → OnText s k 0 → k ≤ length s → length s ≤ 32768 → PathAt (take (length s - k) (drop k s))
-path-from s k o h l = rw (rest-whole s k) (record { onText = record { stop = o .stop - k; text = from-text s k (o .stop) h (o .text); few = omega arith }; short = omega (arith, length-drop k s) })
+path-from s k o h l =
+    rw (rest-whole s k)
+    (record {
+      onText = record { stop = o .stop - k; text = from-text s k (o .stop) h (o .text); few = omega arith };
+      short = omega (arith, length-drop k s);
+    })
 
 pub length-from : (s : Bytes) (k : ℕ) → length (take (length s - k) (drop k s)) ≡ length s - k
 length-from s k = ap length (rest-whole s k) ∙ length-drop k s
@@ -65,7 +70,8 @@ module _ (s : Bytes) (t : List ℕ) where
   framed-outer d [] = ap (framed s t) (outer-all d [] (omega arith)) ∙ sym (outer-all d [] (omega arith))
   framed-outer d (f ∷ fs) = go (leb (suc (length fs)) d) refl (framed-outer d fs)
     where
-      go : (b : Bool) → leb (suc (length fs)) d ≡ b → framed s t (outer d fs) ≡ outer d (framed s t fs) → framed s t (outer d (f ∷ fs)) ≡ outer d (frameOf s t f ∷ framed s t fs)
+      go : (b : Bool) → leb (suc (length fs)) d ≡ b → framed s t (outer d fs) ≡ outer d (framed s t fs) →
+          framed s t (outer d (f ∷ fs)) ≡ outer d (frameOf s t f ∷ framed s t fs)
       go true q below =
           let k = leb-true (suc (length fs)) d q in
           let l = framed-length fs in
@@ -99,7 +105,8 @@ module _ (s : Bytes) (t : List ℕ) where
   binder-as k [] h = record { means = refl; fits = tt }
   binder-as k (f ∷ fs) h = go (sameBytes k (textAt s (f .name))) refl (binder-as k fs (h .1))
     where
-      go : (b : Bool) → sameBytes k (textAt s (f .name)) ≡ b → BoundAs s t (boundIn s k fs) (find k (framed s t fs)) → BoundAs s t (boundIn s k (f ∷ fs)) (find k (frameOf s t f ∷ framed s t fs))
+      go : (b : Bool) → sameBytes k (textAt s (f .name)) ≡ b → BoundAs s t (boundIn s k fs) (find k (framed s t fs)) →
+          BoundAs s t (boundIn s k (f ∷ fs)) (find k (frameOf s t f ∷ framed s t fs))
       go true q below = rw (q, find) (record { means = refl; fits = h .0 })
       go false q below = rw (q, find) below
 
@@ -120,7 +127,12 @@ module _ {s : Bytes} {w : List ℕ} {roots : Roots} {f : Frames} (r : Ready s w 
     short = r .short;
     rooted = r .rooted;
     linked = r .linked;
-    bound = record { within = omega (arith, r .bound .within); names = rw e (named-outer s (table w) d (held f) (r .bound .names)); operands = rw e (bound-outer s (table w) d (held f) (r .bound .operands)) };
+    bound =
+        record {
+          within = omega (arith, r .bound .within);
+          names = rw e (named-outer s (table w) d (held f) (r .bound .names));
+          operands = rw e (bound-outer s (table w) d (held f) (r .bound .operands));
+        };
   }
 
   pub frames-outer : (g : Frames) (d : ℕ) → held g ≡ outer d (held f) → framesOf s (table w) g ≡ outer d (framesOf s (table w) f)

@@ -61,10 +61,18 @@ module _ (sheet : Sheet Condition) (s : Bytes) (t : List ℕ) (fs : lazy.Frames)
   names-parts [] = refl
   names-parts (k ∷ ks) = rw (names-parts ks)
 
-  pub whole-parts : (named : Bool) (n : ℕ) → Holds s t named n → operand sheet fs (tree s t n) ≡ (partsAt sheet s t fs named (kids s t n named) >>= λ r. ok (same (λ _. stored.operandOf s t (holder n (length fs) named)) r))
+  pub whole-parts : (named : Bool) (n : ℕ) → Holds s t named n →
+      operand sheet fs (tree s t n) ≡
+      (partsAt sheet s t fs named (kids s t n named) >>= λ r. ok (same (λ _. stored.operandOf s t (holder n (length fs) named)) r))
   unfolding operand meant
-  whole-parts false n h = ap (operand sheet fs) (array-row h .value) ∙ ap (λ (x : Result (Resolved (Unit {0}))). x >>= λ r. ok (same (λ _. lazy.listed (length fs) (itemsOf s t n)) r)) (ap (operandIn sheet fs) (items-are s t n) ∙ items-parts (kids s t n false))
-  whole-parts true n h = ap (operand sheet fs) (object-row h .value) ∙ ap (λ (x : Result (Resolved (Unit {0}))). x >>= λ r. ok (same (λ _. lazy.named (length fs) (fieldsOf s t n)) r)) (ap (operandOf sheet fs) (fields-are s t n) ∙ names-parts (kids s t n true))
+  whole-parts false n h =
+      ap (operand sheet fs) (array-row h .value) ∙
+      ap (λ (x : Result (Resolved (Unit {0}))). x >>= λ r. ok (same (λ _. lazy.listed (length fs) (itemsOf s t n)) r))
+      (ap (operandIn sheet fs) (items-are s t n) ∙ items-parts (kids s t n false))
+  whole-parts true n h =
+      ap (operand sheet fs) (object-row h .value) ∙
+      ap (λ (x : Result (Resolved (Unit {0}))). x >>= λ r. ok (same (λ _. lazy.named (length fs) (fieldsOf s t n)) r))
+      (ap (operandOf sheet fs) (fields-are s t n) ∙ names-parts (kids s t n true))
 
 -- a whole nests one deeper than its parts
 module _ (s : Bytes) (t : List ℕ) where
@@ -84,7 +92,8 @@ module _ (s : Bytes) (t : List ℕ) where
       let e : depth (tree s t n) ≡ 1 + depthIn (fromNodes (tree s t) (kids s t n false)) = ap depth (array-row h .value) ∙ ap (λ (vs : Values). 1 + depthIn vs) (items-are s t n) in
       (omega arith, items-shallow (l - 1) (kids s t n false) (omega arith))
   whole-shallow true n l h d =
-      let e : depth (tree s t n) ≡ 1 + depthOf (fromNames s t (tree s t) (kids s t n true)) = ap depth (object-row h .value) ∙ ap (λ (ms : Members). 1 + depthOf ms) (fields-are s t n) in
+      let e : depth (tree s t n) ≡ 1 + depthOf (fromNames s t (tree s t) (kids s t n true)) = ap depth (object-row h .value) ∙
+      ap (λ (ms : Members). 1 + depthOf ms) (fields-are s t n) in
       (omega arith, names-shallow (l - 1) (kids s t n true) (omega arith))
 
 -- what was seen so far
@@ -149,41 +158,87 @@ module _ {quiet : Bool} {s : Bytes} {w w′ : List ℕ} {r : code.Resolved} {m :
       go : (x : code.Resolved) → resolvedOf s (table w) (a .names) x ≡ m → Heard quiet s (table w) (a .names) (a .met) x → seenOf x ≡ parts.Seen b → SeenAs quiet s w w′ b m
       go (answers.Present o) p h q =
           let z : true ≡ b = cc in
-          subst (λ (y : Bool). SeenAs quiet s w w′ y m) z (record { names = []; none = λ _. refl; left = subst (Left s w w′) (h .1 ∙ sym (heard-none quiet)) (a .left); is = present (stored.operandOf s (table w) o); means = sym p; as′ = refl })
+          subst (λ (y : Bool). SeenAs quiet s w w′ y m) z
+          (record {
+            names = [];
+            none = λ _. refl;
+            left = subst (Left s w w′) (h .1 ∙ sym (heard-none quiet)) (a .left);
+            is = present (stored.operandOf s (table w) o);
+            means = sym p;
+            as′ = refl;
+          })
       go answers.Missing p h q =
           let z : false ≡ b = cc in
-          subst (λ (y : Bool). SeenAs quiet s w w′ y m) z (record { names = a .names; none = λ f. absurd (impossible (cc)); left = subst (Left s w w′) h (a .left); is = missing (a .names); means = sym p; as′ = refl })
+          subst (λ (y : Bool). SeenAs quiet s w w′ y m) z
+          (record {
+            names = a .names;
+            none = λ f. absurd (impossible (cc));
+            left = subst (Left s w w′) h (a .left);
+            is = missing (a .names);
+            means = sym p;
+            as′ = refl;
+          })
       go (answers.Unknown n) p h q = absurd (impossible (cc))
       go answers.NoId p h q = absurd (impossible (cc))
 
   -- a refusal of a part is that of the whole
-  part-refused : {w₀ : List ℕ} {ns : Names} (y : code.Resolved) → seenOf r ≡ parts.Refused y → Left s w₀ w ns → {M : Result (Resolved lazy.Operand)} → ((f : Refusal) → m ≡ refused f → M ≡ refused f) → ResolvedAs quiet s w₀ w′ y M
+  part-refused :
+      {w₀ : List ℕ} {ns : Names} (y : code.Resolved) → seenOf r ≡ parts.Refused y → Left s w₀ w ns → {M : Result (Resolved lazy.Operand)} →
+      ((f : Refusal) → m ≡ refused f → M ≡ refused f) → ResolvedAs quiet s w₀ w′ y M
   part-refused {w₀} {ns} y e l {M} k = go r (a .means) (a .hears) e
     where
-      go : (x : code.Resolved) → resolvedOf s (table w) (a .names) x ≡ m → Heard quiet s (table w) (a .names) (a .met) x → seenOf x ≡ parts.Refused y → ResolvedAs quiet s w₀ w′ y M
+      go : (x : code.Resolved) → resolvedOf s (table w) (a .names) x ≡ m → Heard quiet s (table w) (a .names) (a .met) x →
+          seenOf x ≡ parts.Refused y → ResolvedAs quiet s w₀ w′ y M
       go (answers.Present o) p h q = absurd (impossible (cc))
       go answers.Missing p h q = absurd (impossible (cc))
       go (answers.Unknown n) p h q =
           let z : answers.Unknown n ≡ y = cc in
-          subst (λ (v : code.Resolved). ResolvedAs quiet s w₀ w′ v M) z (record { names = []; met = ns ++ a .met; means = sym (k _ (sym p ∙ rw (l .rows))); left = left-then l (a .left); hears = rw (l .rows) at h })
+          subst (λ (v : code.Resolved). ResolvedAs quiet s w₀ w′ v M) z
+          (record {
+            names = [];
+            met = ns ++ a .met;
+            means = sym (k _ (sym p ∙ rw (l .rows)));
+            left = left-then l (a .left);
+            hears = rw (l .rows) at h;
+          })
       go answers.NoId p h q =
           let z : answers.NoId ≡ y = cc in
           subst (λ (v : code.Resolved). ResolvedAs quiet s w₀ w′ v M) z (record { names = []; met = ns ++ a .met; means = sym (k _ (sym p)); left = left-then l (a .left); hears = tt })
 
 -- the loop over parts: w₀ the words at entry, w now
-pub record Gathering (quiet : Bool) (s : Bytes) (w₀ : List ℕ) (sheet : Sheet Condition) (fs : lazy.Frames) (n d : ℕ) (named : Bool) (l : ℕ) (m : Result (Resolved lazy.Operand)) (w : List ℕ) (whole : Bool) (c : Children) : Type 0 where
+pub record Gathering (quiet : Bool) (s : Bytes) (w₀ : List ℕ) (sheet : Sheet Condition) (fs : lazy.Frames) (n d : ℕ) (named : Bool)
+    (l : ℕ) (m : Result (Resolved lazy.Operand)) (w : List ℕ) (whole : Bool) (c : Children) : Type 0 where
   pub names : Names
   pub none : whole ≡ true → names ≡ []
   pub left : Left s w₀ w (heard quiet names)
   pub walk : ChildrenAt s (table w₀) c
   pub over : c .named ≡ named
   pub shallow : Shallow s (table w₀) named l (childrenOf (table w₀) c)
-  pub rest : m ≡ (partsAt sheet s (table w₀) fs named (childrenOf (table w₀) c) >>= λ rs. ok (same (λ _. stored.operandOf s (table w₀) (holder n d named)) (join (soFar whole names) rs)))
+  pub rest : m ≡
+      (partsAt sheet s (table w₀) fs named (childrenOf (table w₀) c) >>= λ rs. ok
+      (same (λ _. stored.operandOf s (table w₀) (holder n d named)) (join (soFar whole names) rs)))
 
-finish : (quiet : Bool) {s : Bytes} {w₀ w : List ℕ} (b y : Bool) (ns : Names) (n d : ℕ) → Holds s (table w₀) y n → d ≤ 32 → (b ≡ true → ns ≡ []) → Left s w₀ w (heard quiet ns) → ResolvedAs quiet s w₀ w (gatheredOf n d y b) (ok (same (λ _. stored.operandOf s (table w₀) (holder n d y)) (soFar b ns)))
+finish :
+    (quiet : Bool) {s : Bytes} {w₀ w : List ℕ} (b y : Bool) (ns : Names) (n d : ℕ) → Holds s (table w₀) y n → d ≤ 32 → (b ≡ true → ns ≡ []) →
+    Left s w₀ w (heard quiet ns) →
+    ResolvedAs quiet s w₀ w (gatheredOf n d y b) (ok (same (λ _. stored.operandOf s (table w₀) (holder n d y)) (soFar b ns)))
 unfolding Fits
-finish quiet true true ns n d h few p l = record { names = ns; met = heard quiet ns; means = refl; left = l; hears = (operand-at (h .node) few h, ap (heard quiet) (p refl) ∙ heard-none quiet) }
-finish quiet true false ns n d h few p l = record { names = ns; met = heard quiet ns; means = refl; left = l; hears = (operand-at (h .node) few h, ap (heard quiet) (p refl) ∙ heard-none quiet) }
+finish quiet true true ns n d h few p l =
+    record {
+      names = ns;
+      met = heard quiet ns;
+      means = refl;
+      left = l;
+      hears = (operand-at (h .node) few h, ap (heard quiet) (p refl) ∙ heard-none quiet);
+    }
+finish quiet true false ns n d h few p l =
+    record {
+      names = ns;
+      met = heard quiet ns;
+      means = refl;
+      left = l;
+      hears = (operand-at (h .node) few h, ap (heard quiet) (p refl) ∙ heard-none quiet);
+    }
 finish quiet false true ns n d h few p l = record { names = ns; met = heard quiet ns; means = refl; left = l; hears = refl }
 finish quiet false false ns n d h few p l = record { names = ns; met = heard quiet ns; means = refl; left = l; hears = refl }
 
@@ -191,9 +246,13 @@ bind-through : {A B : Type 0} (x : Result A) (f g : A → Result B) → ((a : A)
 bind-through (ok a) f g h = h a
 bind-through (refused r) f g h = refl
 
-module _ {quiet : Bool} {s : Bytes} {w₀ : List ℕ} {sheet : Sheet Condition} {fs : lazy.Frames} {n d : ℕ} {named : Bool} {l : ℕ} {m : Result (Resolved lazy.Operand)} {w : List ℕ} {whole : Bool} {c : Children} (g : Gathering quiet s w₀ sheet fs n d named l m w whole c) where
+module _ {quiet : Bool} {s : Bytes} {w₀ : List ℕ} {sheet : Sheet Condition} {fs : lazy.Frames} {n d : ℕ} {named : Bool} {l : ℕ}
+    {m : Result (Resolved lazy.Operand)} {w : List ℕ} {whole : Bool} {c : Children}
+    (g : Gathering quiet s w₀ sheet fs n d named l m w whole c) where
   -- no part is left
-  pub gather-end : Holds s (table w₀) named n → d ≤ 32 → childrenOf (table w₀) c ≡ [] → {r : code.Resolved} → r ≡ gatheredOf n d named whole → ResolvedAs quiet s w₀ w r m
+  pub gather-end :
+      Holds s (table w₀) named n → d ≤ 32 → childrenOf (table w₀) c ≡ [] → {r : code.Resolved} → r ≡ gatheredOf n d named whole →
+      ResolvedAs quiet s w₀ w r m
   unfolding partsAt
   gather-end h few e q = rw (q, g .rest, e, join-none (soFar whole (g .names))) (finish quiet whole named (g .names) n d h few (g .none) (g .left))
 
@@ -212,11 +271,17 @@ module _ {quiet : Bool} {s : Bytes} {w₀ : List ℕ} {sheet : Sheet Condition} 
     pub this-shallow : depth (tree s (table w₀) (valueNode named k)) ≤ l
     this-shallow = deeper .0
 
-    turn : m ≡ (operand sheet fs v >>= λ r. partsAt sheet s (table w₀) fs named (childrenOf (table w₀) c′) >>= λ rs. ok (same (λ _. stored.operandOf s (table w₀) (holder n d named)) (join (soFar whole (g .names)) (both (λ _ _. tt) r rs))))
+    turn : m ≡
+        (operand sheet fs v >>= λ r. partsAt sheet s (table w₀) fs named (childrenOf (table w₀) c′) >>= λ rs. ok
+        (same (λ _. stored.operandOf s (table w₀) (holder n d named)) (join (soFar whole (g .names)) (both (λ _ _. tt) r rs))))
     unfolding partsAt
     turn = g .rest ∙ rw (x .children) (push (operand sheet fs v) (partsAt sheet s (table w₀) fs named (childrenOf (table w₀) c′)))
       where
-        push : (p : Result (Resolved lazy.Operand)) (q : Result (Resolved (Unit {0}))) → (p >>= (λ r. q >>= λ rs. ok (both (λ _ _. tt) r rs)) >>= λ rs. ok (same (λ _. stored.operandOf s (table w₀) (holder n d named)) (join (soFar whole (g .names)) rs))) ≡ (p >>= λ r. q >>= λ rs. ok (same (λ _. stored.operandOf s (table w₀) (holder n d named)) (join (soFar whole (g .names)) (both (λ _ _. tt) r rs))))
+        push : (p : Result (Resolved lazy.Operand)) (q : Result (Resolved (Unit {0}))) →
+            (p >>= (λ r. q >>= λ rs. ok (both (λ _ _. tt) r rs)) >>= λ rs. ok
+            (same (λ _. stored.operandOf s (table w₀) (holder n d named)) (join (soFar whole (g .names)) rs))) ≡
+            (p >>= λ r. q >>= λ rs. ok
+            (same (λ _. stored.operandOf s (table w₀) (holder n d named)) (join (soFar whole (g .names)) (both (λ _ _. tt) r rs))))
         push (ok r) (ok rs) = refl
         push (ok r) (refused f) = refl
         push (refused f) q = refl
@@ -235,10 +300,25 @@ module _ {quiet : Bool} {s : Bytes} {w₀ : List ℕ} {sheet : Sheet Condition} 
             walk = x .walk;
             over = x .same ∙ g .over;
             shallow = deeper .1;
-            rest = turn ∙ ap (λ (y : Result (Resolved lazy.Operand)). y >>= λ r₁. partsAt sheet s (table w₀) fs named (childrenOf (table w₀) c′) >>= λ rs. ok (same (λ _. stored.operandOf s (table w₀) (holder n d named)) (join (soFar whole (g .names)) (both (λ _ _. tt) r₁ rs)))) (z .means) ∙ (bind-through (partsAt sheet s (table w₀) fs named (childrenOf (table w₀) c′)) _ _ (λ rs. ap (λ (y : Resolved (Unit {0})). ok (same (λ _. stored.operandOf s (table w₀) (holder n d named)) y)) (ap (join (soFar whole (g .names))) (seen-both (z .is) rs ∙ ap (λ (y : Resolved (Unit {0})). join y rs) (z .as′)) ∙ sym (join-assoc (soFar whole (g .names)) (soFar b (z .names)) rs) ∙ ap (λ (y : Resolved (Unit {0})). join y rs) (sym (sofar-step whole b (g .names) (z .names) (g .none) (z .none))))));
+            rest =
+                turn ∙
+                ap
+                (λ (y : Result (Resolved lazy.Operand)). y >>= λ r₁. partsAt sheet s (table w₀) fs named (childrenOf (table w₀) c′) >>=
+                λ rs. ok
+                (same (λ _. stored.operandOf s (table w₀) (holder n d named))
+                (join (soFar whole (g .names)) (both (λ _ _. tt) r₁ rs)))) (z .means) ∙
+                (bind-through (partsAt sheet s (table w₀) fs named (childrenOf (table w₀) c′)) _ _
+                (λ rs. ap (λ (y : Resolved (Unit {0})). ok (same (λ _. stored.operandOf s (table w₀) (holder n d named)) y))
+                (ap (join (soFar whole (g .names)))
+                (seen-both (z .is) rs ∙ ap (λ (y : Resolved (Unit {0})). join y rs) (z .as′)) ∙
+                sym (join-assoc (soFar whole (g .names)) (soFar b (z .names)) rs) ∙
+                ap (λ (y : Resolved (Unit {0})). join y rs)
+                (sym (sofar-step whole b (g .names) (z .names) (g .none) (z .none))))));
           }
 
-pub gather-begin : (quiet : Bool) (s : Bytes) (w : List ℕ) (sheet : Sheet Condition) (fs : lazy.Frames) (n d : ℕ) (named : Bool) (l : ℕ) → Holds s (table w) named n → Linked s (table w) → length fs ≡ d → depth (tree s (table w) n) ≤ l → {c : Children} → c ≡ begun (table w) n named → Gathering quiet s w sheet fs n d named (l - 1) (operand sheet fs (tree s (table w) n)) w true c
+pub gather-begin : (quiet : Bool) (s : Bytes) (w : List ℕ) (sheet : Sheet Condition) (fs : lazy.Frames) (n d : ℕ) (named : Bool) (l : ℕ) →
+    Holds s (table w) named n → Linked s (table w) → length fs ≡ d → depth (tree s (table w) n) ≤ l → {c : Children} →
+    c ≡ begun (table w) n named → Gathering quiet s w sheet fs n d named (l - 1) (operand sheet fs (tree s (table w) n)) w true c
 gather-begin quiet s w sheet fs n d named l h k e sh q = record {
   names = [];
   none = λ _. refl;
@@ -246,5 +326,10 @@ gather-begin quiet s w sheet fs n d named l h k e sh q = record {
   walk = walk-begins named h k q;
   over = walk-named named h k q;
   shallow = rw (walk-kids named h k q) (whole-shallow s (table w) named n l h sh .1);
-  rest = whole-parts sheet s (table w) fs named n h ∙ rw (walk-kids named h k q, e) (bind-through (partsAt sheet s (table w) fs named (kids s (table w) n named)) _ _ (λ rs. ap (λ (y : Resolved (Unit {0})). ok (same (λ _. stored.operandOf s (table w) (holder n d named)) y)) (sym (join-first rs))));
+  rest =
+      whole-parts sheet s (table w) fs named n h ∙
+      rw (walk-kids named h k q, e)
+      (bind-through (partsAt sheet s (table w) fs named (kids s (table w) n named)) _ _
+      (λ rs. ap (λ (y : Resolved (Unit {0})). ok (same (λ _. stored.operandOf s (table w) (holder n d named)) y))
+      (sym (join-first rs))));
 }

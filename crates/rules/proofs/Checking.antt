@@ -48,7 +48,9 @@ pub record Checking (s : Bytes) (w₀ : List ℕ) (m : Members) (kind : Rules) (
   pub low : i ≤ k
   pub walking : Walking (aRule condition) s w₀ (node + 1) e (check sheet (rulesOf kind) 0) (check sheet (rulesOf kind) i) k
 
-pub checking : {s : Bytes} {w : List ℕ} {m : Members} (kind : Rules) {node e : ℕ} → (16384 ≤ length w) × Known (Accepted s w m) × Known (Gives (anArrayOf (aRule condition)) s w node) → e ≡ afterAt w node → Checking s w m kind node e w 0 (node + 1)
+pub checking : {s : Bytes} {w : List ℕ} {m : Members} (kind : Rules) {node e : ℕ} →
+    (16384 ≤ length w) × Known (Accepted s w m) × Known (Gives (anArrayOf (aRule condition)) s w node) → e ≡ afterAt w node →
+    Checking s w m kind node e w 0 (node + 1)
 checking {s} {w} kind (large, a, g) q = record {
   sheet = a .given;
   accepted = a .known;
@@ -65,10 +67,17 @@ passed-all sheet kind i s w = record { means = refl; held = tt }
 
 module _ {s : Bytes} {w₀ : List ℕ} {m : Members} {kind : Rules} {node e : ℕ} {w : List ℕ} {i k : ℕ} (l : Checking s w₀ m kind node e w i k) where
   -- what is told of the rules is told of those that any such sheet gives
-  told-whole : {w′ : List ℕ} {y : Answer} → OnlyMarks w₀ w′ → ((xs : List (Rule Condition)) → EachGives (aRule condition) s w₀ (node + 1) e xs → Told s w′ (check (l .sheet) (rulesOf kind) 0 xs) y) → (sheet : Sheet Condition) (xs : List (Rule Condition)) → Accepted s w₀ m sheet → Gives (anArrayOf (aRule condition)) s w₀ node xs → Answered s w₀ w′ (check sheet (rulesOf kind) 0 xs) y
-  told-whole {w′} {y} o h sheet xs a g = answered-over o (subst (λ (x : Sheet Condition). Told s w′ (check x (rulesOf kind) 0 xs) y) (one-sheet (l .accepted) a) (h xs (behind-array (aRule condition) g (l .isEnd))))
+  told-whole : {w′ : List ℕ} {y : Answer} → OnlyMarks w₀ w′ →
+      ((xs : List (Rule Condition)) → EachGives (aRule condition) s w₀ (node + 1) e xs → Told s w′ (check (l .sheet) (rulesOf kind) 0 xs) y) →
+      (sheet : Sheet Condition) (xs : List (Rule Condition)) → Accepted s w₀ m sheet → Gives (anArrayOf (aRule condition)) s w₀ node xs →
+      Answered s w₀ w′ (check sheet (rulesOf kind) 0 xs) y
+  told-whole {w′} {y} o h sheet xs a g =
+      answered-over o
+      (subst (λ (x : Sheet Condition). Told s w′ (check x (rulesOf kind) 0 xs) y) (one-sheet (l .accepted) a)
+      (h xs (behind-array (aRule condition) g (l .isEnd))))
 
-  pub all-hold : e ≤ k → (sheet : Sheet Condition) (xs : List (Rule Condition)) → Accepted s w₀ m sheet → Gives (anArrayOf (aRule condition)) s w₀ node xs → Answered s w₀ w (check sheet (rulesOf kind) 0 xs) answers.Passed
+  pub all-hold : e ≤ k → (sheet : Sheet Condition) (xs : List (Rule Condition)) → Accepted s w₀ m sheet →
+      Gives (anArrayOf (aRule condition)) s w₀ node xs → Answered s w₀ w (check sheet (rulesOf kind) 0 xs) answers.Passed
   all-hold h = told-whole (l .only) (λ xs g. subst (λ (y : Result Verdict). Told s w y answers.Passed) (ended (l .walking) h xs g) (passed-all (l .sheet) kind i s w))
 
   accepted-now : Accepted s w m (l .sheet)
@@ -81,14 +90,18 @@ module _ {s : Bytes} {w₀ : List ℕ} {m : Members} {kind : Rules} {node e : �
     pub rule-next : (16384 ≤ length w) × Known (Accepted s w m) × Known (Gives (aRule condition) s w k)
     rule-next = (omega (arith, l .large, l .only .long), record { given = l .sheet; known = accepted-now }, record { given = next (l .walking) h .first; known = rule-now })
 
-    module _ {w′ : List ℕ} {r : Ruling} (j : (sheet : Sheet Condition) (x : Rule Condition) → Accepted s w m sheet → Gives (aRule condition) s w k x → Ruled s w w′ sheet (rulesOf kind) i x r) where
+    module _ {w′ : List ℕ} {r : Ruling}
+        (j : (sheet : Sheet Condition) (x : Rule Condition) → Accepted s w m sheet → Gives (aRule condition) s w k x → Ruled s w w′ sheet
+        (rulesOf kind) i x r) where
       its : Ruled s w w′ (l .sheet) (rulesOf kind) i (next (l .walking) h .first) r
       its = j (l .sheet) (next (l .walking) h .first) accepted-now rule-now
 
       since : OnlyMarks w₀ w′
       since = marks-then (l .only) (its .only)
 
-      pub rule-settles : (y : Answer) → r ≡ rulings.Settles y → (sheet : Sheet Condition) (xs : List (Rule Condition)) → Accepted s w₀ m sheet → Gives (anArrayOf (aRule condition)) s w₀ node xs → Answered s w₀ w′ (check sheet (rulesOf kind) 0 xs) y
+      pub rule-settles :
+          (y : Answer) → r ≡ rulings.Settles y → (sheet : Sheet Condition) (xs : List (Rule Condition)) → Accepted s w₀ m sheet →
+          Gives (anArrayOf (aRule condition)) s w₀ node xs → Answered s w₀ w′ (check sheet (rulesOf kind) 0 xs) y
       rule-settles y q =
           let z = subst (RuledAs s w′ (l .sheet) (rulesOf kind) i (next (l .walking) h .first)) q (its .is) in
           told-whole since (λ xs g. subst (λ (v : Result Verdict). Told s w′ v y) (settled (l .walking) h _ refl xs g) (z (next (l .walking) h .others)))

@@ -83,7 +83,9 @@ module _ (s : Bytes) (w : List ℕ) {f : Found} where
     pub no-state : f′ ≡ founds.Nothing → (i t : Option Bytes) → MayGive aText s w f i → MayGive aText s w f′ t → true ≡ fits i t
     no-state q i t g h = let a = there aText s w m p g in sym (ap (λ (x : Option Bytes). fits x t) (a .1) ∙ ap (fits (some (a .0))) (missing aText s w q h))
 
-    pub both-states : {a b n : ℕ} → f′ ≡ founds.At n → a ≡ startAt w m → b ≡ startAt w n → (r : Bool) → r ≡ sameBytes (textAt s a) (textAt s b) → (i t : Option Bytes) → MayGive aText s w f i → MayGive aText s w f′ t → r ≡ fits i t
+    pub both-states :
+        {a b n : ℕ} → f′ ≡ founds.At n → a ≡ startAt w m → b ≡ startAt w n → (r : Bool) → r ≡ sameBytes (textAt s a) (textAt s b) →
+        (i t : Option Bytes) → MayGive aText s w f i → MayGive aText s w f′ t → r ≡ fits i t
     both-states {a} {b} {n} q u v r e i t g h = e ∙ sym (ap (λ (x : Option Bytes). fits x t) (state-text m p g u) ∙ ap (fits (some (textAt s a))) (it h))
       where
         it : MayGive aText s w f′ t → t ≡ some (textAt s b)
@@ -91,10 +93,12 @@ module _ (s : Bytes) (w : List ℕ) {f : Found} where
 
 -- ---- eligible
 module _ (s : Bytes) (w : List ℕ) {m : OutcomeMembers} where
-  pub not-eligible : ((s : Bytes) (b : Option Bool) → MayGive aBool s w (m .«wrong_state») b → true ≡ orFalse b) → (o : Outcome Condition) (t : Option Bytes) → OutcomeGives s w m o → false ≡ eligible t o
+  pub not-eligible : ((s : Bytes) (b : Option Bool) → MayGive aBool s w (m .«wrong_state») b → true ≡ orFalse b) →
+      (o : Outcome Condition) (t : Option Bytes) → OutcomeGives s w m o → false ≡ eligible t o
   unfolding eligible
   not-eligible q o t g = ap {B = Bool} (λ (b : Bool). not b && fits (o .inState) t) (q s (g .wrong) (g .wrongState) ∙ sym (g .isWrong))
 
-  pub as-fits : ((s : Bytes) (b : Option Bool) → MayGive aBool s w (m .«wrong_state») b → false ≡ orFalse b) → (o : Outcome Condition) (t : Option Bytes) → OutcomeGives s w m o → fits (o .inState) t ≡ eligible t o
+  pub as-fits : ((s : Bytes) (b : Option Bool) → MayGive aBool s w (m .«wrong_state») b → false ≡ orFalse b) →
+      (o : Outcome Condition) (t : Option Bytes) → OutcomeGives s w m o → fits (o .inState) t ≡ eligible t o
   unfolding eligible
   as-fits q o t g = ap {B = Bool} (λ (b : Bool). not b && fits (o .inState) t) (q s (g .wrong) (g .wrongState) ∙ sym (g .isWrong))

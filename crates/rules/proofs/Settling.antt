@@ -120,9 +120,16 @@ module _ (sheet : Sheet Condition) (kind : Rules) (i : ℕ) (x : Rule Condition)
   check-judged : (a : Answer) → evaluate kernel sheet [] (x .assert) ≡ ok a → check sheet kind i (x ∷ xs) ≡ behind a
   check-judged a q = check-first ∙ ap {B = Result Verdict} (λ (y : Result Answer). y >>= behind) q
 
-module _ {s : Bytes} {w w′ : List ℕ} (kind : Kind) (i : ℕ) (x : Rule Condition) {sheet : Sheet Condition} {r : Outcome} (a : Alone s w w′ r (evaluate kernel sheet [] (x .assert))) where
-  pub rule-refused : {y : Reply} → ((f : Answer → Result Verdict) → Told s w′ (evaluate kernel sheet [] (x .assert) >>= f) y) → Ruled s w w′ sheet (rulesOf kind) i x (rulings.Settles y)
-  rule-refused {y} h = record { is = λ xs. subst (λ (z : Result Verdict). Told s w′ z y) (sym (check-first sheet (rulesOf kind) i x xs)) (h (behind sheet (rulesOf kind) i x xs)); only = a .only }
+module _ {s : Bytes} {w w′ : List ℕ} (kind : Kind) (i : ℕ) (x : Rule Condition) {sheet : Sheet Condition} {r : Outcome}
+    (a : Alone s w w′ r (evaluate kernel sheet [] (x .assert))) where
+  pub rule-refused : {y : Reply} → ((f : Answer → Result Verdict) → Told s w′ (evaluate kernel sheet [] (x .assert) >>= f) y) →
+      Ruled s w w′ sheet (rulesOf kind) i x (rulings.Settles y)
+  rule-refused {y} h =
+      record {
+        is = λ xs. subst (λ (z : Result Verdict). Told s w′ z y) (sym (check-first sheet (rulesOf kind) i x xs))
+            (h (behind sheet (rulesOf kind) i x xs));
+        only = a .only;
+      }
 
   pub rule-holds : r ≡ outcomes.Judged truths.True → Ruled s w w′ sheet (rulesOf kind) i x rulings.Holds
   rule-holds q = record { is = λ xs. check-judged sheet (rulesOf kind) i x xs _ (judged a truths.True q); only = a .only }

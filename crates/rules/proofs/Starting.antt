@@ -38,7 +38,9 @@ unfolding nodeOf
 given-node {A} {kind} {s} {w} {f} {a} g q = subst (λ (i : ℕ). Gives kind s w i a) (sym (q ∙ ap nodeOf (g .found))) (g .gives)
 
 -- ---- a move
-pub move-sources : (s : Bytes) (w : List ℕ) {n e : ℕ} (m : MoveMembers) → e ≡ afterAt w n → MoveNamed s w (membersAt s w (n + 1) e) m → (f : Effect) → Gives aMove s w n f → SourcesAt s w f (m .from)
+pub move-sources :
+    (s : Bytes) (w : List ℕ) {n e : ℕ} (m : MoveMembers) → e ≡ afterAt w n → MoveNamed s w (membersAt s w (n + 1) e) m → (f : Effect) →
+    Gives aMove s w n f → SourcesAt s w f (m .from)
 unfolding SourcesAt
 move-sources s w {n} {e} m q named f g =
     let x = move-given g .1 in
@@ -80,13 +82,22 @@ module _ (s : Bytes) (w : List ℕ) {e : Found} where
       its-move f g = moving k f g .given r (subst (λ (i : ℕ). FoundTold s w (find (ascii "moves") (entries (membersAt s w (n + 1) i))) r) p told)
 
       pub move-node : Known (MayGive anEffect s w e) → (m : ℕ) → r ≡ founds.At m → Known (Gives aMove s w m)
-      move-node h m i = let x = its-move (h .given) (h .known) in let j : x .node ≡ m = cc (x .found, i) in record { given = there anEffect s w n q (h .known) .0; known = subst (λ (y : ℕ). Gives aMove s w y (there anEffect s w n q (h .known) .0)) j (x .gives) }
+      move-node h m i =
+          let x = its-move (h .given) (h .known) in let j : x .node ≡
+          m = cc (x .found, i) in
+          record {
+            given = there anEffect s w n q (h .known) .0;
+            known = subst (λ (y : ℕ). Gives aMove s w y (there anEffect s w n q (h .known) .0)) j (x .gives);
+          }
 
-      pub as-move : (m : ℕ) → r ≡ founds.At m → (v : Found) → ((f : Effect) → Gives aMove s w m f → SourcesAt s w f v) → (f : Option Effect) → MayGive anEffect s w e f → SourcesAt s w (orStays f) v
+      pub as-move :
+          (m : ℕ) → r ≡ founds.At m → (v : Found) → ((f : Effect) → Gives aMove s w m f → SourcesAt s w f v) → (f : Option Effect) →
+          MayGive anEffect s w e f → SourcesAt s w (orStays f) v
       as-move m i v a f g =
           let x = its-move f g in
           let j : x .node ≡ m = cc (x .found, i) in
-          subst (λ (y : Effect). SourcesAt s w y v) (sym (ap orStays (there anEffect s w n q g .1))) (a (there anEffect s w n q g .0) (subst (λ (y : ℕ). Gives aMove s w y (there anEffect s w n q g .0)) j (x .gives)))
+          subst (λ (y : Effect). SourcesAt s w y v) (sym (ap orStays (there anEffect s w n q g .1)))
+          (a (there anEffect s w n q g .0) (subst (λ (y : ℕ). Gives aMove s w y (there anEffect s w n q g .0)) j (x .gives)))
 
       pub no-move : r ≡ founds.Nothing → (v : Found) → (f : Option Effect) → MayGive anEffect s w e f → SourcesAt s w (orStays f) v
       no-move i v f g = let x = its-move f g in let z : founds.Nothing ≡ founds.At (x .node) = sym i ∙ x .found in let y : _≡_ {A = ℕ} 0 1 = cc in absurd (omega arith)
@@ -106,18 +117,24 @@ module _ (s : Bytes) (w : List ℕ) (f : Effect) {r : Found} (h : SourcesAt s w 
 pub outcome-here : {s : Bytes} {w : List ℕ} {n : ℕ} {o : Outcome Condition} → Gives (anOutcome condition) s w n o → ObjectHere s w n
 outcome-here g = outcome-given g .0
 
-pub outcome-members : {s : Bytes} {w : List ℕ} {n e : ℕ} {m : OutcomeMembers} → e ≡ afterAt w n → OutcomeNamed s w (membersAt s w (n + 1) e) m → {o : Outcome Condition} → Gives (anOutcome condition) s w n o → OutcomeGives s w m o
+pub outcome-members :
+    {s : Bytes} {w : List ℕ} {n e : ℕ} {m : OutcomeMembers} → e ≡ afterAt w n → OutcomeNamed s w (membersAt s w (n + 1) e) m →
+    {o : Outcome Condition} → Gives (anOutcome condition) s w n o → OutcomeGives s w m o
 outcome-members {s} {w} {n} {e} {m} q named g = outcome-given g .1 m (subst (λ (i : ℕ). OutcomeNamed s w (membersAt s w (n + 1) i) m) q named)
 
 pub effect-known : {s : Bytes} {w : List ℕ} {m : OutcomeMembers} {o : Outcome Condition} → OutcomeGives s w m o → Known (MayGive anEffect s w (m .effect))
 effect-known g = record { given = g .does; known = g .effect }
 
 -- ---- outcomes, one after the other
-starting : (t : Bytes) (o : Outcome Condition) (os : List (Outcome Condition)) (b : Bool) → isOneOf t (sources (o .effect)) ≡ b → isSource t (o ∷ os) ≡ elim b [ true ↦ true | false ↦ isSource t os ]
+starting : (t : Bytes) (o : Outcome Condition) (os : List (Outcome Condition)) (b : Bool) → isOneOf t (sources (o .effect)) ≡ b →
+    isSource t (o ∷ os) ≡ elim b [ true ↦ true | false ↦ isSource t os ]
 unfolding isSource
 starting t o os b q = ap {B = Bool} (λ (c : Bool). elim c [ true ↦ true | false ↦ isSource t os ]) q
 
-module _ {s : Bytes} {w : List ℕ} {from e : ℕ} (t : Bytes) {k : ℕ} (l : Walking (anOutcome condition) s w from e (isSource t) (isSource t) k) (h : k < e) {e′ : ℕ} (p : e′ ≡ afterAt w k) {m : OutcomeMembers} (named : OutcomeNamed s w (membersAt s w (k + 1) e′) m) (b : Bool) (a : (f : Option Effect) → MayGive anEffect s w (m .effect) f → b ≡ isOneOf t (sources (orStays f))) where
+module _ {s : Bytes} {w : List ℕ} {from e : ℕ} (t : Bytes) {k : ℕ}
+    (l : Walking (anOutcome condition) s w from e (isSource t) (isSource t) k) (h : k < e) {e′ : ℕ} (p : e′ ≡ afterAt w k)
+    {m : OutcomeMembers} (named : OutcomeNamed s w (membersAt s w (k + 1) e′) m) (b : Bool)
+    (a : (f : Option Effect) → MayGive anEffect s w (m .effect) f → b ≡ isOneOf t (sources (orStays f))) where
   here-is : isOneOf t (sources (next l h .first .effect)) ≡ b
   here-is = let g = outcome-members p named (next l h .here) in sym (a (g .does) (g .effect) ∙ ap (λ (y : Effect). isOneOf t (sources y)) (sym (g .isEffect)))
 
@@ -127,6 +144,8 @@ module _ {s : Bytes} {w : List ℕ} {from e : ℕ} (t : Bytes) {k : ℕ} (l : Wa
   pub starts-elsewhere : b ≡ false → (k′ : ℕ) → k′ ≡ afterAt w k → Walking (anOutcome condition) s w from e (isSource t) (isSource t) k′
   starts-elsewhere q = goes-on l h (isSource t) (starting t (next l h .first) (next l h .others) false (here-is ∙ q))
 
-pub none-starts : {s : Bytes} {w : List ℕ} {from e : ℕ} (t : Bytes) {k : ℕ} → Walking (anOutcome condition) s w from e (isSource t) (isSource t) k → e ≤ k → (os : List (Outcome Condition)) → EachGives (anOutcome condition) s w from e os → false ≡ isSource t os
+pub none-starts :
+    {s : Bytes} {w : List ℕ} {from e : ℕ} (t : Bytes) {k : ℕ} → Walking (anOutcome condition) s w from e (isSource t) (isSource t) k → e ≤ k →
+    (os : List (Outcome Condition)) → EachGives (anOutcome condition) s w from e os → false ≡ isSource t os
 unfolding isSource
 none-starts t l h = ended l h

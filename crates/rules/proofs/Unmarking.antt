@@ -69,7 +69,10 @@ unmarked-one {w} {w′} {i} u low high large = record {
     v = 2 * (getD w′ i 0 / 2)
 
     go : (j : ℕ) → 12288 ≤ j → j < i + 1 → (b : Bool) → eqb j i ≡ b → getD (set w′ i v) j 0 % 2 ≡ 0
-    go j h k true q = ap (λ (x : ℕ). getD (set w′ i v) x 0 % 2) (eqb-true j i q) ∙ ap (λ (x : ℕ). x % 2) (getD-set-same w′ i v 0 (omega (arith, u .only .long))) ∙ even (getD w′ i 0) .1
+    go j h k true q =
+        ap (λ (x : ℕ). getD (set w′ i v) x 0 % 2) (eqb-true j i q) ∙
+        ap (λ (x : ℕ). x % 2) (getD-set-same w′ i v 0 (omega (arith, u .only .long))) ∙
+        even (getD w′ i 0) .1
     go j h k false q =
         let ne : j ≢ i = eqb-false j i q in
         ap (λ (x : ℕ). x % 2) (getD-set-other w′ i j v 0 ne) ∙ u .unmarked j h (omega arith)
@@ -81,7 +84,10 @@ module _ {s : Bytes} {w w₁ w′ : List ℕ} (large : 16384 ≤ length w) (u : 
     where
       go : (k : ℕ) → k < 4096 → (getD w₁ (12288 + k) 0 % 2 ≡ 1) ⊎ HasKind s (table w₁) k 4 → OnText s (startAt w′ k) 0
       go k h (inl m) = absurd (omega (arith, u .unmarked (12288 + k) (omega arith) (omega arith)))
-      go k h (inr i) = subst (λ (x : ℕ). OnText s x 0) (sym (ap (λ (x : ℕ). x / 8) (row-word w′ (3 * k) (omega arith) ∙ ap (λ (t : List ℕ). getD t (3 * k) 0) (l .rows)))) (text-row i .onText)
+      go k h (inr i) =
+          subst (λ (x : ℕ). OnText s x 0)
+          (sym (ap (λ (x : ℕ). x / 8) (row-word w′ (3 * k) (omega arith) ∙ ap (λ (t : List ℕ). getD t (3 * k) 0) (l .rows))))
+          (text-row i .onText)
 
   pub alone : {r : Outcome} {m : Result Answer} → EvaluatedAs s w₁ w′ r m → Alone s w w′ r m
   alone {r} {m} e = record {

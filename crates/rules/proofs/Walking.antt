@@ -20,7 +20,9 @@ one-list : {A : Type 0} {kind : Value → Result A} {s : Bytes} {w : List ℕ} {
 one-list {A} {kind} {s} {w} {k} {e} {xs} {ys} g h = let z : _≡_ {A = Result (List A)} (ok xs) (ok ys) = sym (g .is) ∙ h .is in let q : xs ≡ ys = cc in q
 
 -- the elements of an array, behind its node
-pub behind-array : {A : Type 0} (kind : Value → Result A) {s : Bytes} {w : List ℕ} {n e : ℕ} {xs : List A} → Gives (anArrayOf kind) s w n xs → e ≡ afterAt w n → EachGives kind s w (n + 1) e xs
+pub behind-array :
+    {A : Type 0} (kind : Value → Result A) {s : Bytes} {w : List ℕ} {n e : ℕ} {xs : List A} → Gives (anArrayOf kind) s w n xs →
+    e ≡ afterAt w n → EachGives kind s w (n + 1) e xs
 behind-array kind {s} {w} {n} {e} {xs} g q = subst (λ (x : ℕ). EachGives kind s w (n + 1) x xs) (sym q) (array-given kind g .1)
 
 -- from the node k on, what is left answers as the whole list does
@@ -29,7 +31,9 @@ pub record Walking {A B : Type 0} (kind : Value → Result A) (s : Bytes) (w : L
   pub gives : EachGives kind s w k e rest
   pub same : (xs : List A) → EachGives kind s w from e xs → whole xs ≡ here rest
 
-pub starts : {A B : Type 0} {kind : Value → Result A} {s : Bytes} {w : List ℕ} {from e : ℕ} (f : List A → B) → Known (EachGives kind s w from e) → Walking kind s w from e f f from
+pub starts :
+    {A B : Type 0} {kind : Value → Result A} {s : Bytes} {w : List ℕ} {from e : ℕ} (f : List A → B) → Known (EachGives kind s w from e) →
+    Walking kind s w from e f f from
 starts f g = record { rest = g .given; gives = g .known; same = λ xs h. ap f (one-list h (g .known)) }
 
 module _ {A B : Type 0} {kind : Value → Result A} {s : Bytes} {w : List ℕ} {from e : ℕ} {whole here : List A → B} {k : ℕ} (l : Walking kind s w from e whole here k) where
@@ -49,5 +53,8 @@ module _ {A B : Type 0} {kind : Value → Result A} {s : Bytes} {w : List ℕ} {
     pub settled : (v : B) → v ≡ here (next .first ∷ next .others) → (xs : List A) → EachGives kind s w from e xs → v ≡ whole xs
     settled v q xs g = q ∙ sym (l .same xs g ∙ ap here (next .isCons))
 
-    pub goes-on : (here′ : List A → B) → here (next .first ∷ next .others) ≡ here′ (next .others) → (k′ : ℕ) → k′ ≡ afterAt w k → Walking kind s w from e whole here′ k′
-    goes-on here′ q k′ i = subst (Walking kind s w from e whole here′) (sym i) (record { rest = next .others; gives = next .rest; same = λ xs g. l .same xs g ∙ ap here (next .isCons) ∙ q })
+    pub goes-on : (here′ : List A → B) → here (next .first ∷ next .others) ≡ here′ (next .others) → (k′ : ℕ) → k′ ≡ afterAt w k →
+        Walking kind s w from e whole here′ k′
+    goes-on here′ q k′ i =
+        subst (Walking kind s w from e whole here′) (sym i)
+        (record { rest = next .others; gives = next .rest; same = λ xs g. l .same xs g ∙ ap here (next .isCons) ∙ q })

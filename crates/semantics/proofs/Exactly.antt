@@ -23,7 +23,30 @@ use Rattle.semantics.specs.Operand.{Resolved, Written, both, escaped, ex
 use Rattle.semantics.specs.Semantics.{exactKernel, isSame, kernel, memberStep}
 use Rattle.semantics.specs.Spelled.{AllNumbers, AllNumbersIn, AllNumbersOf, ConditionOf, IsNumber}
 use Rattle.semantics.specs.Truth.{settles}
-use Rattle.members.specs.Condition.{Condition, Conditions, Form, Mode, also, contains, endsWith, eq, exists, gt, gte, isIn, junction, literal, lt, lte, ne, negation, noMore, pair, quantified, startsWith}
+use Rattle.members.specs.Condition.{
+  Condition,
+  Conditions,
+  Form,
+  Mode,
+  also,
+  contains,
+  endsWith,
+  eq,
+  exists,
+  gt,
+  gte,
+  isIn,
+  junction,
+  literal,
+  lt,
+  lte,
+  ne,
+  negation,
+  noMore,
+  pair,
+  quantified,
+  startsWith,
+}
 use Rattle.members.specs.Sheet.{Sheet, readSheet}
 
 -- ---- two numbers, and the values of each kind
@@ -58,7 +81,8 @@ as-object (array vs) ms h e = none-some ms e
 as-object (object ns) ms h e = let z : ns ≡ ms = cc in subst AllNumbersOf z h
 
 -- where there is none, false; else by what is there
-if-some : {A : Type 0} (x : Option A) {f g : A → Bool} → ((a : A) → x ≡ some a → f a ≡ g a) → _≡_ {A = Bool} (elim x [ none ↦ false | some a ↦ f a ]) (elim x [ none ↦ false | some a ↦ g a ])
+if-some : {A : Type 0} (x : Option A) {f g : A → Bool} → ((a : A) → x ≡ some a → f a ≡ g a) → _≡_ {A = Bool}
+    (elim x [ none ↦ false | some a ↦ f a ]) (elim x [ none ↦ false | some a ↦ g a ])
 if-some none h = refl
 if-some (some a) h = h a refl
 
@@ -141,17 +165,24 @@ unfolding walk
 walk-agrees [] v h = value h
 walk-agrees (k ∷ ks) v h = go (λ w j. walk-agrees ks w j) (memberStep k v) refl
   where
-    go : ((w : Value) → AllNumbers w → Found (ok (walk kernel ks w)) (ok (walk exactKernel ks w))) → (x : Option Value) → memberStep k v ≡ x → Found (ok (elim x [ none ↦ none | some w ↦ walk kernel ks w ])) (ok (elim x [ none ↦ none | some w ↦ walk exactKernel ks w ]))
+    go :
+        ((w : Value) → AllNumbers w → Found (ok (walk kernel ks w)) (ok (walk exactKernel ks w))) → (x : Option Value) → memberStep k v ≡ x →
+        Found (ok (elim x [ none ↦ none | some w ↦ walk kernel ks w ])) (ok (elim x [ none ↦ none | some w ↦ walk exactKernel ks w ]))
     go rest none q = nothing
     go rest (some w) q = rest w (step-numbers k v h q)
 
 -- parts put together
-same-agrees : {A B : Type 0} {P : A → Type 0} {Q : B → Type 0} (f : A → B) → ((a : A) → P a → Q (f a)) → {x y : Result (Resolved A)} → Agree P x y → Agree Q (x >>= λ r. ok (same f r)) (y >>= λ r. ok (same f r))
+same-agrees :
+    {A B : Type 0} {P : A → Type 0} {Q : B → Type 0} (f : A → B) → ((a : A) → P a → Q (f a)) → {x y : Result (Resolved A)} → Agree P x y →
+    Agree Q (x >>= λ r. ok (same f r)) (y >>= λ r. ok (same f r))
 same-agrees f h (there p) = there (h _ p)
 same-agrees f h names = names
 same-agrees f h neither = neither
 
-both-agrees : {A B D : Type 0} {P : A → Type 0} {Q : B → Type 0} {R : D → Type 0} (f : A → B → D) → ((a : A) (b : B) → P a → Q b → R (f a b)) → {x y : Result (Resolved A)} {z u : Result (Resolved B)} → Agree P x y → Agree Q z u → Agree R (x >>= λ r. z >>= λ s. ok (both f r s)) (y >>= λ r. u >>= λ s. ok (both f r s))
+both-agrees :
+    {A B D : Type 0} {P : A → Type 0} {Q : B → Type 0} {R : D → Type 0} (f : A → B → D) → ((a : A) (b : B) → P a → Q b → R (f a b)) →
+    {x y : Result (Resolved A)} {z u : Result (Resolved B)} → Agree P x y → Agree Q z u →
+    Agree R (x >>= λ r. z >>= λ s. ok (both f r s)) (y >>= λ r. u >>= λ s. ok (both f r s))
 both-agrees f h (there p) (there q) = there (h _ _ p q)
 both-agrees f h (there p) names = names
 both-agrees f h (there p) neither = neither
@@ -163,7 +194,9 @@ both-agrees f h neither q = neither
 observed-agrees : (e : Bytes) {x y : Result (Option Value)} → Found x y → Agree AllNumbers (x >>= λ g. ok (observed e g)) (y >>= λ g. ok (observed e g))
 observed-agrees e (value {v = v} h) = go (isNull v)
   where
-    go : (b : Bool) → Agree AllNumbers (ok (elim b [ true ↦ missing ((36 ∷ e) ∷ []) | false ↦ present v ])) (ok (elim b [ true ↦ missing ((36 ∷ e) ∷ []) | false ↦ present v ]))
+    go : (b : Bool) →
+        Agree AllNumbers (ok (elim b [ true ↦ missing ((36 ∷ e) ∷ []) | false ↦ present v ]))
+        (ok (elim b [ true ↦ missing ((36 ∷ e) ∷ []) | false ↦ present v ]))
     go true = names
     go false = there h
 observed-agrees e nothing = names
@@ -172,7 +205,19 @@ observed-agrees e refusal = neither
 module _ (sheet : Sheet Condition) (has : SheetHas AllNumbers sheet) where
   roots-agree : Entries (λ r. Found r r) (roots sheet)
   unfolding AllNumbers
-  roots-agree = (id-agrees (sheet .id), (value tt, (value (has .version), (any-agrees (sheet .fromState), (value tt, (value tt, (value (has .args), (value (has .fields), (value (has .oldFields), tt)))))))))
+  roots-agree = (
+    id-agrees (sheet .id),
+    (
+      value tt,
+      (
+        value (has .version),
+        (
+          any-agrees (sheet .fromState),
+          (value tt, (value tt, (value (has .args), (value (has .fields), (value (has .oldFields), tt))))),
+        ),
+      ),
+    ),
+  )
     where
       id-agrees : (s : Option Bytes) → Found (idOf s) (idOf s)
       id-agrees none = refusal
@@ -190,7 +235,9 @@ module _ (sheet : Sheet Condition) (has : SheetHas AllNumbers sheet) where
   unfolding unbound AllNumbers
   unbound-agrees e name [] = go (find name (roots sheet)) refl
     where
-      go : (x : Option (Result (Option Value))) → find name (roots sheet) ≡ x → Found (elim x [ none ↦ refused (unknownExpression (36 ∷ e)) | some r ↦ r ]) (elim x [ none ↦ refused (unknownExpression (36 ∷ e)) | some r ↦ r ])
+      go : (x : Option (Result (Option Value))) → find name (roots sheet) ≡ x →
+          Found (elim x [ none ↦ refused (unknownExpression (36 ∷ e)) | some r ↦ r ])
+          (elim x [ none ↦ refused (unknownExpression (36 ∷ e)) | some r ↦ r ])
       go none q = refusal
       go (some r) q = find-entry (λ x. Found x x) name (roots sheet) roots-agree q
   unbound-agrees e name (p ∷ ps) = go (find name (bases sheet)) refl
@@ -199,7 +246,9 @@ module _ (sheet : Sheet Condition) (has : SheetHas AllNumbers sheet) where
       inside [] ms h = nothing
       inside (c ∷ q) ms h = walk-agrees ((c ∷ q) ∷ ps) (object ms) h
 
-      go : (x : Option Members) → find name (bases sheet) ≡ x → Found (elim x [ none ↦ refused (unknownExpression (36 ∷ e)) | some ms ↦ ok (below kernel sheet p ps ms) ]) (elim x [ none ↦ refused (unknownExpression (36 ∷ e)) | some ms ↦ ok (below exactKernel sheet p ps ms) ])
+      go : (x : Option Members) → find name (bases sheet) ≡ x →
+          Found (elim x [ none ↦ refused (unknownExpression (36 ∷ e)) | some ms ↦ ok (below kernel sheet p ps ms) ])
+          (elim x [ none ↦ refused (unknownExpression (36 ∷ e)) | some ms ↦ ok (below exactKernel sheet p ps ms) ])
       go none q = refusal
       go (some ms) q = inside p ms (find-entry AllNumbersOf name (bases sheet) bases-agree q)
 
@@ -211,7 +260,9 @@ module _ (sheet : Sheet Condition) (has : SheetHas AllNumbers sheet) where
       go [] = refusal
       go (name ∷ path) = decide (find name env) refl
         where
-          decide : (x : Option Value) → find name env ≡ x → Found (elim x [ some v ↦ ok (walk kernel path v) | none ↦ unbound kernel sheet e name path ]) (elim x [ some v ↦ ok (walk exactKernel path v) | none ↦ unbound exactKernel sheet e name path ])
+          decide : (x : Option Value) → find name env ≡ x →
+              Found (elim x [ some v ↦ ok (walk kernel path v) | none ↦ unbound kernel sheet e name path ])
+              (elim x [ some v ↦ ok (walk exactKernel path v) | none ↦ unbound exactKernel sheet e name path ])
           decide none q = unbound-agrees e name path
           decide (some v) q = walk-agrees path v (find-entry AllNumbers name env h q)
 
@@ -219,7 +270,20 @@ module _ (sheet : Sheet Condition) (has : SheetHas AllNumbers sheet) where
   unfolding resolveText AllNumbers
   text-agrees env s h = go (readText s)
     where
-      go : (w : Written) → Agree AllNumbers (elim w [ plain ↦ ok (present (text s)) | escaped t ↦ ok (present (text t)) | expression e ↦ (gives kernel sheet env e >>= λ g. ok (observed e g)) ]) (elim w [ plain ↦ ok (present (text s)) | escaped t ↦ ok (present (text t)) | expression e ↦ (gives exactKernel sheet env e >>= λ g. ok (observed e g)) ])
+      go : (w : Written) →
+          Agree AllNumbers
+          (elim w [
+            | plain ↦ ok (present (text s))
+            | escaped t ↦ ok (present (text t))
+            | expression e ↦
+                (gives kernel sheet env e >>= λ g. ok (observed e g))
+          ])
+          (elim w [
+            | plain ↦ ok (present (text s))
+            | escaped t ↦ ok (present (text t))
+            | expression e ↦
+                (gives exactKernel sheet env e >>= λ g. ok (observed e g))
+          ])
       go plain = there tt
       go (escaped t) = there tt
       go (expression e) = observed-agrees e (gives-agrees env e h)
@@ -249,7 +313,8 @@ exists-same (there h) = refl
 exists-same names = refl
 exists-same neither = refl
 
-pair-same : (f : Form) {x y z u : Result (Resolved Value)} → Agree AllNumbers x y → Agree AllNumbers z u → (x >>= λ r. z >>= λ q. ok (compared kernel f r q)) ≡ (y >>= λ r. u >>= λ q. ok (compared exactKernel f r q))
+pair-same : (f : Form) {x y z u : Result (Resolved Value)} → Agree AllNumbers x y → Agree AllNumbers z u →
+    (x >>= λ r. z >>= λ q. ok (compared kernel f r q)) ≡ (y >>= λ r. u >>= λ q. ok (compared exactKernel f r q))
 pair-same f (there {a = v} h) (there {a = w} k) = ap {B = Result Answer} (λ b. ok (certain b)) (holds-exactly f v w h k)
 pair-same f (there h) names = refl
 pair-same f (there h) neither = refl
@@ -276,12 +341,17 @@ module _ (m : Mode) (f g : Value → Result Answer) (agree : (v : Value) → All
   each-same : (vs : List Value) → All AllNumbers vs → each m f vs ≡ each m g vs
   unfolding each
   each-same [] h = refl
-  each-same (v ∷ vs) h = ap₂ {C = Result Answer} (λ (x y : Result Answer). x >>= λ a. elim (settles m (a .truth)) as (λ _. Result Answer) [ true ↦ ok a | false ↦ (y >>= λ b. ok (joined m a b)) ]) (agree v (h .0)) (each-same vs (h .1))
+  each-same (v ∷ vs) h =
+      ap₂ {C = Result Answer}
+      (λ (x y : Result Answer). x >>= λ a. elim (settles m (a .truth)) as (λ _. Result Answer)
+      [ true ↦ ok a | false ↦ (y >>= λ b. ok (joined m a b)) ]) (agree v (h .0)) (each-same vs (h .1))
 
   over-same : {x y : Result (Resolved Value)} → Agree AllNumbers x y → (x >>= λ r. over m f r) ≡ (y >>= λ r. over m g r)
   over-same (there {a = v} h) = go (collection v) refl
     where
-      go : (x : Option (List Value)) → collection v ≡ x → _≡_ {A = Result Answer} (elim x [ none ↦ ok (unknown []) | some vs ↦ each m f vs ]) (elim x [ none ↦ ok (unknown []) | some vs ↦ each m g vs ])
+      go : (x : Option (List Value)) → collection v ≡
+          x → _≡_ {A = Result Answer} (elim x [ none ↦ ok (unknown []) | some vs ↦ each m f vs ])
+          (elim x [ none ↦ ok (unknown []) | some vs ↦ each m g vs ])
       go none q = refl
       go (some vs) q = each-same vs (collected v vs h q)
   over-same names = refl
@@ -297,12 +367,16 @@ module _ (sheet : Sheet Condition) (has : SheetHas AllNumbers sheet) where
     evaluate-exactly (negation c) env h k = rw (evaluate-exactly c env h k) refl
     evaluate-exactly (exists v) env h k = exists-same (resolve-agrees sheet has env v h k)
     evaluate-exactly (pair f v w) env h k = pair-same f (resolve-agrees sheet has env v h (k .0)) (resolve-agrees sheet has env w h (k .1))
-    evaluate-exactly (quantified m v x c) env h k = over-same m (λ w. evaluate kernel sheet ((x, w) ∷ env) c) (λ w. evaluate exactKernel sheet ((x, w) ∷ env) c) (λ w j. evaluate-exactly c ((x, w) ∷ env) (j, h) (k .1)) (resolve-agrees sheet has env v h (k .0))
+    evaluate-exactly (quantified m v x c) env h k =
+        over-same m (λ w. evaluate kernel sheet ((x, w) ∷ env) c) (λ w. evaluate exactKernel sheet ((x, w) ∷ env) c)
+        (λ w j. evaluate-exactly c ((x, w) ∷ env) (j, h) (k .1)) (resolve-agrees sheet has env v h (k .0))
 
-    evaluateAll-exactly : (cs : Conditions) (env : Env) (m : Mode) → Entries AllNumbers env → OperandsIn AllNumbers cs → evaluateAll kernel sheet env m cs ≡ evaluateAll exactKernel sheet env m cs
+    evaluateAll-exactly : (cs : Conditions) (env : Env) (m : Mode) → Entries AllNumbers env → OperandsIn AllNumbers cs →
+        evaluateAll kernel sheet env m cs ≡ evaluateAll exactKernel sheet env m cs
     evaluateAll-exactly noMore env m h k = refl
     evaluateAll-exactly (also c cs) env m h k = rw (evaluate-exactly c env h (k .0), evaluateAll-exactly cs env m h (k .1)) refl
 
 -- Every condition of a sheet that is read is evaluated as by exact values: order, equality, `in` and `contains` alike.
-pub ordered-exactly : (s : Bytes) (sheet : Sheet Condition) → readSheet s ≡ ok sheet → {c : Condition} → ConditionOf sheet c → evaluate kernel sheet [] c ≡ evaluate exactKernel sheet [] c
+pub ordered-exactly : (s : Bytes) (sheet : Sheet Condition) → readSheet s ≡ ok sheet → {c : Condition} → ConditionOf sheet c →
+    evaluate kernel sheet [] c ≡ evaluate exactKernel sheet [] c
 ordered-exactly s sheet e {c} o = let has = read-numbers s sheet e in evaluate-exactly sheet has c [] tt (has .conditions o)

@@ -110,7 +110,8 @@ abbrev pub children : Conditions → List Condition
 children noMore = []
 children (also c cs) = c ∷ children cs
 
-pub junction-joins : (sem : Semantics) {C : Type 0} (sheet : Sheet C) (env : Env) (m : Mode) (cs : Conditions) (ts : List Truth) → Truths (evaluate sem sheet env) (children cs) ts → Joined (evaluateAll sem sheet env m cs) m ts
+pub junction-joins : (sem : Semantics) {C : Type 0} (sheet : Sheet C) (env : Env) (m : Mode) (cs : Conditions) (ts : List Truth) →
+    Truths (evaluate sem sheet env) (children cs) ts → Joined (evaluateAll sem sheet env m cs) m ts
 unfolding evaluate
 junction-joins sem sheet env m noMore ts noTruth = (record { truth = start m; names = noNames }, refl, refl)
 junction-joins sem sheet env m (also c cs) ts (oneTruth {a} {ts = us} e h) =

@@ -1,7 +1,20 @@
 -- Evaluation on a sheet and again on one where readings give what they gave or nothing: the truth is the old one, or Unknown, and then a lost reading is among the names.
 -- Assumes nothing.
 use mathlib.Core.Bool.{Bool, false, false≢true, true}
-use mathlib.Core.List.{List, List·Memᴰ, List·Memᴰ·append-cases, List·Memᴰ·cases-cons, List·Memᴰ·eq-of-singleton, List·Memᴰ·head, List·Memᴰ·not-nil, Memᴰ·append-left, Memᴰ·append-right, [], _++_, _∷_}
+use mathlib.Core.List.{
+  List,
+  List·Memᴰ,
+  List·Memᴰ·append-cases,
+  List·Memᴰ·cases-cons,
+  List·Memᴰ·eq-of-singleton,
+  List·Memᴰ·head,
+  List·Memᴰ·not-nil,
+  Memᴰ·append-left,
+  Memᴰ·append-right,
+  [],
+  _++_,
+  _∷_,
+}
 use mathlib.Core.Logic.{inl, inr, ⊎-elim, _⊎_}
 use mathlib.Core.Option.{Option, none, some}
 use mathlib.Core.Path.{ap, fun-ext, refl, sym, _∙_, _≡_}
@@ -39,7 +52,8 @@ gives-free sem sheet env e h = go (parts e) h
     go [] h′ = refl
     go (name ∷ path) h′ = rw (find-none name env h′, givesParts) refl
 
-pub gives-bound : (sem : Semantics) (old new : Sheet Condition) (env : Env) (e : Bytes) → isTakenBy (namesOf env) (parts e) ≡ true → (g : Option Value) × (gives sem old env e ≡ ok g) × (gives sem new env e ≡ ok g)
+pub gives-bound : (sem : Semantics) (old new : Sheet Condition) (env : Env) (e : Bytes) → isTakenBy (namesOf env) (parts e) ≡ true →
+    (g : Option Value) × (gives sem old env e ≡ ok g) × (gives sem new env e ≡ ok g)
 unfolding gives givesParts
 gives-bound sem old new env e h = go (parts e) h
   where
@@ -201,7 +215,8 @@ module _ (Erased : Bytes → Type 0) where
       }
 
 -- an expression that no binder takes is a reading
-reading-here : (ex : Bool) (binders : List Bytes) (s e : Bytes) → readText s ≡ expression e → isTakenBy binders (parts e) ≡ false → List·Memᴰ (record { text = e; exact = ex }) (textReadings ex binders s)
+reading-here : (ex : Bool) (binders : List Bytes) (s e : Bytes) → readText s ≡ expression e → isTakenBy binders (parts e) ≡ false →
+    List·Memᴰ (record { text = e; exact = ex }) (textReadings ex binders s)
 unfolding textReadings
 reading-here ex binders s e p q = rw (p, textReadings, q) (List·Memᴰ·head refl)
 
@@ -216,7 +231,8 @@ module _ (sem : Semantics) (Erased : Bytes → Type 0) (old new : Sheet Conditio
     pub exact : r .exact ≡ true → now ≡ was
     pub erased : (v : Value) → was ≡ some v → isNull v ≡ false → now ≡ none → Erased (r .text)
 
-  later-observed : (e : Bytes) (was now : Option Value) → (now ≡ was) ⊎ (now ≡ none) → ((v : Value) → was ≡ some v → isNull v ≡ false → now ≡ none → Erased e) → LaterR Erased (observed e was) (observed e now)
+  later-observed : (e : Bytes) (was now : Option Value) → (now ≡ was) ⊎ (now ≡ none) →
+      ((v : Value) → was ≡ some v → isNull v ≡ false → now ≡ none → Erased e) → LaterR Erased (observed e was) (observed e now)
   later-observed e was now (inl p) f = rw p kept
   later-observed e none now (inr p) f = rw p still
   later-observed e (some v) now (inr p) f = go (isNull v) refl
@@ -229,7 +245,8 @@ module _ (sem : Semantics) (Erased : Bytes → Type 0) (old new : Sheet Conditio
   unfolding resolveText
   later-text ex env s h = go (readText s) refl
     where
-      unboundOne : (e : Bytes) → readText s ≡ expression e → isTakenBy (namesOf env) (parts e) ≡ false → Both (LaterR Erased) (resolveText sem old env s) (resolveText sem new env s)
+      unboundOne : (e : Bytes) → readText s ≡ expression e → isTakenBy (namesOf env) (parts e) ≡ false →
+          Both (LaterR Erased) (resolveText sem old env s) (resolveText sem new env s)
       unboundOne e p q =
           let k = h (record { text = e; exact = ex }) (reading-here ex (namesOf env) s e p q) in
           record {
@@ -251,7 +268,8 @@ module _ (sem : Semantics) (Erased : Bytes → Type 0) (old new : Sheet Conditio
             rel = kept;
           }
 
-      decided : (e : Bytes) → readText s ≡ expression e → (b : Bool) → isTakenBy (namesOf env) (parts e) ≡ b → Both (LaterR Erased) (resolveText sem old env s) (resolveText sem new env s)
+      decided : (e : Bytes) → readText s ≡ expression e → (b : Bool) → isTakenBy (namesOf env) (parts e) ≡ b →
+          Both (LaterR Erased) (resolveText sem old env s) (resolveText sem new env s)
       decided e p true q = boundOne e p q
       decided e p false q = unboundOne e p q
 
@@ -348,15 +366,21 @@ module _ (sem : Semantics) (old new : Sheet Condition) where
     alike-resolveIn : (ex : Bool) (env : Env) (vs : Values) → Every Alike (readingsIn ex (namesOf env) vs) → resolveIn sem new env vs ≡ resolveIn sem old env vs
     alike-resolveIn ex env nil h = refl
     alike-resolveIn ex env (cons v vs) h =
-        rw
-        (alike-resolve ex env v (every-left (operandReadings ex (namesOf env) v) (readingsIn ex (namesOf env) vs) h), alike-resolveIn ex env vs (every-right (operandReadings ex (namesOf env) v) (readingsIn ex (namesOf env) vs) h))
+        rw (
+          alike-resolve ex env v (every-left (operandReadings ex (namesOf env) v) (readingsIn ex (namesOf env) vs) h),
+          alike-resolveIn
+              ex env vs (every-right (operandReadings ex (namesOf env) v) (readingsIn ex (namesOf env) vs) h),
+        )
         refl
 
     alike-resolveOf : (ex : Bool) (env : Env) (ms : Members) → Every Alike (readingsOf ex (namesOf env) ms) → resolveOf sem new env ms ≡ resolveOf sem old env ms
     alike-resolveOf ex env empty h = refl
     alike-resolveOf ex env (member n v ms) h =
-        rw
-        (alike-resolve ex env v (every-left (operandReadings ex (namesOf env) v) (readingsOf ex (namesOf env) ms) h), alike-resolveOf ex env ms (every-right (operandReadings ex (namesOf env) v) (readingsOf ex (namesOf env) ms) h))
+        rw (
+          alike-resolve ex env v (every-left (operandReadings ex (namesOf env) v) (readingsOf ex (namesOf env) ms) h),
+          alike-resolveOf
+              ex env ms (every-right (operandReadings ex (namesOf env) v) (readingsOf ex (namesOf env) ms) h),
+        )
         refl
 
   mutual
@@ -368,19 +392,27 @@ module _ (sem : Semantics) (old new : Sheet Condition) where
     alike-evaluate env (negation c) h = rw (alike-evaluate env c h) refl
     alike-evaluate env (exists v) h = rw (alike-resolve true env v h) refl
     alike-evaluate env (pair f v w) h =
-        rw
-        (alike-resolve false env v (every-left (operandReadings false (namesOf env) v) (operandReadings false (namesOf env) w) h), alike-resolve false env w (every-right (operandReadings false (namesOf env) v) (operandReadings false (namesOf env) w) h))
+        rw (
+          alike-resolve false env v (every-left (operandReadings false (namesOf env) v) (operandReadings false (namesOf env) w) h),
+          alike-resolve false env w (every-right (operandReadings false (namesOf env) v) (operandReadings false (namesOf env) w) h),
+        )
         refl
     alike-evaluate env (quantified m v x c) h =
-        let body : _≡_ {A = Value → Result Answer} (λ w. evaluate sem new ((x, w) ∷ env) c) (λ w. evaluate sem old ((x, w) ∷ env) c) = fun-ext (λ w. alike-evaluate ((x, w) ∷ env) c (every-right (operandReadings false (namesOf env) v) (readings (x ∷ namesOf env) c) h)) in
-        ap (λ (r : Result (Resolved Value)). r >>= over m (λ w. evaluate sem new ((x, w) ∷ env) c)) (alike-resolve false env v (every-left (operandReadings false (namesOf env) v) (readings (x ∷ namesOf env) c) h)) ∙
+        let body : _≡_ {A = Value → Result Answer} (λ w. evaluate sem new ((x, w) ∷ env) c) (λ w. evaluate sem old ((x, w) ∷ env) c) =
+        fun-ext
+        (λ w. alike-evaluate ((x, w) ∷ env) c (every-right (operandReadings false (namesOf env) v) (readings (x ∷ namesOf env) c) h)) in
+        ap (λ (r : Result (Resolved Value)). r >>= over m (λ w. evaluate sem new ((x, w) ∷ env) c))
+        (alike-resolve false env v (every-left (operandReadings false (namesOf env) v) (readings (x ∷ namesOf env) c) h)) ∙
         ap (λ (f : Value → Result Answer). resolve sem old env v >>= over m f) body
 
     alike-evaluateAll : (env : Env) (m : Mode) (cs : Conditions) → Every Alike (allReadings (namesOf env) cs) → evaluateAll sem new env m cs ≡ evaluateAll sem old env m cs
     alike-evaluateAll env m noMore h = refl
     alike-evaluateAll env m (also c cs) h =
-        rw
-        (alike-evaluate env c (every-left (readings (namesOf env) c) (allReadings (namesOf env) cs) h), alike-evaluateAll env m cs (every-right (readings (namesOf env) c) (allReadings (namesOf env) cs) h))
+        rw (
+          alike-evaluate env c (every-left (readings (namesOf env) c) (allReadings (namesOf env) cs) h),
+          alike-evaluateAll env m cs
+              (every-right (readings (namesOf env) c) (allReadings (namesOf env) cs) h),
+        )
         refl
 
 -- the readings of an operand stand under `exists` where it does
@@ -433,7 +465,9 @@ module _ (sem : Semantics) (Erased : Bytes → Type 0) (old new : Sheet Conditio
   later-compared f r q s t (gone l) still = truthKept refl
   later-compared f r q s t (gone l) (gone k) = truthGone refl (lost-left Erased _ _ l)
 
-  later-over : (m : Mode) (f g : Value → Result Answer) (r q : Resolved Value) → ((v : Value) → Both (Later Erased) (f v) (g v)) → LaterR Erased r q → Both (Later Erased) (over m f r) (over m g q)
+  later-over :
+      (m : Mode) (f g : Value → Result Answer) (r q : Resolved Value) → ((v : Value) → Both (Later Erased) (f v) (g v)) → LaterR Erased r q →
+      Both (Later Erased) (over m f r) (over m g q)
   later-over m f g r q h still = record { was = _; now = _; isWas = refl; isNow = refl; rel = truthKept refl }
   later-over m f g (missing ns) q h kept = record { was = _; now = _; isWas = refl; isNow = refl; rel = truthKept refl }
   later-over m f g (present v) q h kept = go (collection v) refl
@@ -492,7 +526,9 @@ module _ (sem : Semantics) (Erased : Bytes → Type 0) (old new : Sheet Conditio
         }
     later-evaluate env (quantified m v x c) h =
         let j = later-resolve sem Erased old new false env v (every-left (operandReadings false (namesOf env) v) (readings (x ∷ namesOf env) c) h) in
-        let k = later-over m (λ w. evaluate sem old ((x, w) ∷ env) c) (λ w. evaluate sem new ((x, w) ∷ env) c) (j .was) (j .now) (λ w. later-evaluate ((x, w) ∷ env) c (every-right (operandReadings false (namesOf env) v) (readings (x ∷ namesOf env) c) h)) (j .rel) in
+        let k = later-over m (λ w. evaluate sem old ((x, w) ∷ env) c) (λ w. evaluate sem new ((x, w) ∷ env) c) (j .was) (j .now)
+        (λ w. later-evaluate ((x, w) ∷ env) c (every-right (operandReadings false (namesOf env) v) (readings (x ∷ namesOf env) c) h))
+        (j .rel) in
         record {
           was = k .was;
           now = k .now;
@@ -501,7 +537,8 @@ module _ (sem : Semantics) (Erased : Bytes → Type 0) (old new : Sheet Conditio
           rel = k .rel;
         }
 
-    later-evaluateAll : (env : Env) (m : Mode) (cs : Conditions) → Every (Fact sem Erased old new) (allReadings (namesOf env) cs) → Both (Later Erased) (evaluateAll sem old env m cs) (evaluateAll sem new env m cs)
+    later-evaluateAll : (env : Env) (m : Mode) (cs : Conditions) → Every (Fact sem Erased old new) (allReadings (namesOf env) cs) →
+        Both (Later Erased) (evaluateAll sem old env m cs) (evaluateAll sem new env m cs)
     later-evaluateAll env m noMore h = record { was = _; now = _; isWas = refl; isNow = refl; rel = truthKept refl }
     later-evaluateAll env m (also c cs) h =
         let j = later-evaluate env c (every-left (readings (namesOf env) c) (allReadings (namesOf env) cs) h) in
@@ -518,7 +555,9 @@ module _ (sem : Semantics) (Erased : Bytes → Type 0) (old new : Sheet Conditio
 pub known-gives : (sem : Semantics) (s : Sheet Condition) (rs : List Reading) → allKnown sem s rs ≡ true → Every (λ r. (g : Option Value) × (gives sem s [] (r .text) ≡ ok g)) rs
 unfolding allKnown
 known-gives sem s [] e = λ r m. elim m [ ]
-known-gives sem s (x ∷ rs) e = λ r m. ⊎-elim (λ q. rw q here) (λ n. known-gives sem s rs (both-true (isAnswer (gives sem s [] (x .text))) (allKnown sem s rs) e .1) r n) (List·Memᴰ·cases-cons m)
+known-gives sem s (x ∷ rs) e =
+    λ r m. ⊎-elim (λ q. rw q here)
+    (λ n. known-gives sem s rs (both-true (isAnswer (gives sem s [] (x .text))) (allKnown sem s rs) e .1) r n) (List·Memᴰ·cases-cons m)
   where
     answer : (x : Result (Option Value)) → isAnswer x ≡ true → (g : Option Value) × (x ≡ ok g)
     answer (ok g) h = (g, refl)

@@ -47,7 +47,9 @@ insertName-only n x (m ∷ ms) h = go (λ h′. insertName-only n x ms h′) (or
     go : (Named x (insertName n ms) → (x ≡ n) ⊎ Named x ms) → (o : Ordering) → orderBytes n m ≡ o → Named x (insertName n (m ∷ ms)) → (x ≡ n) ⊎ Named x (m ∷ ms)
     go below Ordering·lt q h′ = List·Memᴰ·cases-cons (rw (q, insertName) at h′)
     go below Ordering·eq q h′ = inr (rw (q, insertName) at h′)
-    go below Ordering·gt q h′ = ⊎-elim (λ e. inr (List·Memᴰ·head e)) (λ d. ⊎-elim (λ e. inl e) (λ k. inr (List·Memᴰ·tail k)) (below d)) (List·Memᴰ·cases-cons (rw (q, insertName) at h′))
+    go below Ordering·gt q h′ =
+        ⊎-elim (λ e. inr (List·Memᴰ·head e)) (λ d. ⊎-elim (λ e. inl e) (λ k. inr (List·Memᴰ·tail k)) (below d))
+        (List·Memᴰ·cases-cons (rw (q, insertName) at h′))
 
 ascending-only : (x : Bytes) (ms : Names) → Named x (ascending ms) → Named x ms
 unfolding ascending
@@ -107,7 +109,8 @@ ascends-same (m ∷ ms) (n ∷ ns) (follow above a) (follow over b) f g =
 
     heads : (Covers ms ns → Covers ns ms → ms ≡ ns) → m ≡ n → m ∷ ms ≡ n ∷ ns
     heads below e =
-        let tails = below (λ x k. rest m n x e (less-of m x (above x k)) (List·Memᴰ·cases-cons (f x (List·Memᴰ·tail k)))) (λ x k. rest n m x (sym e) (less-of n x (over x k)) (List·Memᴰ·cases-cons (g x (List·Memᴰ·tail k)))) in
+        let tails = below (λ x k. rest m n x e (less-of m x (above x k)) (List·Memᴰ·cases-cons (f x (List·Memᴰ·tail k))))
+        (λ x k. rest n m x (sym e) (less-of n x (over x k)) (List·Memᴰ·cases-cons (g x (List·Memᴰ·tail k)))) in
         cc
 
     by : (Covers ms ns → Covers ns ms → ms ≡ ns) → (m ≡ n) ⊎ Named m ns → (n ≡ m) ⊎ Named n ms → m ∷ ms ≡ n ∷ ns

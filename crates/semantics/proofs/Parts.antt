@@ -15,7 +15,36 @@ use Rattle.json.specs.Bytes.{Bytes, ascii, find, sameBytes}
 use Rattle.json.specs.Json.{Members, Value, Values, array, asText, bool, cons, elements, empty, entries, keys, member, nil, null, number, object, text}
 use Rattle.json.specs.Refusal.{Refusal, Result, ok, orElse, refused, wrongShape, wrongSheet, notCarried, _>>=_}
 use Rattle.semantics.specs.Spelled.{ConditionOf, guard, invariant, itsOwn, precondition}
-use Rattle.members.specs.Condition.{Condition, Conditions, Form, Mode, Operator, also, condition, conditionArray, conditionObject, conditionsIn, conditionsOf, exists, junction, literal, negation, noMore, oneMember, opExists, opJunction, opNegation, opNotCarried, opPair, opQuantified, operators, pair, quantified, quantifier, twoOf}
+use Rattle.members.specs.Condition.{
+  Condition,
+  Conditions,
+  Form,
+  Mode,
+  Operator,
+  also,
+  condition,
+  conditionArray,
+  conditionObject,
+  conditionsIn,
+  conditionsOf,
+  exists,
+  junction,
+  literal,
+  negation,
+  noMore,
+  oneMember,
+  opExists,
+  opJunction,
+  opNegation,
+  opNotCarried,
+  opPair,
+  opQuantified,
+  operators,
+  pair,
+  quantified,
+  quantifier,
+  twoOf,
+}
 use Rattle.members.specs.Kinds.{aBool, aText, aVersion, anArrayOf, anObject, eachOf, isVersion, only, optional, required}
 use Rattle.members.specs.Outcome.{Outcome, anEffect, anOutcome}
 use Rattle.members.specs.Rule.{Rule, aRule}
@@ -115,7 +144,10 @@ module _ (P : Value → Type 0) (parts : Hereditary P) where
           let s₃ = find-entry Sub (ascii "that") ps h (or-inv (find (ascii "that") ps) wrongShape p₃) in
           subst (Operands P) (ok-injective e₅) (s₁ .0, s₃ .1 d p₅)
 
-  one-has : (k : Bytes) (v : Value) (ms : Members) (c : Condition) → P v → ((d : Condition) → condition v ≡ ok d → Operands P d) → ((cs : Conditions) → conditionArray v ≡ ok cs → OperandsIn P cs) → ((ps : List (Bytes × (Value × Result Condition))) → conditionObject v ≡ ok ps → Entries Sub ps) → oneMember (member k v ms) ≡ ok c → Operands P c
+  one-has : (k : Bytes) (v : Value) (ms : Members) (c : Condition) → P v → ((d : Condition) → condition v ≡ ok d → Operands P d) →
+      ((cs : Conditions) → conditionArray v ≡ ok cs → OperandsIn P cs) →
+      ((ps : List (Bytes × (Value × Result Condition))) → conditionObject v ≡ ok ps → Entries Sub ps) → oneMember (member k v ms) ≡ ok c →
+      Operands P c
   unfolding condition Operands
   one-has k v (member l w more) c h one all body e = not-ok wrongShape e
   one-has k v empty c h one all body e = go (find k operators) refl
@@ -145,7 +177,9 @@ module _ (P : Value → Type 0) (parts : Hereditary P) where
 
     oneMember-has : (ms : Members) (c : Condition) → Entries P (entries ms) → oneMember ms ≡ ok c → Operands P c
     oneMember-has empty c h e = not-ok wrongShape e
-    oneMember-has (member k v ms) c h e = one-has k v ms c (h .0) (λ d q. condition-has v d (h .0) q) (λ cs q. conditionArray-has v cs (h .0) q) (λ ps q. conditionObject-has v ps (h .0) q) e
+    oneMember-has (member k v ms) c h e =
+        one-has k v ms c (h .0) (λ d q. condition-has v d (h .0) q) (λ cs q. conditionArray-has v cs (h .0) q)
+        (λ ps q. conditionObject-has v ps (h .0) q) e
 
     conditionArray-has : (v : Value) (cs : Conditions) → P v → conditionArray v ≡ ok cs → OperandsIn P cs
     conditionArray-has null cs h e = not-ok wrongShape e
@@ -198,7 +232,9 @@ module _ (P : Value → Type 0) (parts : Hereditary P) where
 
   module _ {A : Type 0} (kind : Value → Result A) (Q : A → Type 0) (has : (v : Value) (a : A) → P v → kind v ≡ ok a → Q a) where
     required-has : (k : Bytes) (ms : Members) {a : A} → Entries P (entries ms) → required kind k ms ≡ ok a → Q a
-    required-has k ms {a} h e = bind-with (orElse (find k (entries ms)) wrongSheet) kind e λ v p e₁. has v a (find-entry P k (entries ms) h (or-inv (find k (entries ms)) wrongSheet p)) e₁
+    required-has k ms {a} h e =
+        bind-with (orElse (find k (entries ms)) wrongSheet) kind e λ v p e₁. has v a
+        (find-entry P k (entries ms) h (or-inv (find k (entries ms)) wrongSheet p)) e₁
 
     optional-has : (k : Bytes) (ms : Members) {x : Option A} → Entries P (entries ms) → optional kind k ms ≡ ok x → (a : A) → x ≡ some a → Q a
     optional-has k ms {x} h e a q = go (find k (entries ms)) refl e
@@ -235,7 +271,8 @@ module _ (P : Value → Type 0) (parts : Hereditary P) where
       bind-with (required condition (ascii "assert") ms) _ e₂ λ c p e₃.
       bind-with (optional aText (ascii "name") ms) _ e₃ λ _ _ e₄.
       bind-with (optional aText (ascii "message") ms) _ e₄ λ _ _ e₅.
-      subst (Operands P) (ap (λ (x : Rule Condition). x .assert) (ok-injective e₅)) (required-has condition (Operands P) condition-has (ascii "assert") ms (parts .inObject ms (object-has v ms h q)) p)
+      subst (Operands P) (ap (λ (x : Rule Condition). x .assert) (ok-injective e₅))
+      (required-has condition (Operands P) condition-has (ascii "assert") ms (parts .inObject ms (object-has v ms h q)) p)
 
   abbrev GuardHas : Outcome Condition → Type 0
   GuardHas o = (c : Condition) → o .when ≡ some c → Operands P c
@@ -252,7 +289,9 @@ module _ (P : Value → Type 0) (parts : Hereditary P) where
       bind-with (optional anEffect (ascii "effect") ms) _ e₆ λ _ _ e₇.
       optional-has condition (Operands P) condition-has (ascii "when") ms (parts .inObject ms (object-has v ms h q)) p c (ap (λ (y : Outcome Condition). y .when) (ok-injective e₇) ∙ g)
 
-  conditions-have : (sheet : Sheet Condition) → ((c : Condition) → sheet .condition ≡ some c → Operands P c) → All RuleHas (sheet .preconditions) → All RuleHas (sheet .invariants) → All GuardHas (sheet .outcomes) → {c : Condition} → ConditionOf sheet c → Operands P c
+  conditions-have :
+      (sheet : Sheet Condition) → ((c : Condition) → sheet .condition ≡ some c → Operands P c) → All RuleHas (sheet .preconditions) →
+      All RuleHas (sheet .invariants) → All GuardHas (sheet .outcomes) → {c : Condition} → ConditionOf sheet c → Operands P c
   conditions-have sheet own pre inv out (itsOwn {c} e) = own c e
   conditions-have sheet own pre inv out (precondition m) = all-member RuleHas (sheet .preconditions) pre m
   conditions-have sheet own pre inv out (invariant m) = all-member RuleHas (sheet .invariants) inv m

@@ -21,7 +21,8 @@ use Rattle.members.specs.Sheet.{Sheet}
 
 module _ (sem : Semantics) {C : Type 0} (sheet : Sheet C) where
   -- whatever the first child's truth, a refusal of a later one is not lost
-  pub later-refusal : (env : Env) (m : Mode) (c : Condition) (cs : Conditions) (a : Answer) (r : Refusal) → evaluate sem sheet env c ≡ ok a → evaluateAll sem sheet env m cs ≡ refused r → evaluateAll sem sheet env m (also c cs) ≡ refused r
+  pub later-refusal : (env : Env) (m : Mode) (c : Condition) (cs : Conditions) (a : Answer) (r : Refusal) → evaluate sem sheet env c ≡ ok a →
+      evaluateAll sem sheet env m cs ≡ refused r → evaluateAll sem sheet env m (also c cs) ≡ refused r
   unfolding evaluate
   later-refusal env m c cs a r e f = bind-ok _ e ∙ rw (f, _>>=_) refl
 

@@ -39,7 +39,8 @@ use Rattle.sheet.specs.declared.shape.Shape.the-variants as shapes
 use Rattle.sheet.specs.declared.sheet.SheetMembers.{SheetMembers}
 
 -- ---- a member's node gives what is read under its name
-module _ {A : Type 0} (kind : Value → Result A) {s : Bytes} {w : List ℕ} (ms : Members) (t : tidyOf maxNumber ms ≡ true) (k : Bytes) (r : Found) (f : FoundTold s w (find k (entries ms)) r) where
+module _ {A : Type 0} (kind : Value → Result A) {s : Bytes} {w : List ℕ} (ms : Members) (t : tidyOf maxNumber ms ≡ true) (k : Bytes)
+    (r : Found) (f : FoundTold s w (find k (entries ms)) r) where
   found-sorted : find k (entries (sortedOf ms)) ≡ mapped sorted (foundOf s w r)
   found-sorted = find-sorted k ms t ∙ ap (mapped sorted) (f .answers)
 
@@ -59,7 +60,10 @@ module _ {A : Type 0} (kind : Value → Result A) {s : Bytes} {w : List ℕ} (ms
   unfolding foundOf MayGive
   may-give o e = go r refl (sym (ap {B = Result (Option A)} (λ x. elim x [ none ↦ ok none | some v ↦ (kind v >>= (λ a. ok (some a))) ]) found-sorted) ∙ e)
     where
-      go : (x : Found) → r ≡ x → _≡_ {A = Result (Option A)} (elim (mapped sorted (foundOf s w x)) [ none ↦ ok none | some v ↦ (kind v >>= (λ a. ok (some a))) ]) (ok o) → MayGive kind s w x o
+      go : (x : Found) → r ≡
+          x → _≡_ {A = Result (Option A)}
+          (elim (mapped sorted (foundOf s w x)) [ none ↦ ok none | some v ↦ (kind v >>= (λ a. ok (some a))) ]) (ok o) → MayGive kind s w x
+          o
       go founds.Nothing i j = let z : none ≡ o = cc in sym z
       go (founds.At n) i j =
           let y = bind-inv (kind (sorted (valueAt s w n))) (λ a. ok (some a)) (o, j) in
@@ -123,7 +127,8 @@ module _ {s : Bytes} {w : List ℕ} (t : Stored s w) (k : ℕ) (p : k ≡ kindAt
       pub shape-fault : (r : Refusal) → b ≡ true → soundnessOf (membersAt s w 1 e) ≡ some r → readSheet s ≡ refused r
       shape-fault r f g = read-object ∙ checked-fault (membersAt s w 1 e) (sym i ∙ f) r g
 
-      pub shape-is : b ≡ true → soundnessOf (membersAt s w 1 e) ≡ none → (m : SheetMembers) → SheetNamed s w (membersAt s w 1 e) m → (sheet : Sheet Condition) × Accepted s w (membersOf m) sheet
+      pub shape-is : b ≡ true → soundnessOf (membersAt s w 1 e) ≡ none → (m : SheetMembers) → SheetNamed s w (membersAt s w 1 e) m →
+          (sheet : Sheet Condition) × Accepted s w (membersOf m) sheet
       unfolding membersOf
       shape-is f g m n = let x = sheet-sorted (membersAt s w 1 e) tidy-members g (sym i ∙ f) in (x .0, accepted-by (x .0) (x .1))
         where
@@ -143,16 +148,38 @@ module _ {s : Bytes} {w : List ℕ} (t : Stored s w) (k : ℕ) (p : k ≡ kindAt
                 state = may-give aText (membersAt s w 1 e) tidy-members (ascii "state") (m .state) (n .state) (sheet .state) (y .state);
                 states = gives (anArrayOf aText) (membersAt s w 1 e) tidy-members (ascii "states") (m .states) (n .states) (sheet .states) (y .states);
                 itsCondition = may-give condition (membersAt s w 1 e) tidy-members (ascii "condition") (m .condition) (n .condition) (sheet .condition) (y .itsCondition);
-                preconditions = gives (anArrayOf (aRule condition)) (membersAt s w 1 e) tidy-members (ascii "preconditions") (m .preconditions) (n .preconditions) (sheet .preconditions) (y .preconditions);
+                preconditions =
+                    gives (anArrayOf (aRule condition)) (membersAt s w 1 e) tidy-members (ascii "preconditions") (m .preconditions)
+                    (n .preconditions) (sheet .preconditions) (y .preconditions);
                 invariants = gives (anArrayOf (aRule condition)) (membersAt s w 1 e) tidy-members (ascii "invariants") (m .invariants) (n .invariants) (sheet .invariants) (y .invariants);
                 outcomes = gives (anArrayOf (anOutcome condition)) (membersAt s w 1 e) tidy-members (ascii "outcomes") (m .outcomes) (n .outcomes) (sheet .outcomes) (y .outcomes);
               }
 
 -- ---- the members, as code puts them together
-pub same-members : (m : SheetMembers) (x0 x1 x2 x3 x4 x5 x6 x7 x8 x9 : ℕ) → x0 ≡ nodeOf (m .entity) → x1 ≡ nodeOf (m .version) → x2 ≡ nodeOf (m .args) → x3 ≡ nodeOf (m .fields) → x4 ≡ nodeOf (m .«old_fields») → x5 ≡ nodeOf (m .«to_state») → x6 ≡ nodeOf (m .states) → x7 ≡ nodeOf (m .preconditions) → x8 ≡ nodeOf (m .invariants) → x9 ≡ nodeOf (m .outcomes) → _≡_ {A = SheetPlaces} (record { id = m .id; entity = x0; version = x1; args = x2; fields = x3; «old_fields» = x4; «from_state» = m .«from_state»; «to_state» = x5; state = m .state; states = x6; condition = m .condition; preconditions = x7; invariants = x8; outcomes = x9 }) (membersOf m)
+pub same-members : (m : SheetMembers) (x0 x1 x2 x3 x4 x5 x6 x7 x8 x9 : ℕ) → x0 ≡ nodeOf (m .entity) → x1 ≡ nodeOf (m .version) → x2 ≡
+    nodeOf (m .args) → x3 ≡ nodeOf (m .fields) → x4 ≡ nodeOf (m .«old_fields») → x5 ≡ nodeOf (m .«to_state») → x6 ≡
+    nodeOf (m .states) → x7 ≡ nodeOf (m .preconditions) → x8 ≡ nodeOf (m .invariants) → x9 ≡
+    nodeOf (m .outcomes) → _≡_ {A = SheetPlaces}
+    (record {
+      id = m .id;
+      entity = x0;
+      version = x1;
+      args = x2;
+      fields = x3;
+      «old_fields» = x4;
+      «from_state» = m .«from_state»;
+      «to_state» = x5;
+      state = m .state;
+      states = x6;
+      condition = m .condition;
+      preconditions = x7;
+      invariants = x8;
+      outcomes = x9;
+    }) (membersOf m)
 unfolding membersOf
 same-members m x0 x1 x2 x3 x4 x5 x6 x7 x8 x9 e0 e1 e2 e3 e4 e5 e6 e7 e8 e9 = rw (e0, e1, e2, e3, e4, e5, e6, e7, e8, e9)
 
-pub accepted-at : {s : Bytes} {w : List ℕ} (m : SheetMembers) (r : SheetPlaces) → r ≡ membersOf m → (sheet : Sheet Condition) × Accepted s w (membersOf m) sheet → Shaped s w (shapes.Is r)
+pub accepted-at : {s : Bytes} {w : List ℕ} (m : SheetMembers) (r : SheetPlaces) → r ≡ membersOf m →
+    (sheet : Sheet Condition) × Accepted s w (membersOf m) sheet → Shaped s w (shapes.Is r)
 unfolding Shaped
 accepted-at {s} {w} m r e x = (x .0, subst (λ (y : SheetPlaces). Accepted s w y (x .0)) (sym e) (x .1))

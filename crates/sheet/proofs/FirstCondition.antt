@@ -68,12 +68,18 @@ same e = cc
 
 module _ (s : Bytes) (q : Refusal) (ten : OfCondition q) where
   -- after 9
-  judged : (a e : ℕ) (fs : Fields) → spanned s ≡ ok (obj a e fs) → tidyOf maxNumber (eraseOf s fs) ≡ true → isOk (aSheet notNull (object (eraseOf s fs))) ≡ true → (y : Result Bool) → sound (written (entries (eraseOf s fs))) ≡ y → (y >>= λ b. aSheet condition (sorted (object (eraseOf s fs)))) ≡ refused q → FirstCondition s q
+  judged : (a e : ℕ) (fs : Fields) → spanned s ≡ ok (obj a e fs) → tidyOf maxNumber (eraseOf s fs) ≡ true →
+      isOk (aSheet notNull (object (eraseOf s fs))) ≡ true → (y : Result Bool) → sound (written (entries (eraseOf s fs))) ≡ y →
+      (y >>= λ b. aSheet condition (sorted (object (eraseOf s fs)))) ≡ refused q → FirstCondition s q
   unfolding sorted
   judged a e fs p u o (refused r) i j = record { start = a; end = e; members = fs; tree = p; first = first-at-fault s a e fs q p (i ∙ ap refused (same j)) }
   judged a e fs p u o (ok b) i j = absurd (let z : _≡_ {A = ℕ} 0 1 = cc (sheet-sorted (eraseOf s fs) u (ap faultOf i) o .1 .whole) in omega arith)
 
-  nine-first : (t : Node) → spanned s ≡ ok t → tidy maxNumber (erase s t) ≡ true → (x : Result (Sheet Value)) → aSheet notNull (erase s t) ≡ x → OnlyNine x → (x >>= λ z. anObject (erase s t) >>= λ ms. sound (written (entries ms)) >>= λ b. aSheet condition (sorted (erase s t))) ≡ refused q → FirstCondition s q
+  nine-first :
+      (t : Node) → spanned s ≡ ok t → tidy maxNumber (erase s t) ≡ true → (x : Result (Sheet Value)) → aSheet notNull (erase s t) ≡ x →
+      OnlyNine x →
+      (x >>= λ z. anObject (erase s t) >>= λ ms. sound (written (entries ms)) >>= λ b. aSheet condition (sorted (erase s t))) ≡ refused q →
+      FirstCondition s q
   unfolding erase tidy
   nine-first t p u (refused r) i n j = absurd (nine-not (sym (same j) ∙ n) ten)
   nine-first (leaf Plain.isNull a e) p u (ok x) i n j = absurd (nine-not (sym (same j)) ten)

@@ -124,7 +124,8 @@ object-given {s} {w} {n} {ms} g =
     (x, z)
 
 -- ---- lists: the elements stand behind the node, one after the other
-pub array-given : {A : Type 0} (kind : Value → Result A) {s : Bytes} {w : List ℕ} {n : ℕ} {xs : List A} → Gives (anArrayOf kind) s w n xs → (kindAt w n ≡ 5) × EachGives kind s w (n + 1) (afterAt w n) xs
+pub array-given : {A : Type 0} (kind : Value → Result A) {s : Bytes} {w : List ℕ} {n : ℕ} {xs : List A} → Gives (anArrayOf kind) s w n xs →
+    (kindAt w n ≡ 5) × EachGives kind s w (n + 1) (afterAt w n) xs
 unfolding sorted tidy
 array-given kind {s} {w} {n} {xs} g =
     let q = is-array (valueAt s w n) kind (xs, g .is) in
@@ -144,7 +145,10 @@ pub record NextGives {A : Type 0} (kind : Value → Result A) (s : Bytes) (w : L
 module _ {A : Type 0} (kind : Value → Result A) {s : Bytes} {w : List ℕ} {k e : ℕ} {xs : List A} (g : EachGives kind s w k e xs) where
   pub each-done : e ≤ k → xs ≡ []
   unfolding eachOf sortedIn
-  each-done h = let y : _≡_ {A = Result (List A)} (ok []) (ok xs) = sym (ap (λ (vs : Values). eachOf kind (elements (sortedIn vs))) (values-done s w (g .nodes) h)) ∙ g .is in let z : xs ≡ [] = cc in z
+  each-done h =
+      let y : _≡_ {A = Result (List A)} (ok []) (ok xs) = sym
+      (ap (λ (vs : Values). eachOf kind (elements (sortedIn vs))) (values-done s w (g .nodes) h)) ∙
+      g .is in let z : xs ≡ [] = cc in z
 
   pub each-next : k < e → NextGives kind s w k e xs
   unfolding eachOf sortedIn tidyIn
@@ -163,7 +167,9 @@ module _ {A : Type 0} (kind : Value → Result A) {s : Bytes} {w : List ℕ} {k 
         upto = m .upto;
       }
     where
-      joined : (x : A) (ys : List A) → kind (sorted (valueAt s w k)) ≡ ok x → eachOf kind (elements (sortedIn (valuesAt s w (afterAt w k) e))) ≡ ok ys → valuesAt s w k e ≡ cons (valueAt s w k) (valuesAt s w (afterAt w k) e) → xs ≡ x ∷ ys
+      joined : (x : A) (ys : List A) → kind (sorted (valueAt s w k)) ≡ ok x →
+          eachOf kind (elements (sortedIn (valuesAt s w (afterAt w k) e))) ≡ ok ys →
+          valuesAt s w k e ≡ cons (valueAt s w k) (valuesAt s w (afterAt w k) e) → xs ≡ x ∷ ys
       joined x ys p q v =
           let y : eachOf kind (elements (sortedIn (valuesAt s w k e))) ≡ ok (x ∷ ys) = ap (λ (vs : Values). eachOf kind (elements (sortedIn vs))) v ∙ bind-ok _ p ∙ bind-ok _ q in
           let z : _≡_ {A = Result (List A)} (ok xs) (ok (x ∷ ys)) = sym (g .is) ∙ y in
@@ -171,7 +177,9 @@ module _ {A : Type 0} (kind : Value → Result A) {s : Bytes} {w : List ℕ} {k 
           i
 
 -- ---- rules, outcomes and moves, by the nodes that were found
-given : {A : Type 0} (kind : Value → Result A) {s : Bytes} {w : List ℕ} (ms : Members) (t : tidyOf maxNumber ms ≡ true) (k : Bytes) (r : Found) (f : FoundTold s w (find k (entries ms)) r) (a : A) → required kind k (sortedOf ms) ≡ ok a → Given kind s w r a
+given :
+    {A : Type 0} (kind : Value → Result A) {s : Bytes} {w : List ℕ} (ms : Members) (t : tidyOf maxNumber ms ≡ true) (k : Bytes) (r : Found)
+    (f : FoundTold s w (find k (entries ms)) r) (a : A) → required kind k (sortedOf ms) ≡ ok a → Given kind s w r a
 unfolding nodeOf foundOf
 given {A} kind {s} {w} ms t k r f a e = go r refl (gives kind ms t k r f a e)
   where
@@ -182,7 +190,9 @@ given {A} kind {s} {w} ms t k r f a e = go r refl (gives kind ms t k r f a e)
         missing o q = never wrongSheet a (sym (ap {B = Result A} (λ y. orElse y wrongSheet >>= kind) (find-sorted k ms t ∙ ap (mapped sorted) (f .answers ∙ ap (foundOf s w) i))) ∙ e)
     go (founds.At n) i g = record { node = n; found = i; gives = subst (λ (x : ℕ). Gives kind s w x a) (ap nodeOf i) g }
 
-rule-given-by : {s : Bytes} {w : List ℕ} (ms : Members) → tidyOf maxNumber ms ≡ true → (m : RuleMembers) → RuleNamed s w ms m → (r : Rule Condition) → aRule condition (object (sortedOf ms)) ≡ ok r → RuleGives s w m r
+rule-given-by :
+    {s : Bytes} {w : List ℕ} (ms : Members) → tidyOf maxNumber ms ≡ true → (m : RuleMembers) → RuleNamed s w ms m → (r : Rule Condition) →
+    aRule condition (object (sortedOf ms)) ≡ ok r → RuleGives s w m r
 unfolding aRule
 rule-given-by {s} {w} ms t m named r e =
     let a = bind-inv (only (ascii "assert" ∷ ascii "name" ∷ ascii "message" ∷ []) (keys (sortedOf ms))) _ (r, e) in
@@ -191,19 +201,28 @@ rule-given-by {s} {w} ms t m named r e =
     let d = bind-inv (optional aText (ascii "message") (sortedOf ms)) _ (c .2) in
     go (b .0) (c .0) (d .0) (b .1) (c .1) (d .1) (bind-ok _ (a .1) ∙ bind-ok _ (b .1) ∙ bind-ok _ (c .1) ∙ bind-ok _ (d .1))
   where
-    go : (x : Condition) (y z : Option Bytes) → required condition (ascii "assert") (sortedOf ms) ≡ ok x → optional aText (ascii "name") (sortedOf ms) ≡ ok y → optional aText (ascii "message") (sortedOf ms) ≡ ok z → aRule condition (object (sortedOf ms)) ≡ ok (record { name = y; message = z; assert = x }) → RuleGives s w m r
+    go : (x : Condition) (y z : Option Bytes) → required condition (ascii "assert") (sortedOf ms) ≡ ok x →
+        optional aText (ascii "name") (sortedOf ms) ≡ ok y → optional aText (ascii "message") (sortedOf ms) ≡ ok z →
+        aRule condition (object (sortedOf ms)) ≡ ok (record { name = y; message = z; assert = x }) → RuleGives s w m r
     go x y z i j k w′ =
         let q : _≡_ {A = Rule Condition} (record { name = y; message = z; assert = x }) r = cc (sym w′ ∙ e) in
-        subst (RuleGives s w m) q (record { assert = given condition ms t (ascii "assert") (m .assert) (named .assert) x i; name = may-give aText ms t (ascii "name") (m .name) (named .name) y j; message = may-give aText ms t (ascii "message") (m .message) (named .message) z k })
+        subst (RuleGives s w m) q
+        (record {
+          assert = given condition ms t (ascii "assert") (m .assert) (named .assert) x i;
+          name = may-give aText ms t (ascii "name") (m .name) (named .name) y j;
+          message = may-give aText ms t (ascii "message") (m .message) (named .message) z k;
+        })
 
-pub rule-given : {s : Bytes} {w : List ℕ} {n : ℕ} {r : Rule Condition} → Gives (aRule condition) s w n r → ObjectHere s w n × ((m : RuleMembers) → RuleNamed s w (membersAt s w (n + 1) (afterAt w n)) m → RuleGives s w m r)
+pub rule-given : {s : Bytes} {w : List ℕ} {n : ℕ} {r : Rule Condition} → Gives (aRule condition) s w n r →
+    ObjectHere s w n × ((m : RuleMembers) → RuleNamed s w (membersAt s w (n + 1) (afterAt w n)) m → RuleGives s w m r)
 unfolding aRule sorted
 rule-given {s} {w} {n} {r} g =
     let q = is-object (valueAt s w n) _ (r, g .is) in
     let x = object-here (g .node) (g .isTidy) (q .0) (q .1) in
     (x, λ m named. rule-given-by (membersAt s w (n + 1) (afterAt w n)) (x .isTidy) m named r (sym (ap (λ (v : Value). aRule condition (sorted v)) (x .value)) ∙ g .is))
 
-outcome-given-by : {s : Bytes} {w : List ℕ} (ms : Members) → tidyOf maxNumber ms ≡ true → (m : OutcomeMembers) → OutcomeNamed s w ms m → (o : Outcome Condition) → anOutcome condition (object (sortedOf ms)) ≡ ok o → OutcomeGives s w m o
+outcome-given-by : {s : Bytes} {w : List ℕ} (ms : Members) → tidyOf maxNumber ms ≡ true → (m : OutcomeMembers) → OutcomeNamed s w ms m →
+    (o : Outcome Condition) → anOutcome condition (object (sortedOf ms)) ≡ ok o → OutcomeGives s w m o
 unfolding anOutcome
 outcome-given-by {s} {w} ms t m named o e =
     let a = bind-inv (only (ascii "name" ∷ ascii "when" ∷ ascii "in_state" ∷ ascii "wrong_state" ∷ ascii "effect" ∷ []) (keys (sortedOf ms))) _ (o, e) in
@@ -212,9 +231,15 @@ outcome-given-by {s} {w} ms t m named o e =
     let d = bind-inv (optional aText (ascii "in_state") (sortedOf ms)) _ (c .2) in
     let f = bind-inv (optional aBool (ascii "wrong_state") (sortedOf ms)) _ (d .2) in
     let g = bind-inv (optional anEffect (ascii "effect") (sortedOf ms)) _ (f .2) in
-    go (b .0) (c .0) (d .0) (f .0) (g .0) (b .1) (c .1) (d .1) (f .1) (g .1) (bind-ok _ (a .1) ∙ bind-ok _ (b .1) ∙ bind-ok _ (c .1) ∙ bind-ok _ (d .1) ∙ bind-ok _ (f .1) ∙ bind-ok _ (g .1))
+    go (b .0) (c .0) (d .0) (f .0) (g .0) (b .1) (c .1) (d .1) (f .1) (g .1)
+    (bind-ok _ (a .1) ∙ bind-ok _ (b .1) ∙ bind-ok _ (c .1) ∙ bind-ok _ (d .1) ∙ bind-ok _ (f .1) ∙ bind-ok _ (g .1))
   where
-    go : (x : Bytes) (y : Option Condition) (z : Option Bytes) (u : Option Bool) (v : Option Effect) → required aText (ascii "name") (sortedOf ms) ≡ ok x → optional condition (ascii "when") (sortedOf ms) ≡ ok y → optional aText (ascii "in_state") (sortedOf ms) ≡ ok z → optional aBool (ascii "wrong_state") (sortedOf ms) ≡ ok u → optional anEffect (ascii "effect") (sortedOf ms) ≡ ok v → anOutcome condition (object (sortedOf ms)) ≡ ok (record { name = x; when = y; inState = z; wrongState = orFalse u; effect = orStays v }) → OutcomeGives s w m o
+    go : (x : Bytes) (y : Option Condition) (z : Option Bytes) (u : Option Bool) (v : Option Effect) →
+        required aText (ascii "name") (sortedOf ms) ≡ ok x → optional condition (ascii "when") (sortedOf ms) ≡ ok y →
+        optional aText (ascii "in_state") (sortedOf ms) ≡ ok z → optional aBool (ascii "wrong_state") (sortedOf ms) ≡ ok u →
+        optional anEffect (ascii "effect") (sortedOf ms) ≡ ok v →
+        anOutcome condition (object (sortedOf ms)) ≡
+        ok (record { name = x; when = y; inState = z; wrongState = orFalse u; effect = orStays v }) → OutcomeGives s w m o
     go x y z u v i1 i2 i3 i4 i5 q =
         let r : _≡_ {A = Outcome Condition} (record { name = x; when = y; inState = z; wrongState = orFalse u; effect = orStays v }) o = cc (sym q ∙ e) in
         subst
@@ -232,7 +257,8 @@ outcome-given-by {s} {w} ms t m named o e =
           effect = may-give anEffect ms t (ascii "effect") (m .effect) (named .effect) v i5;
         })
 
-pub outcome-given : {s : Bytes} {w : List ℕ} {n : ℕ} {o : Outcome Condition} → Gives (anOutcome condition) s w n o → ObjectHere s w n × ((m : OutcomeMembers) → OutcomeNamed s w (membersAt s w (n + 1) (afterAt w n)) m → OutcomeGives s w m o)
+pub outcome-given : {s : Bytes} {w : List ℕ} {n : ℕ} {o : Outcome Condition} → Gives (anOutcome condition) s w n o →
+    ObjectHere s w n × ((m : OutcomeMembers) → OutcomeNamed s w (membersAt s w (n + 1) (afterAt w n)) m → OutcomeGives s w m o)
 unfolding anOutcome sorted
 outcome-given {s} {w} {n} {o} g =
     let q = is-object (valueAt s w n) _ (o, g .is) in
@@ -240,7 +266,8 @@ outcome-given {s} {w} {n} {o} g =
     (x, λ m named. outcome-given-by (membersAt s w (n + 1) (afterAt w n)) (x .isTidy) m named o (sym (ap (λ (v : Value). anOutcome condition (sorted v)) (x .value)) ∙ g .is))
 
 -- ---- effects
-move-given-by : {s : Bytes} {w : List ℕ} (ms : Members) → tidyOf maxNumber ms ≡ true → (f : Effect) → aMove (object (sortedOf ms)) ≡ ok f → (to : Bytes) × (from : List Bytes) × (f ≡ moves to from) × ((m : MoveMembers) → MoveNamed s w ms m → MoveGives s w m to from)
+move-given-by : {s : Bytes} {w : List ℕ} (ms : Members) → tidyOf maxNumber ms ≡ true → (f : Effect) → aMove (object (sortedOf ms)) ≡ ok f →
+    (to : Bytes) × (from : List Bytes) × (f ≡ moves to from) × ((m : MoveMembers) → MoveNamed s w ms m → MoveGives s w m to from)
 unfolding aMove
 move-given-by {s} {w} ms t f e =
     let a = bind-inv (only (ascii "to" ∷ ascii "from" ∷ []) (keys (sortedOf ms))) _ (f, e) in
@@ -248,12 +275,17 @@ move-given-by {s} {w} ms t f e =
     let c = bind-inv (required someTexts (ascii "from") (sortedOf ms)) _ (b .2) in
     go (b .0) (c .0) (b .1) (c .1) (bind-ok _ (a .1) ∙ bind-ok _ (b .1) ∙ bind-ok _ (c .1))
   where
-    go : (x : Bytes) (y : List Bytes) → required aText (ascii "to") (sortedOf ms) ≡ ok x → required someTexts (ascii "from") (sortedOf ms) ≡ ok y → aMove (object (sortedOf ms)) ≡ ok (moves x y) → (to : Bytes) × (from : List Bytes) × (f ≡ moves to from) × ((m : MoveMembers) → MoveNamed s w ms m → MoveGives s w m to from)
+    go : (x : Bytes) (y : List Bytes) → required aText (ascii "to") (sortedOf ms) ≡ ok x →
+        required someTexts (ascii "from") (sortedOf ms) ≡ ok y → aMove (object (sortedOf ms)) ≡ ok (moves x y) →
+        (to : Bytes) × (from : List Bytes) × (f ≡ moves to from) × ((m : MoveMembers) → MoveNamed s w ms m → MoveGives s w m to from)
     go x y i j q =
         let r : f ≡ moves x y = cc (sym e ∙ q) in
         (x, y, r, λ m named. record { goes = given aText ms t (ascii "to") (m .to) (named .to) x i; comes = given someTexts ms t (ascii "from") (m .from) (named .from) y j })
 
-pub move-given : {s : Bytes} {w : List ℕ} {n : ℕ} {f : Effect} → Gives aMove s w n f → ObjectHere s w n × ((to : Bytes) × (from : List Bytes) × (f ≡ moves to from) × ((m : MoveMembers) → MoveNamed s w (membersAt s w (n + 1) (afterAt w n)) m → MoveGives s w m to from))
+pub move-given : {s : Bytes} {w : List ℕ} {n : ℕ} {f : Effect} → Gives aMove s w n f →
+    ObjectHere s w n ×
+    ((to : Bytes) × (from : List Bytes) × (f ≡ moves to from) ×
+    ((m : MoveMembers) → MoveNamed s w (membersAt s w (n + 1) (afterAt w n)) m → MoveGives s w m to from))
 unfolding aMove sorted
 move-given {s} {w} {n} {f} g =
     let q = is-object (valueAt s w n) _ (f, g .is) in
@@ -273,7 +305,9 @@ word-stays t f e = one (sameBytes t (ascii "none")) refl
     three true q i = cc
     three false q i = never wrongSheet f i
 
-    two : (b : Bool) → sameBytes t (ascii "creates") ≡ b → _≡_ {A = Result Effect} (orElse (elim b [ true ↦ some stays | false ↦ find t ((ascii "updates", stays) ∷ []) ]) wrongSheet) (ok f) → f ≡ stays
+    two : (b : Bool) → sameBytes t (ascii "creates") ≡
+        b → _≡_ {A = Result Effect} (orElse (elim b [ true ↦ some stays | false ↦ find t ((ascii "updates", stays) ∷ []) ]) wrongSheet)
+        (ok f) → f ≡ stays
     two true q i = cc
     two false q i = three (sameBytes t (ascii "updates")) refl i
 
@@ -293,7 +327,10 @@ effect-given {s} {w} {n} {f} g = go (valueAt s w n) refl (g .is)
     go (array vs) e i = never wrongSheet f i
     go (object ms) e i =
         let x = object-here (g .node) (g .isTidy) ms e in
-        let j : anEffect (object (sortedOf (membersAt s w (n + 1) (afterAt w n)))) ≡ ok f = sym (ap (λ (v : Value). anEffect (sorted v)) (x .value)) ∙ ap (λ (v : Value). anEffect (sorted v)) e ∙ i in
+        let j : anEffect (object (sortedOf (membersAt s w (n + 1) (afterAt w n)))) ≡
+        ok f = sym (ap (λ (v : Value). anEffect (sorted v)) (x .value)) ∙
+        ap (λ (v : Value). anEffect (sorted v)) e ∙
+        i in
         let a = bind-inv (only (ascii "moves" ∷ []) (keys (sortedOf (membersAt s w (n + 1) (afterAt w n))))) _ (f, j) in
         let k : required aMove (ascii "moves") (sortedOf (membersAt s w (n + 1) (afterAt w n))) ≡ ok f = sym (bind-ok _ (a .1)) ∙ j in
         byMove x (λ r told. given aMove (membersAt s w (n + 1) (afterAt w n)) (x .isTidy) (ascii "moves") r told f k)

@@ -34,7 +34,31 @@ use Rattle.members.proofs.Verdicts.{never}
 use Rattle.members.proofs.Walks.{full, full-nodes}
 use Rattle.sheet.specs.Accepted.{ConditionsGive, Gives}
 use Rattle.members.specs.Answers.{formOf, modeOf, operatorOf}
-use Rattle.members.specs.Condition.{Condition, Conditions, Form, Mode, Operator, also, condition, conditionArray, conditionObject, conditionsIn, conditionsOf, exists, formed, junction, literal, negation, noMore, oneMember, operators, pair, quantified, quantifier, twoOf}
+use Rattle.members.specs.Condition.{
+  Condition,
+  Conditions,
+  Form,
+  Mode,
+  Operator,
+  also,
+  condition,
+  conditionArray,
+  conditionObject,
+  conditionsIn,
+  conditionsOf,
+  exists,
+  formed,
+  junction,
+  literal,
+  negation,
+  noMore,
+  oneMember,
+  operators,
+  pair,
+  quantified,
+  quantifier,
+  twoOf,
+}
 use Rattle.members.specs.Kinds.{aText}
 use Rattle.members.specs.Verdicts.{faultOf}
 use Rattle.members.specs.declared.told.Form.{Form as CodeForm}
@@ -63,7 +87,9 @@ pub record OneMember (s : Bytes) (w : List ℕ) (n : ℕ) (c : Condition) : Type
   pub name : OnText s (startAt w (n + 1)) 0
   pub inner : IsNode s w 64 (n + 1 + 1)
   pub isTidy : tidy maxNumber (valueAt s w (n + 1 + 1)) ≡ true
-  pub isFormed : formed (sorted (valueAt s w (n + 1 + 1))) (condition (sorted (valueAt s w (n + 1 + 1)))) (conditionArray (sorted (valueAt s w (n + 1 + 1)))) (conditionObject (sorted (valueAt s w (n + 1 + 1)))) (find (textAt s (startAt w (n + 1))) operators) ≡ ok c
+  pub isFormed : formed (sorted (valueAt s w (n + 1 + 1))) (condition (sorted (valueAt s w (n + 1 + 1))))
+      (conditionArray (sorted (valueAt s w (n + 1 + 1)))) (conditionObject (sorted (valueAt s w (n + 1 + 1))))
+      (find (textAt s (startAt w (n + 1))) operators) ≡ ok c
 
 module _ {s : Bytes} {w : List ℕ} {n : ℕ} {c : Condition} (g : Gives condition s w n c) where
   pub literal-true : kindAt w n ≡ 1 → c ≡ literal true
@@ -111,7 +137,14 @@ module _ {s : Bytes} {w : List ℕ} {n : ℕ} {c : Condition} (g : Gives conditi
         where
           go : (t : Bool) → eqb (length (entries (sortedOf (membersAt s w (n + 1) (afterAt w n))))) 1 ≡ t → length (entries (membersAt s w (n + 1) (afterAt w n))) ≡ 1
           go true e = sym (length-sorted (membersAt s w (n + 1) (afterAt w n)) (x .isTidy)) ∙ eqb-true (length (entries (sortedOf (membersAt s w (n + 1) (afterAt w n))))) 1 e
-          go false e = let z : _≡_ {A = ℕ} 0 1 = cc (not-one (sortedOf (membersAt s w (n + 1) (afterAt w n))) (eqb-no (length (entries (sortedOf (membersAt s w (n + 1) (afterAt w n))))) 1 e), ap faultOf sorted-is) in absurd (omega arith)
+          go false e =
+              let z : _≡_ {A = ℕ} 0 1 =
+              cc (
+                not-one (sortedOf (membersAt s w (n + 1) (afterAt w n)))
+                    (eqb-no (length (entries (sortedOf (membersAt s w (n + 1) (afterAt w n))))) 1 e),
+                ap faultOf sorted-is,
+              ) in absurd
+              (omega arith)
 
       only-one : valueAt s w n ≡ object (member (textAt s (startAt w (n + 1))) (valueAt s w (n + 1 + 1)) empty)
       only-one = alone (g .node) (kindAt w n) refl (x .isKind) (afterAt w n) refl (length (entries (membersAt s w (n + 1) (afterAt w n)))) refl one (startAt w (n + 1)) refl
@@ -129,7 +162,10 @@ pub record NextCondition (s : Bytes) (w : List ℕ) (k e : ℕ) (cs : Conditions
 module _ {s : Bytes} {w : List ℕ} {k e : ℕ} {cs : Conditions} (g : ConditionsGive s w k e cs) where
   pub conditions-done : e ≤ k → cs ≡ noMore
   unfolding conditionsIn sortedIn
-  conditions-done h = let y : _≡_ {A = Result Conditions} (ok noMore) (ok cs) = sym (ap (λ (vs : Values). conditionsIn (sortedIn vs)) (values-done s w (g .nodes) h)) ∙ g .is in let z : cs ≡ noMore = cc in z
+  conditions-done h =
+      let y : _≡_ {A = Result Conditions} (ok noMore) (ok cs) = sym
+      (ap (λ (vs : Values). conditionsIn (sortedIn vs)) (values-done s w (g .nodes) h)) ∙
+      g .is in let z : cs ≡ noMore = cc in z
 
   pub conditions-next : k < e → NextCondition s w k e cs
   unfolding conditionsIn sortedIn tidyIn
@@ -148,7 +184,9 @@ module _ {s : Bytes} {w : List ℕ} {k e : ℕ} {cs : Conditions} (g : Condition
         upto = m .upto;
       }
     where
-      joined : (x : Condition) (ys : Conditions) → condition (sorted (valueAt s w k)) ≡ ok x → conditionsIn (sortedIn (valuesAt s w (afterAt w k) e)) ≡ ok ys → valuesAt s w k e ≡ cons (valueAt s w k) (valuesAt s w (afterAt w k) e) → cs ≡ also x ys
+      joined : (x : Condition) (ys : Conditions) → condition (sorted (valueAt s w k)) ≡ ok x →
+          conditionsIn (sortedIn (valuesAt s w (afterAt w k) e)) ≡ ok ys →
+          valuesAt s w k e ≡ cons (valueAt s w k) (valuesAt s w (afterAt w k) e) → cs ≡ also x ys
       joined x ys p q v =
           let y : conditionsIn (sortedIn (valuesAt s w k e)) ≡ ok (also x ys) = ap (λ (vs : Values). conditionsIn (sortedIn vs)) v ∙ bind-ok _ p ∙ bind-ok _ q in
           let z : _≡_ {A = Result Conditions} (ok cs) (ok (also x ys)) = sym (g .is) ∙ y in
@@ -163,7 +201,9 @@ pub record PairHere (s : Bytes) (w : List ℕ) (m : ℕ) (f : Form) (c : Conditi
   pub right : IsNode s w 64 (afterAt w (m + 1))
   pub is : c ≡ pair f (sorted (valueAt s w (m + 1))) (sorted (valueAt s w (afterAt w (m + 1))))
 
-array-values : {A : Type 0} (v : Value) (f : Value → Result A) → ((x : Value) → (tag x ≡ 5 → ⊥) → (r : Refusal) × (f x ≡ refused r)) → (a : A) → f (sorted v) ≡ ok a → tag v ≡ 5
+array-values :
+    {A : Type 0} (v : Value) (f : Value → Result A) → ((x : Value) → (tag x ≡ 5 → ⊥) → (r : Refusal) × (f x ≡ refused r)) → (a : A) →
+    f (sorted v) ≡ ok a → tag v ≡ 5
 unfolding sorted
 array-values {A} null f h a e = let r = h null (λ q. absurd (omega arith)) in never (r .0) a (sym (r .1) ∙ e)
 array-values {A} (bool true) f h a e = let r = h (bool true) (λ q. absurd (omega arith)) in never (r .0) a (sym (r .1) ∙ e)
@@ -215,7 +255,9 @@ pair-here {s} {w} {m} h f c e = first (ltb (m + 1) (afterAt w m)) refl
           isKind = k;
           left = a .here;
           right = d .here;
-          is = third (valuesAt s w (afterAt w (afterAt w (m + 1))) (afterAt w m)) (valueAt s w (m + 1)) (valueAt s w (afterAt w (m + 1))) (sym (ap (λ (vs : Values). twoOf f (array (sortedIn vs))) (a .value ∙ ap (cons (valueAt s w (m + 1))) (d .value))) ∙ two);
+          is =
+              third (valuesAt s w (afterAt w (afterAt w (m + 1))) (afterAt w m)) (valueAt s w (m + 1)) (valueAt s w (afterAt w (m + 1)))
+              (sym (ap (λ (vs : Values). twoOf f (array (sortedIn vs))) (a .value ∙ ap (cons (valueAt s w (m + 1))) (d .value))) ∙ two);
         }
     second g false i =
         let a = values-more s w ns g in
@@ -244,7 +286,18 @@ pub record QuantifiedHere (s : Bytes) (w : List ℕ) (m : Mode) (rIn rAs rThat :
 -- the value that a quantifier's parts make
 quantifier-is : (m : Mode) (ms : Members) (p : Parts ms) → quantifier m (conditionsOf ms) ≡ (condition (p .body) >>= (λ c. ok (quantified m (p .over) (p .name) c)))
 unfolding quantifier
-quantifier-is m ms p = rw (exactly m ms (p .three), quantifier, find-conditions (ascii "in") ms, p .isIn, find-conditions (ascii "as") ms, p .isAs, find-conditions (ascii "that") ms, p .isThat, p .isName)
+quantifier-is m ms p =
+    rw (
+      exactly m ms (p .three),
+      quantifier,
+      find-conditions (ascii "in") ms,
+      p .isIn,
+      find-conditions (ascii "as") ms,
+      p .isAs,
+      find-conditions (ascii "that") ms,
+      p .isThat,
+      p .isName,
+    )
 
 -- a member of the sorted object is the sorted value at a node
 pub record At (s : Bytes) (w : List ℕ) (r : Found) (x : Value) : Type 0 where
@@ -254,7 +307,9 @@ pub record At (s : Bytes) (w : List ℕ) (r : Found) (x : Value) : Type 0 where
   pub isTidy : tidy maxNumber (valueAt s w node) ≡ true
   pub is : sorted (valueAt s w node) ≡ x
 
-sorted-at : {s : Bytes} {w : List ℕ} (ms : Members) → tidyOf maxNumber ms ≡ true → (k : Bytes) (r : Found) → FoundTold s w (find k (entries ms)) r → (x : Value) → find k (entries (sortedOf ms)) ≡ some x → At s w r x
+sorted-at :
+    {s : Bytes} {w : List ℕ} (ms : Members) → tidyOf maxNumber ms ≡ true → (k : Bytes) (r : Found) → FoundTold s w (find k (entries ms)) r →
+    (x : Value) → find k (entries (sortedOf ms)) ≡ some x → At s w r x
 unfolding foundOf FoundIn
 sorted-at {s} {w} ms t k r f x e = go r refl
   where
@@ -267,7 +322,10 @@ sorted-at {s} {w} ms t k r f x e = go r refl
         let z : sorted (valueAt s w n) ≡ x = cc (sym (ap (λ (y : Found). mapped sorted (foundOf s w y)) i) ∙ found) in
         record { node = n; found = i; isNode = full (subst (FoundIn s w) i (f .bounds)); isTidy = find-tidy k ms (valueAt s w n) t (f .answers ∙ ap (foundOf s w) i); is = z }
 
-quantified-by : {s : Bytes} {w : List ℕ} (ms : Members) → tidyOf maxNumber ms ≡ true → (m : Mode) (c : Condition) → quantifier m (conditionsOf (sortedOf ms)) ≡ ok c → (rIn rAs rThat : Found) → FoundTold s w (find (ascii "in") (entries ms)) rIn → FoundTold s w (find (ascii "as") (entries ms)) rAs → FoundTold s w (find (ascii "that") (entries ms)) rThat → QuantifiedHere s w m rIn rAs rThat c
+quantified-by : {s : Bytes} {w : List ℕ} (ms : Members) → tidyOf maxNumber ms ≡ true → (m : Mode) (c : Condition) →
+    quantifier m (conditionsOf (sortedOf ms)) ≡ ok c → (rIn rAs rThat : Found) → FoundTold s w (find (ascii "in") (entries ms)) rIn →
+    FoundTold s w (find (ascii "as") (entries ms)) rAs → FoundTold s w (find (ascii "that") (entries ms)) rThat →
+    QuantifiedHere s w m rIn rAs rThat c
 quantified-by {s} {w} ms t m c e rIn rAs rThat fIn fAs fThat = go (parts m (sortedOf ms) (ap faultOf e))
   where
     go : Parts (sortedOf ms) → QuantifiedHere s w m rIn rAs rThat c
@@ -276,7 +334,10 @@ quantified-by {s} {w} ms t m c e rIn rAs rThat fIn fAs fThat = go (parts m (sort
         let y = sorted-at ms t (ascii "as") rAs fAs (p .bind) (p .isAs) in
         let z = sorted-at ms t (ascii "that") rThat fThat (p .body) (p .isThat) in
         let b = bind-inv (condition (p .body)) (λ d. ok (quantified m (p .over) (p .name) d)) (c, sym (quantifier-is m (sortedOf ms) p) ∙ e) in
-        let u : _≡_ {A = Result Condition} (ok (quantified m (p .over) (p .name) (b .0))) (ok c) = sym (bind-ok (λ d. ok (quantified m (p .over) (p .name) d)) (b .1)) ∙ sym (quantifier-is m (sortedOf ms) p) ∙ e in
+        let u : _≡_ {A = Result Condition} (ok (quantified m (p .over) (p .name) (b .0))) (ok c) = sym
+        (bind-ok (λ d. ok (quantified m (p .over) (p .name) d)) (b .1)) ∙
+        sym (quantifier-is m (sortedOf ms) p) ∙
+        e in
         let v : c ≡ quantified m (p .over) (p .name) (b .0) = cc in
         record {
           over = x .node;
@@ -293,25 +354,41 @@ quantified-by {s} {w} ms t m c e rIn rAs rThat fIn fAs fThat = go (parts m (sort
           is = v ∙ ap (λ (o : Value). quantified m o (p .name) (b .0)) (sym (x .is));
         }
 
-pub quantified-here : {s : Bytes} {w : List ℕ} {n : ℕ} → IsNode s w 64 n → tidy maxNumber (valueAt s w n) ≡ true → (m : Mode) (c : Condition) → (conditionObject (sorted (valueAt s w n)) >>= quantifier m) ≡ ok c → ObjectHere s w n × ((rIn rAs rThat : Found) → FoundTold s w (find (ascii "in") (entries (membersAt s w (n + 1) (afterAt w n)))) rIn → FoundTold s w (find (ascii "as") (entries (membersAt s w (n + 1) (afterAt w n)))) rAs → FoundTold s w (find (ascii "that") (entries (membersAt s w (n + 1) (afterAt w n)))) rThat → QuantifiedHere s w m rIn rAs rThat c)
+pub quantified-here :
+    {s : Bytes} {w : List ℕ} {n : ℕ} → IsNode s w 64 n → tidy maxNumber (valueAt s w n) ≡ true → (m : Mode) (c : Condition) →
+    (conditionObject (sorted (valueAt s w n)) >>= quantifier m) ≡ ok c →
+    ObjectHere s w n ×
+    ((rIn rAs rThat : Found) → FoundTold s w (find (ascii "in") (entries (membersAt s w (n + 1) (afterAt w n)))) rIn → FoundTold s w
+    (find (ascii "as") (entries (membersAt s w (n + 1) (afterAt w n)))) rAs → FoundTold s w
+    (find (ascii "that") (entries (membersAt s w (n + 1) (afterAt w n)))) rThat → QuantifiedHere s w m rIn rAs rThat c)
 unfolding conditionObject sorted
 quantified-here {s} {w} {n} h t m c e = go (valueAt s w n) refl e
   where
-    go : (v : Value) → valueAt s w n ≡ v → (conditionObject (sorted v) >>= quantifier m) ≡ ok c → ObjectHere s w n × ((rIn rAs rThat : Found) → FoundTold s w (find (ascii "in") (entries (membersAt s w (n + 1) (afterAt w n)))) rIn → FoundTold s w (find (ascii "as") (entries (membersAt s w (n + 1) (afterAt w n)))) rAs → FoundTold s w (find (ascii "that") (entries (membersAt s w (n + 1) (afterAt w n)))) rThat → QuantifiedHere s w m rIn rAs rThat c)
+    go : (v : Value) → valueAt s w n ≡ v → (conditionObject (sorted v) >>= quantifier m) ≡ ok c →
+        ObjectHere s w n ×
+        ((rIn rAs rThat : Found) → FoundTold s w (find (ascii "in") (entries (membersAt s w (n + 1) (afterAt w n)))) rIn → FoundTold s w
+        (find (ascii "as") (entries (membersAt s w (n + 1) (afterAt w n)))) rAs → FoundTold s w
+        (find (ascii "that") (entries (membersAt s w (n + 1) (afterAt w n)))) rThat → QuantifiedHere s w m rIn rAs rThat c)
     go null i j = never wrongShape c j
     go (bool b) i j = never wrongShape c j
     go (number x) i j = never wrongShape c j
     go (text x) i j = never wrongShape c j
     go (array vs) i j = never wrongShape c j
     go (object ms) i j =
-        let x = object-here h t ms i in
-        (x, λ rIn rAs rThat. quantified-by (membersAt s w (n + 1) (afterAt w n)) (x .isTidy) m c (sym (ap (λ (v : Value). conditionObject (sorted v) >>= quantifier m) (x .value)) ∙ ap (λ (v : Value). conditionObject (sorted v) >>= quantifier m) i ∙ j) rIn rAs rThat)
+        let x = object-here h t ms i in (
+          x,
+          λ rIn rAs rThat. quantified-by (membersAt s w (n + 1) (afterAt w n)) (x .isTidy) m c
+              (sym (ap (λ (v : Value). conditionObject (sorted v) >>= quantifier m) (x .value)) ∙
+              ap (λ (v : Value). conditionObject (sorted v) >>= quantifier m) i ∙
+              j) rIn rAs rThat,
+        )
 
 -- what the operator makes of the value at a node
 abbrev MadeOf : Bytes → List ℕ → ℕ → Option Operator → Result Condition
 MadeOf s w m o = formed (sorted (valueAt s w m)) (condition (sorted (valueAt s w m))) (conditionArray (sorted (valueAt s w m))) (conditionObject (sorted (valueAt s w m))) o
 
-module _ {s : Bytes} {w : List ℕ} {n : ℕ} {c : Condition} (g : OneMember s w n c) (a : ℕ) (q : a ≡ startAt w (n + 1)) (r : CodeOperator) (t : find (textAt s a) operators ≡ operatorOf r) where
+module _ {s : Bytes} {w : List ℕ} {n : ℕ} {c : Condition} (g : OneMember s w n c) (a : ℕ) (q : a ≡ startAt w (n + 1)) (r : CodeOperator)
+    (t : find (textAt s a) operators ≡ operatorOf r) where
   by : (x : CodeOperator) → r ≡ x → MadeOf s w (n + 1 + 1) (operatorOf x) ≡ ok c
   by x f = sym (ap (MadeOf s w (n + 1 + 1)) (ap (λ (z : ℕ). find (textAt s z) operators) (sym q) ∙ t ∙ ap operatorOf f)) ∙ g .isFormed
 
@@ -331,7 +408,9 @@ module _ {s : Bytes} {w : List ℕ} {n : ℕ} {c : Condition} (g : OneMember s w
   unfolding operatorOf
   given-pair m f = pair-here (g .inner) (formOf m) c (by (ops.Pair m) f)
 
-  pub given-junction : (m : CodeMode) → r ≡ ops.Junction m → (cs : Conditions) × (c ≡ junction (modeOf m) cs) × (kindAt w (n + 1 + 1) ≡ 5) × ConditionsGive s w (n + 1 + 1 + 1) (afterAt w (n + 1 + 1)) cs
+  pub given-junction : (m : CodeMode) → r ≡ ops.Junction m →
+      (cs : Conditions) × (c ≡ junction (modeOf m) cs) × (kindAt w (n + 1 + 1) ≡ 5) ×
+      ConditionsGive s w (n + 1 + 1 + 1) (afterAt w (n + 1 + 1)) cs
   unfolding operatorOf conditionArray sorted tidy
   given-junction m f =
       let b = bind-inv (conditionArray (sorted (valueAt s w (n + 1 + 1)))) (λ x. ok (junction (modeOf m) x)) (c, by (ops.Junction m) f) in

@@ -50,19 +50,35 @@ no-object (array vs) f h = refl
 no-object (object ms) f h = absurd (h refl)
 
 module _ (ms : Members) where
-  rule-parts : isOk (aRule notNull (object ms)) ≡ (isOk (only (ascii "assert" ∷ ascii "name" ∷ ascii "message" ∷ []) (keys ms)) && (isOk (required notNull (ascii "assert") ms) && (isOk (optional aText (ascii "name") ms) && isOk (optional aText (ascii "message") ms))))
+  rule-parts : isOk (aRule notNull (object ms)) ≡
+      (isOk (only (ascii "assert" ∷ ascii "name" ∷ ascii "message" ∷ []) (keys ms)) &&
+      (isOk (required notNull (ascii "assert") ms) &&
+      (isOk (optional aText (ascii "name") ms) && isOk (optional aText (ascii "message") ms))))
   unfolding aRule
-  rule-parts = ok-bind (only (ascii "assert" ∷ ascii "name" ∷ ascii "message" ∷ []) (keys ms)) _ _ (λ _. ok-bind (required notNull (ascii "assert") ms) _ _ (λ x0. ok-bind (optional aText (ascii "name") ms) _ _ (λ x1. ok-last (optional aText (ascii "message") ms) _)))
+  rule-parts =
+      ok-bind (only (ascii "assert" ∷ ascii "name" ∷ ascii "message" ∷ []) (keys ms)) _ _
+      (λ _. ok-bind (required notNull (ascii "assert") ms) _ _
+      (λ x0. ok-bind (optional aText (ascii "name") ms) _ _ (λ x1. ok-last (optional aText (ascii "message") ms) _)))
 
-  pub rule-ok : isOk (aRule notNull (object ms)) ≡ (((isOk (only (ascii "assert" ∷ ascii "name" ∷ ascii "message" ∷ []) (keys ms)) && needed (meets wants.Present) (find (ascii "assert") (entries ms))) && allowed (meets wants.Text) (find (ascii "name") (entries ms))) && allowed (meets wants.Text) (find (ascii "message") (entries ms)))
+  pub rule-ok : isOk (aRule notNull (object ms)) ≡
+      (((isOk (only (ascii "assert" ∷ ascii "name" ∷ ascii "message" ∷ []) (keys ms)) &&
+      needed (meets wants.Present) (find (ascii "assert") (entries ms))) &&
+      allowed (meets wants.Text) (find (ascii "name") (entries ms))) &&
+      allowed (meets wants.Text) (find (ascii "message") (entries ms)))
   unfolding meets
   rule-ok = rule-parts ∙ rw (required-ok notNull (ascii "assert") ms, optional-ok aText (ascii "name") ms, optional-ok aText (ascii "message") ms) (simp left3)
 
-  move-parts : isOk (aMove (object ms)) ≡ (isOk (only (ascii "to" ∷ ascii "from" ∷ []) (keys ms)) && (isOk (required aText (ascii "to") ms) && isOk (required someTexts (ascii "from") ms)))
+  move-parts : isOk (aMove (object ms)) ≡
+      (isOk (only (ascii "to" ∷ ascii "from" ∷ []) (keys ms)) &&
+      (isOk (required aText (ascii "to") ms) && isOk (required someTexts (ascii "from") ms)))
   unfolding aMove
-  move-parts = ok-bind (only (ascii "to" ∷ ascii "from" ∷ []) (keys ms)) _ _ (λ _. ok-bind (required aText (ascii "to") ms) _ _ (λ x0. ok-last (required someTexts (ascii "from") ms) _))
+  move-parts =
+      ok-bind (only (ascii "to" ∷ ascii "from" ∷ []) (keys ms)) _ _
+      (λ _. ok-bind (required aText (ascii "to") ms) _ _ (λ x0. ok-last (required someTexts (ascii "from") ms) _))
 
-  pub move-ok : isOk (aMove (object ms)) ≡ ((isOk (only (ascii "to" ∷ ascii "from" ∷ []) (keys ms)) && needed (meets wants.Text) (find (ascii "to") (entries ms))) && needed (meets wants.TextOrTexts) (find (ascii "from") (entries ms)))
+  pub move-ok : isOk (aMove (object ms)) ≡
+      ((isOk (only (ascii "to" ∷ ascii "from" ∷ []) (keys ms)) && needed (meets wants.Text) (find (ascii "to") (entries ms))) &&
+      needed (meets wants.TextOrTexts) (find (ascii "from") (entries ms)))
   unfolding meets
   move-ok = move-parts ∙ rw (required-ok aText (ascii "to") ms, required-ok someTexts (ascii "from") ms) (simp left3)
 
@@ -74,13 +90,39 @@ module _ (ms : Members) where
   unfolding meets
   effect-ok = effect-parts ∙ rw (required-ok aMove (ascii "moves") ms)
 
-  outcome-parts : isOk (anOutcome notNull (object ms)) ≡ (isOk (only (ascii "name" ∷ ascii "when" ∷ ascii "in_state" ∷ ascii "wrong_state" ∷ ascii "effect" ∷ []) (keys ms)) && (isOk (required aText (ascii "name") ms) && (isOk (optional notNull (ascii "when") ms) && (isOk (optional aText (ascii "in_state") ms) && (isOk (optional aBool (ascii "wrong_state") ms) && isOk (optional anEffect (ascii "effect") ms))))))
+  outcome-parts : isOk (anOutcome notNull (object ms)) ≡
+      (isOk (only (ascii "name" ∷ ascii "when" ∷ ascii "in_state" ∷ ascii "wrong_state" ∷ ascii "effect" ∷ []) (keys ms)) &&
+      (isOk (required aText (ascii "name") ms) &&
+      (isOk (optional notNull (ascii "when") ms) &&
+      (isOk (optional aText (ascii "in_state") ms) &&
+      (isOk (optional aBool (ascii "wrong_state") ms) && isOk (optional anEffect (ascii "effect") ms))))))
   unfolding anOutcome
-  outcome-parts = ok-bind (only (ascii "name" ∷ ascii "when" ∷ ascii "in_state" ∷ ascii "wrong_state" ∷ ascii "effect" ∷ []) (keys ms)) _ _ (λ _. ok-bind (required aText (ascii "name") ms) _ _ (λ x0. ok-bind (optional notNull (ascii "when") ms) _ _ (λ x1. ok-bind (optional aText (ascii "in_state") ms) _ _ (λ x2. ok-bind (optional aBool (ascii "wrong_state") ms) _ _ (λ x3. ok-last (optional anEffect (ascii "effect") ms) _)))))
+  outcome-parts =
+      ok-bind (only (ascii "name" ∷ ascii "when" ∷ ascii "in_state" ∷ ascii "wrong_state" ∷ ascii "effect" ∷ []) (keys ms)) _ _
+      (λ _. ok-bind (required aText (ascii "name") ms) _ _
+      (λ x0. ok-bind (optional notNull (ascii "when") ms) _ _
+      (λ x1. ok-bind (optional aText (ascii "in_state") ms) _ _
+      (λ x2. ok-bind (optional aBool (ascii "wrong_state") ms) _ _ (λ x3. ok-last (optional anEffect (ascii "effect") ms) _)))))
 
-  pub outcome-ok : isOk (anOutcome notNull (object ms)) ≡ (((((isOk (only (ascii "name" ∷ ascii "when" ∷ ascii "in_state" ∷ ascii "wrong_state" ∷ ascii "effect" ∷ []) (keys ms)) && needed (meets wants.Text) (find (ascii "name") (entries ms))) && allowed (meets wants.Present) (find (ascii "when") (entries ms))) && allowed (meets wants.Text) (find (ascii "in_state") (entries ms))) && allowed (meets wants.Bool) (find (ascii "wrong_state") (entries ms))) && allowed (λ v. isOk (anEffect v)) (find (ascii "effect") (entries ms)))
+  pub outcome-ok : isOk (anOutcome notNull (object ms)) ≡
+      (((((isOk
+      (only (ascii "name" ∷ ascii "when" ∷ ascii "in_state" ∷ ascii "wrong_state" ∷ ascii "effect" ∷ [])
+      (keys ms)) && needed (meets wants.Text) (find (ascii "name") (entries ms))) &&
+      allowed (meets wants.Present) (find (ascii "when") (entries ms))) &&
+      allowed (meets wants.Text) (find (ascii "in_state") (entries ms))) &&
+      allowed (meets wants.Bool) (find (ascii "wrong_state") (entries ms))) &&
+      allowed (λ v. isOk (anEffect v)) (find (ascii "effect") (entries ms)))
   unfolding meets
-  outcome-ok = outcome-parts ∙ rw (required-ok aText (ascii "name") ms, optional-ok notNull (ascii "when") ms, optional-ok aText (ascii "in_state") ms, optional-ok aBool (ascii "wrong_state") ms, optional-ok anEffect (ascii "effect") ms) (simp left3)
+  outcome-ok =
+      outcome-parts ∙
+      rw (
+        required-ok aText (ascii "name") ms,
+        optional-ok notNull (ascii "when") ms,
+        optional-ok aText (ascii "in_state") ms,
+        optional-ok
+            aBool (ascii "wrong_state") ms,
+        optional-ok anEffect (ascii "effect") ms,
+      ) (simp left3)
 
 -- ---- the same by what code has read of a node
 module _ {s : Bytes} {w : List ℕ} {n : ℕ} (h : IsNode s w 64 n) (k : ℕ) (p : k ≡ kindAt w n) where
@@ -103,19 +145,53 @@ module _ {s : Bytes} {w : List ℕ} {n : ℕ} (h : IsNode s w 64 n) (k : ℕ) (p
     pub object-is : valueAt s w n ≡ object (membersAt s w (n + 1) e)
     object-is = object-at h (sym p ∙ q) .0 ∙ ap (λ (x : ℕ). object (membersAt s w (n + 1) x)) (sym j)
 
-    pub is-rule : (m : RuleMembers) → RuleNamed s w (membersAt s w (n + 1) e) m → (a b c d : Bool) → a ≡ isOk (only (ascii "assert" ∷ ascii "name" ∷ ascii "message" ∷ []) (keys (membersAt s w (n + 1) e))) → b ≡ needed (meets wants.Present) (foundOf s w (m .assert)) → c ≡ allowed (meets wants.Text) (foundOf s w (m .name)) → d ≡ allowed (meets wants.Text) (foundOf s w (m .message)) → (((a && b) && c) && d) ≡ isOk (aRule notNull (valueAt s w n))
-    is-rule m t a b c d i1 i2 i3 i4 = sym (ap (λ (v : Value). isOk (aRule notNull v)) object-is ∙ rule-ok (membersAt s w (n + 1) e) ∙ rw (t .assert .answers, t .name .answers, t .message .answers, ← i1, ← i2, ← i3, ← i4))
+    pub is-rule : (m : RuleMembers) → RuleNamed s w (membersAt s w (n + 1) e) m → (a b c d : Bool) →
+        a ≡ isOk (only (ascii "assert" ∷ ascii "name" ∷ ascii "message" ∷ []) (keys (membersAt s w (n + 1) e))) →
+        b ≡ needed (meets wants.Present) (foundOf s w (m .assert)) → c ≡ allowed (meets wants.Text) (foundOf s w (m .name)) →
+        d ≡ allowed (meets wants.Text) (foundOf s w (m .message)) → (((a && b) && c) && d) ≡ isOk (aRule notNull (valueAt s w n))
+    is-rule m t a b c d i1 i2 i3 i4 =
+        sym
+        (ap (λ (v : Value). isOk (aRule notNull v)) object-is ∙
+        rule-ok (membersAt s w (n + 1) e) ∙
+        rw (t .assert .answers, t .name .answers, t .message .answers, ← i1, ← i2, ← i3, ← i4))
 
-    pub is-move : (m : MoveMembers) → MoveNamed s w (membersAt s w (n + 1) e) m → (a b c : Bool) → a ≡ isOk (only (ascii "to" ∷ ascii "from" ∷ []) (keys (membersAt s w (n + 1) e))) → b ≡ needed (meets wants.Text) (foundOf s w (m .to)) → c ≡ needed (meets wants.TextOrTexts) (foundOf s w (m .from)) → ((a && b) && c) ≡ isOk (aMove (valueAt s w n))
+    pub is-move : (m : MoveMembers) → MoveNamed s w (membersAt s w (n + 1) e) m → (a b c : Bool) →
+        a ≡ isOk (only (ascii "to" ∷ ascii "from" ∷ []) (keys (membersAt s w (n + 1) e))) →
+        b ≡ needed (meets wants.Text) (foundOf s w (m .to)) → c ≡ needed (meets wants.TextOrTexts) (foundOf s w (m .from)) →
+        ((a && b) && c) ≡ isOk (aMove (valueAt s w n))
     is-move m t a b c i1 i2 i3 = sym (ap (λ (v : Value). isOk (aMove v)) object-is ∙ move-ok (membersAt s w (n + 1) e) ∙ rw (t .to .answers, t .from .answers, ← i1, ← i2, ← i3))
 
-    pub is-outcome : (m : OutcomeMembers) → OutcomeNamed s w (membersAt s w (n + 1) e) m → (a b c d f g : Bool) → a ≡ isOk (only (ascii "name" ∷ ascii "when" ∷ ascii "in_state" ∷ ascii "wrong_state" ∷ ascii "effect" ∷ []) (keys (membersAt s w (n + 1) e))) → b ≡ needed (meets wants.Text) (foundOf s w (m .name)) → c ≡ allowed (meets wants.Present) (foundOf s w (m .when)) → d ≡ allowed (meets wants.Text) (foundOf s w (m .«in_state»)) → f ≡ allowed (meets wants.Bool) (foundOf s w (m .«wrong_state»)) → g ≡ allowed (λ v. isOk (anEffect v)) (foundOf s w (m .effect)) → (((((a && b) && c) && d) && f) && g) ≡ isOk (anOutcome notNull (valueAt s w n))
-    is-outcome m t a b c d f g i1 i2 i3 i4 i5 i6 = sym (ap (λ (v : Value). isOk (anOutcome notNull v)) object-is ∙ outcome-ok (membersAt s w (n + 1) e) ∙ rw (t .name .answers, t .when .answers, t .inState .answers, t .wrongState .answers, t .effect .answers, ← i1, ← i2, ← i3, ← i4, ← i5, ← i6))
+    pub is-outcome : (m : OutcomeMembers) → OutcomeNamed s w (membersAt s w (n + 1) e) m → (a b c d f g : Bool) →
+        a ≡
+        isOk
+        (only (ascii "name" ∷ ascii "when" ∷ ascii "in_state" ∷ ascii "wrong_state" ∷ ascii "effect" ∷ [])
+        (keys (membersAt s w (n + 1) e))) → b ≡ needed (meets wants.Text) (foundOf s w (m .name)) →
+        c ≡ allowed (meets wants.Present) (foundOf s w (m .when)) → d ≡ allowed (meets wants.Text) (foundOf s w (m .«in_state»)) →
+        f ≡ allowed (meets wants.Bool) (foundOf s w (m .«wrong_state»)) → g ≡ allowed (λ v. isOk (anEffect v)) (foundOf s w (m .effect)) →
+        (((((a && b) && c) && d) && f) && g) ≡ isOk (anOutcome notNull (valueAt s w n))
+    is-outcome m t a b c d f g i1 i2 i3 i4 i5 i6 =
+        sym
+        (ap (λ (v : Value). isOk (anOutcome notNull v)) object-is ∙
+        outcome-ok (membersAt s w (n + 1) e) ∙
+        rw (
+          t .name .answers,
+          t .when .answers,
+          t .inState .answers,
+          t .wrongState .answers,
+          t .effect .answers,
+          ← i1,
+          ← i2,
+          ← i3,
+          ← i4,
+          ← i5,
+          ← i6,
+        ))
 
     pub effect-further : false ≡ isOk (only (ascii "moves" ∷ []) (keys (membersAt s w (n + 1) e))) → false ≡ isOk (anEffect (valueAt s w n))
     effect-further i = sym (ap (λ (v : Value). isOk (anEffect v)) object-is ∙ effect-ok (membersAt s w (n + 1) e) ∙ rw (← i))
 
-    module _ (i : true ≡ isOk (only (ascii "moves" ∷ []) (keys (membersAt s w (n + 1) e)))) (r : Found) (t : find (ascii "moves") (entries (membersAt s w (n + 1) e)) ≡ foundOf s w r) where
+    module _ (i : true ≡ isOk (only (ascii "moves" ∷ []) (keys (membersAt s w (n + 1) e)))) (r : Found)
+        (t : find (ascii "moves") (entries (membersAt s w (n + 1) e)) ≡ foundOf s w r) where
       effect-moved : isOk (anEffect (valueAt s w n)) ≡ needed (λ v. isOk (aMove v)) (foundOf s w r)
       effect-moved = ap (λ (v : Value). isOk (anEffect v)) object-is ∙ effect-ok (membersAt s w (n + 1) e) ∙ rw (← i, t)
 

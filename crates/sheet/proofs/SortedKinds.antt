@@ -119,12 +119,18 @@ module _ {A B : Type 0} (kind : Value → Result A) (kind′ : Value → Result 
   pub optional-sorted : Okay (optional kind k ms) → Okay (optional kind′ k (sortedOf ms))
   optional-sorted o = go (find k (entries ms)) refl o
     where
-      go : (f : Option Value) → find k (entries ms) ≡ f → Okay {A = Option A} (elim f [ none ↦ ok none | some v ↦ (kind v >>= (λ a. ok (some a))) ]) → Okay (optional kind′ k (sortedOf ms))
+      go : (f : Option Value) → find k (entries ms) ≡
+          f → Okay {A = Option A} (elim f [ none ↦ ok none | some v ↦ (kind v >>= (λ a. ok (some a))) ]) → Okay
+          (optional kind′ k (sortedOf ms))
       go none e x = (none, ap {B = Result (Option B)} (λ f. elim f [ none ↦ ok none | some v ↦ (kind′ v >>= (λ a. ok (some a))) ]) (find-sorted k ms t ∙ ap (mapped sorted) e))
       go (some v) e x =
           let y = bind-inv (kind v) (λ a. ok (some a)) x in
-          let r = h v (find-tidy k ms v t e) e (y .0, y .1) in
-          (some (r .0), ap {B = Result (Option B)} (λ f. elim f [ none ↦ ok none | some u ↦ (kind′ u >>= (λ a. ok (some a))) ]) (find-sorted k ms t ∙ ap (mapped sorted) e) ∙ bind-ok (λ a. ok (some a)) (r .1))
+          let r = h v (find-tidy k ms v t e) e (y .0, y .1) in (
+            some (r .0),
+            ap {B = Result (Option B)} (λ f. elim f [ none ↦ ok none | some u ↦ (kind′ u >>= (λ a. ok (some a))) ])
+                (find-sorted k ms t ∙ ap (mapped sorted) e) ∙
+                bind-ok (λ a. ok (some a)) (r .1),
+          )
 
 pub only-okay : (names : List Bytes) (ms : Members) → Okay (only names (keys ms)) → Okay (only names (keys (sortedOf ms)))
 only-okay names ms o = okay (only names (keys (sortedOf ms))) (only-sorted names ms (okay-is (only names (keys ms)) o))

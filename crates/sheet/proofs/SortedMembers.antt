@@ -41,7 +41,11 @@ pub unrepeated : (k : Bytes) (v : Value) (ms : Members) → tidyOf maxNumber (me
 unfolding tidyOf
 unrepeated k v ms e =
     let r = and-second (not (isOneOf k (keys ms))) (tidy maxNumber v && tidyOf maxNumber ms) e in
-    record { name = not-true (isOneOf k (keys ms)) (and-first (not (isOneOf k (keys ms))) (tidy maxNumber v && tidyOf maxNumber ms) e); value = and-first (tidy maxNumber v) (tidyOf maxNumber ms) r; others = and-second (tidy maxNumber v) (tidyOf maxNumber ms) r }
+    record {
+      name = not-true (isOneOf k (keys ms)) (and-first (not (isOneOf k (keys ms))) (tidy maxNumber v && tidyOf maxNumber ms) e);
+      value = and-first (tidy maxNumber v) (tidyOf maxNumber ms) r;
+      others = and-second (tidy maxNumber v) (tidyOf maxNumber ms) r;
+    }
 
 -- ---- one member put in
 module _ (k : Bytes) (v : Value) where
@@ -60,9 +64,14 @@ module _ (k : Bytes) (v : Value) where
       twice true r = refl
       twice false r = refl
 
-      go : (o : Ordering) → orderBytes k l ≡ o → isOneOf j (keys (insert k v ms)) ≡ isOneOf j (k ∷ keys ms) → isOneOf j (keys (insert k v (member l w ms))) ≡ isOneOf j (k ∷ keys (member l w ms))
+      go : (o : Ordering) → orderBytes k l ≡ o → isOneOf j (keys (insert k v ms)) ≡ isOneOf j (k ∷ keys ms) →
+          isOneOf j (keys (insert k v (member l w ms))) ≡ isOneOf j (k ∷ keys (member l w ms))
       go Ordering·lt e below = rw (e, insert)
-      go Ordering·eq e below = let q : k ≡ l = orderBytes-eq k l e in rw (e, insert) (subst (λ (x : Bytes). isOneOf j (l ∷ keys ms) ≡ isOneOf j (x ∷ l ∷ keys ms)) (sym q) (twice (sameBytes j l) (isOneOf j (keys ms))))
+      go Ordering·eq e below =
+          let q : k ≡
+          l = orderBytes-eq k l e in rw (e, insert)
+          (subst (λ (x : Bytes). isOneOf j (l ∷ keys ms) ≡ isOneOf j (x ∷ l ∷ keys ms)) (sym q)
+          (twice (sameBytes j l) (isOneOf j (keys ms))))
       go Ordering·gt e below = rw (e, insert) (ap (either (sameBytes j l)) below ∙ swap (sameBytes j l) (sameBytes j k) (isOneOf j (keys ms)))
 
   length-insert : (ms : Members) → isOneOf k (keys ms) ≡ false → length (entries (insert k v ms)) ≡ suc (length (entries ms))
@@ -70,11 +79,13 @@ module _ (k : Bytes) (v : Value) where
   length-insert empty h = refl
   length-insert (member l w ms) h = go (sameBytes k l) refl (length-insert ms)
     where
-      go : (b : Bool) → sameBytes k l ≡ b → (isOneOf k (keys ms) ≡ false → length (entries (insert k v ms)) ≡ suc (length (entries ms))) → length (entries (insert k v (member l w ms))) ≡ suc (suc (length (entries ms)))
+      go : (b : Bool) → sameBytes k l ≡ b → (isOneOf k (keys ms) ≡ false → length (entries (insert k v ms)) ≡ suc (length (entries ms))) →
+          length (entries (insert k v (member l w ms))) ≡ suc (suc (length (entries ms)))
       go true e below = let z : _≡_ {A = ℕ} 0 1 = cc (rw (e, isOneOf) at h) in absurd (omega arith)
       go false e below = at (orderBytes k l) refl (below (rw (e, isOneOf) at h))
         where
-          at : (o : Ordering) → orderBytes k l ≡ o → length (entries (insert k v ms)) ≡ suc (length (entries ms)) → length (entries (insert k v (member l w ms))) ≡ suc (suc (length (entries ms)))
+          at : (o : Ordering) → orderBytes k l ≡ o → length (entries (insert k v ms)) ≡ suc (length (entries ms)) →
+              length (entries (insert k v (member l w ms))) ≡ suc (suc (length (entries ms)))
           at Ordering·lt q below = rw (q, insert)
           at Ordering·eq q below = let z : _≡_ {A = ℕ} 0 1 = cc (ap (sameBytes k) (orderBytes-eq k l q), sameBytes-refl k, e) in absurd (omega arith)
           at Ordering·gt q below = rw (q, insert) (ap suc below)
@@ -98,7 +109,8 @@ module _ (k : Bytes) (v : Value) where
   find-insert-other j empty h = rw (h, find)
   find-insert-other j (member l w ms) h = go (orderBytes k l) refl (find-insert-other j ms h)
     where
-      go : (o : Ordering) → orderBytes k l ≡ o → find j (entries (insert k v ms)) ≡ find j (entries ms) → find j (entries (insert k v (member l w ms))) ≡ find j (entries (member l w ms))
+      go : (o : Ordering) → orderBytes k l ≡ o → find j (entries (insert k v ms)) ≡ find j (entries ms) →
+          find j (entries (insert k v (member l w ms))) ≡ find j (entries (member l w ms))
       go Ordering·lt e below = rw (e, insert, h, find)
       go Ordering·eq e below = rw (e, insert)
       go Ordering·gt e below = rw (e, insert) (at (sameBytes j l) refl)
@@ -120,7 +132,8 @@ module _ (k : Bytes) (v : Value) where
       name true e = e
       name false e = let z : _≡_ {A = ℕ} 0 1 = cc (rw (e, only) at g) in absurd (omega arith)
 
-      go : (o : Ordering) → orderBytes k l ≡ o → (isOk (only names (keys ms)) ≡ true → isOk (only names (keys (insert k v ms))) ≡ true) → isOk (only names (keys (insert k v (member l w ms)))) ≡ true
+      go : (o : Ordering) → orderBytes k l ≡ o → (isOk (only names (keys ms)) ≡ true → isOk (only names (keys (insert k v ms))) ≡ true) →
+          isOk (only names (keys (insert k v (member l w ms)))) ≡ true
       go Ordering·lt e below = rw (e, insert, h, only) g
       go Ordering·eq e below = rw (e, insert) g
       go Ordering·gt e below = rw (e, insert, name (isOneOf l names) refl, only) (below (known (isOneOf l names) refl))
@@ -148,8 +161,13 @@ find-sorted j (member k v ms) h = go (sameBytes j k) refl (find-sorted j ms (u .
     u : Unrepeated k v ms
     u = unrepeated k v ms h
 
-    go : (b : Bool) → sameBytes j k ≡ b → find j (entries (sortedOf ms)) ≡ mapped sorted (find j (entries ms)) → find j (entries (insert k (sorted v) (sortedOf ms))) ≡ mapped sorted (find j (entries (member k v ms)))
-    go true e below = let q : j ≡ k = sameBytes-true j k e in rw (e, find) (subst (λ (x : Bytes). find x (entries (insert k (sorted v) (sortedOf ms))) ≡ some (sorted v)) (sym q) (find-insert k (sorted v) (sortedOf ms) (one-of-sorted k ms ∙ u .name)))
+    go : (b : Bool) → sameBytes j k ≡ b → find j (entries (sortedOf ms)) ≡ mapped sorted (find j (entries ms)) →
+        find j (entries (insert k (sorted v) (sortedOf ms))) ≡ mapped sorted (find j (entries (member k v ms)))
+    go true e below =
+        let q : j ≡
+        k = sameBytes-true j k e in rw (e, find)
+        (subst (λ (x : Bytes). find x (entries (insert k (sorted v) (sortedOf ms))) ≡ some (sorted v)) (sym q)
+        (find-insert k (sorted v) (sortedOf ms) (one-of-sorted k ms ∙ u .name)))
     go false e below = rw (e, find) (find-insert-other k (sorted v) j (sortedOf ms) e ∙ below)
 
 pub only-sorted : (names : List Bytes) (ms : Members) → isOk (only names (keys ms)) ≡ true → isOk (only names (keys (sortedOf ms))) ≡ true
@@ -157,7 +175,8 @@ unfolding sortedOf only
 only-sorted names empty h = refl
 only-sorted names (member k v ms) h = go (isOneOf k names) refl (only-sorted names ms)
   where
-    go : (b : Bool) → isOneOf k names ≡ b → (isOk (only names (keys ms)) ≡ true → isOk (only names (keys (sortedOf ms))) ≡ true) → isOk (only names (keys (insert k (sorted v) (sortedOf ms)))) ≡ true
+    go : (b : Bool) → isOneOf k names ≡ b → (isOk (only names (keys ms)) ≡ true → isOk (only names (keys (sortedOf ms))) ≡ true) →
+        isOk (only names (keys (insert k (sorted v) (sortedOf ms)))) ≡ true
     go true e below = only-insert k (sorted v) names (sortedOf ms) e (below (rw (e, only) at h))
     go false e below = let z : _≡_ {A = ℕ} 0 1 = cc (rw (e, only) at h) in absurd (omega arith)
 

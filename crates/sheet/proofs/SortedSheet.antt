@@ -13,7 +13,24 @@ use Rattle.json.specs.Limits.{maxNumber, tidy, tidyIn, tidyOf}
 use Rattle.json.specs.Refusal.{Refusal, Result, ok, refused, wrongSheet}
 use Rattle.json.specs.Sorted.{sorted, sortedIn, sortedOf}
 use Rattle.sheet.proofs.SortedConditions.{first-none, sound-sorted}
-use Rattle.sheet.proofs.SortedKinds.{Kept, Okay, aBool-sorted, aText-sorted, aVersion-sorted, as-object, bind-inv, bind-okay, effect-sorted, kept, object-kept, okay, only-okay, optional-sorted, required-sorted, texts-sorted}
+use Rattle.sheet.proofs.SortedKinds.{
+  Kept,
+  Okay,
+  aBool-sorted,
+  aText-sorted,
+  aVersion-sorted,
+  as-object,
+  bind-inv,
+  bind-okay,
+  effect-sorted,
+  kept,
+  object-kept,
+  okay,
+  only-okay,
+  optional-sorted,
+  required-sorted,
+  texts-sorted,
+}
 use Rattle.sheet.proofs.SortedMembers.{and-first, and-second}
 use Rattle.sheet.proofs.Sheets.{sheet-parts}
 use Rattle.members.proofs.Soundness.{member-of, oneOf, sound-append, sound-one, soundness, soundnessOf}
@@ -40,12 +57,16 @@ under-kept ms k h v t e o = condition-okay v t (sym (sound-one v) ∙ sym (ap so
 -- ---- rules and outcomes
 rule-sorted : (v : Value) → tidy maxNumber v ≡ true → soundness (memberOf (ascii "assert") v) ≡ none → Okay (aRule notNull v) → Okay (aRule condition (sorted v))
 unfolding aRule sorted tidy
-rule-sorted v t s o = subst (λ (x : Value). tidy maxNumber x ≡ true → soundness (memberOf (ascii "assert") x) ≡ none → Okay (aRule notNull x) → Okay (aRule condition (sorted x))) (sym (q .1)) (go (q .0)) t s o
+rule-sorted v t s o =
+    subst
+    (λ (x : Value). tidy maxNumber x ≡ true → soundness (memberOf (ascii "assert") x) ≡
+    none → Okay (aRule notNull x) → Okay (aRule condition (sorted x))) (sym (q .1)) (go (q .0)) t s o
   where
     q : (ms : Members) × (v ≡ object ms)
     q = as-object v _ o
 
-    go : (ms : Members) → tidyOf maxNumber ms ≡ true → soundness (memberOf (ascii "assert") (object ms)) ≡ none → Okay (aRule notNull (object ms)) → Okay (aRule condition (object (sortedOf ms)))
+    go : (ms : Members) → tidyOf maxNumber ms ≡ true → soundness (memberOf (ascii "assert") (object ms)) ≡ none →
+        Okay (aRule notNull (object ms)) → Okay (aRule condition (object (sortedOf ms)))
     go ms u h x =
         let a = bind-inv (only (ascii "assert" ∷ ascii "name" ∷ ascii "message" ∷ []) (keys ms)) _ x in
         let b = bind-inv (required notNull (ascii "assert") ms) _ (a .2) in
@@ -59,12 +80,16 @@ rule-sorted v t s o = subst (λ (x : Value). tidy maxNumber x ≡ true → sound
 
 outcome-sorted : (v : Value) → tidy maxNumber v ≡ true → soundness (memberOf (ascii "when") v) ≡ none → Okay (anOutcome notNull v) → Okay (anOutcome condition (sorted v))
 unfolding anOutcome sorted tidy
-outcome-sorted v t s o = subst (λ (x : Value). tidy maxNumber x ≡ true → soundness (memberOf (ascii "when") x) ≡ none → Okay (anOutcome notNull x) → Okay (anOutcome condition (sorted x))) (sym (q .1)) (go (q .0)) t s o
+outcome-sorted v t s o =
+    subst
+    (λ (x : Value). tidy maxNumber x ≡ true → soundness (memberOf (ascii "when") x) ≡
+    none → Okay (anOutcome notNull x) → Okay (anOutcome condition (sorted x))) (sym (q .1)) (go (q .0)) t s o
   where
     q : (ms : Members) × (v ≡ object ms)
     q = as-object v _ o
 
-    go : (ms : Members) → tidyOf maxNumber ms ≡ true → soundness (memberOf (ascii "when") (object ms)) ≡ none → Okay (anOutcome notNull (object ms)) → Okay (anOutcome condition (object (sortedOf ms)))
+    go : (ms : Members) → tidyOf maxNumber ms ≡ true → soundness (memberOf (ascii "when") (object ms)) ≡ none →
+        Okay (anOutcome notNull (object ms)) → Okay (anOutcome condition (object (sortedOf ms)))
     go ms u h x =
         let a = bind-inv (only (ascii "name" ∷ ascii "when" ∷ ascii "in_state" ∷ ascii "wrong_state" ∷ ascii "effect" ∷ []) (keys ms)) _ x in
         let b = bind-inv (required aText (ascii "name") ms) _ (a .2) in
@@ -78,11 +103,17 @@ outcome-sorted v t s o = subst (λ (x : Value). tidy maxNumber x ≡ true → so
         let d′ = optional-sorted aText aText ms u (ascii "in_state") (kept aText aText-sorted ms (ascii "in_state")) (d .0, d .1) in
         let e′ = optional-sorted aBool aBool ms u (ascii "wrong_state") (kept aBool aBool-sorted ms (ascii "wrong_state")) (e .0, e .1) in
         let f′ = optional-sorted anEffect anEffect ms u (ascii "effect") (λ v i j k. effect-sorted v i k) (f .0, f .1) in
-        bind-okay _ (a′ .0) (a′ .1) (bind-okay _ (b′ .0) (b′ .1) (bind-okay _ (c′ .0) (c′ .1) (bind-okay _ (d′ .0) (d′ .1) (bind-okay _ (e′ .0) (e′ .1) (bind-okay _ (f′ .0) (f′ .1) (_, refl))))))
+        bind-okay _ (a′ .0) (a′ .1)
+        (bind-okay _ (b′ .0) (b′ .1)
+        (bind-okay _ (c′ .0) (c′ .1)
+        (bind-okay _ (d′ .0) (d′ .1) (bind-okay _ (e′ .0) (e′ .1) (bind-okay _ (f′ .0) (f′ .1) (_, refl))))))
 
 -- ---- an array of them
-module _ {A B : Type 0} (kind : Value → Result A) (kind′ : Value → Result B) (key : Bytes) (each : (v : Value) → tidy maxNumber v ≡ true → soundness (memberOf key v) ≡ none → Okay (kind v) → Okay (kind′ (sorted v))) where
-  elements-sorted : (vs : Values) → tidyIn maxNumber vs ≡ true → soundness (memberOfEach key (elements vs)) ≡ none → Okay (eachOf kind (elements vs)) → Okay (eachOf kind′ (elements (sortedIn vs)))
+module _ {A B : Type 0} (kind : Value → Result A) (kind′ : Value → Result B) (key : Bytes)
+    (each : (v : Value) → tidy maxNumber v ≡ true → soundness (memberOf key v) ≡ none → Okay (kind v) → Okay (kind′ (sorted v))) where
+  elements-sorted :
+      (vs : Values) → tidyIn maxNumber vs ≡ true → soundness (memberOfEach key (elements vs)) ≡ none → Okay (eachOf kind (elements vs)) →
+      Okay (eachOf kind′ (elements (sortedIn vs)))
   unfolding tidyIn memberOfEach eachOf sortedIn
   elements-sorted nil t s o = ([], refl)
   elements-sorted (cons v vs) t s o =
@@ -171,7 +202,9 @@ record AllTrue (b0 b1 b2 b3 b4 b5 b6 b7 b8 b9 b10 b11 b12 b13 b14 : Bool) : Type
   pub is13 : b13 ≡ true
   pub is14 : b14 ≡ true
 
-all-true : (b0 b1 b2 b3 b4 b5 b6 b7 b8 b9 b10 b11 b12 b13 b14 : Bool) → (b0 && (b1 && (b2 && (b3 && (b4 && (b5 && (b6 && (b7 && (b8 && (b9 && (b10 && (b11 && (b12 && (b13 && b14)))))))))))))) ≡ true → AllTrue b0 b1 b2 b3 b4 b5 b6 b7 b8 b9 b10 b11 b12 b13 b14
+all-true : (b0 b1 b2 b3 b4 b5 b6 b7 b8 b9 b10 b11 b12 b13 b14 : Bool) →
+    (b0 && (b1 && (b2 && (b3 && (b4 && (b5 && (b6 && (b7 && (b8 && (b9 && (b10 && (b11 && (b12 && (b13 && b14)))))))))))))) ≡ true →
+    AllTrue b0 b1 b2 b3 b4 b5 b6 b7 b8 b9 b10 b11 b12 b13 b14
 all-true false b1 b2 b3 b4 b5 b6 b7 b8 b9 b10 b11 b12 b13 b14 e = let z : _≡_ {A = ℕ} 0 1 = cc in absurd (omega arith)
 all-true true false b2 b3 b4 b5 b6 b7 b8 b9 b10 b11 b12 b13 b14 e = let z : _≡_ {A = ℕ} 0 1 = cc in absurd (omega arith)
 all-true true true false b3 b4 b5 b6 b7 b8 b9 b10 b11 b12 b13 b14 e = let z : _≡_ {A = ℕ} 0 1 = cc in absurd (omega arith)
@@ -187,7 +220,24 @@ all-true true true true true true true true true true true true false b12 b13 b1
 all-true true true true true true true true true true true true true false b13 b14 e = let z : _≡_ {A = ℕ} 0 1 = cc in absurd (omega arith)
 all-true true true true true true true true true true true true true true false b14 e = let z : _≡_ {A = ℕ} 0 1 = cc in absurd (omega arith)
 all-true true true true true true true true true true true true true true true false e = let z : _≡_ {A = ℕ} 0 1 = cc in absurd (omega arith)
-all-true true true true true true true true true true true true true true true true e = record { is0 = refl; is1 = refl; is2 = refl; is3 = refl; is4 = refl; is5 = refl; is6 = refl; is7 = refl; is8 = refl; is9 = refl; is10 = refl; is11 = refl; is12 = refl; is13 = refl; is14 = refl }
+all-true true true true true true true true true true true true true true true true e =
+    record {
+      is0 = refl;
+      is1 = refl;
+      is2 = refl;
+      is3 = refl;
+      is4 = refl;
+      is5 = refl;
+      is6 = refl;
+      is7 = refl;
+      is8 = refl;
+      is9 = refl;
+      is10 = refl;
+      is11 = refl;
+      is12 = refl;
+      is13 = refl;
+      is14 = refl;
+    }
 
 -- every member gives a value
 record Given (ms : Members) : Type 0 where
@@ -207,7 +257,15 @@ record Given (ms : Members) : Type 0 where
   pub invariants : Okay (required (anArrayOf (aRule condition)) (ascii "invariants") ms)
   pub outcomes : Okay (required (anArrayOf (anOutcome condition)) (ascii "outcomes") ms)
 
-given-sorted : (ms : Members) → tidyOf maxNumber ms ≡ true → soundnessOf ms ≡ none → AllTrue (isOk (only sheetNames (keys ms))) (isOk (optional aText (ascii "id") ms)) (isOk (required aText (ascii "entity") ms)) (isOk (required aVersion (ascii "version") ms)) (isOk (required anObject (ascii "args") ms)) (isOk (required anObject (ascii "fields") ms)) (isOk (required anObject (ascii "old_fields") ms)) (isOk (optional aText (ascii "from_state") ms)) (isOk (required aText (ascii "to_state") ms)) (isOk (optional aText (ascii "state") ms)) (isOk (required (anArrayOf aText) (ascii "states") ms)) (isOk (optional notNull (ascii "condition") ms)) (isOk (required (anArrayOf (aRule notNull)) (ascii "preconditions") ms)) (isOk (required (anArrayOf (aRule notNull)) (ascii "invariants") ms)) (isOk (required (anArrayOf (anOutcome notNull)) (ascii "outcomes") ms)) → Given (sortedOf ms)
+given-sorted : (ms : Members) → tidyOf maxNumber ms ≡ true → soundnessOf ms ≡ none →
+    AllTrue (isOk (only sheetNames (keys ms))) (isOk (optional aText (ascii "id") ms)) (isOk (required aText (ascii "entity") ms))
+    (isOk (required aVersion (ascii "version") ms)) (isOk (required anObject (ascii "args") ms))
+    (isOk (required anObject (ascii "fields") ms)) (isOk (required anObject (ascii "old_fields") ms))
+    (isOk (optional aText (ascii "from_state") ms)) (isOk (required aText (ascii "to_state") ms)) (isOk (optional aText (ascii "state") ms))
+    (isOk (required (anArrayOf aText) (ascii "states") ms)) (isOk (optional notNull (ascii "condition") ms))
+    (isOk (required (anArrayOf (aRule notNull)) (ascii "preconditions") ms))
+    (isOk (required (anArrayOf (aRule notNull)) (ascii "invariants") ms))
+    (isOk (required (anArrayOf (anOutcome notNull)) (ascii "outcomes") ms)) → Given (sortedOf ms)
 given-sorted ms u s f =
     record {
       known = only-okay sheetNames ms (okay (only sheetNames (keys ms)) (f .is0));
@@ -220,16 +278,73 @@ given-sorted ms u s f =
       fromState = optional-sorted aText aText ms u (ascii "from_state") (kept aText aText-sorted ms (ascii "from_state")) (okay (optional aText (ascii "from_state") ms) (f .is7));
       toState = required-sorted aText aText ms u (ascii "to_state") (kept aText aText-sorted ms (ascii "to_state")) (okay (required aText (ascii "to_state") ms) (f .is8));
       state = optional-sorted aText aText ms u (ascii "state") (kept aText aText-sorted ms (ascii "state")) (okay (optional aText (ascii "state") ms) (f .is9));
-      states = required-sorted (anArrayOf aText) (anArrayOf aText) ms u (ascii "states") (kept (anArrayOf aText) texts-sorted ms (ascii "states")) (okay (required (anArrayOf aText) (ascii "states") ms) (f .is10));
+      states =
+          required-sorted (anArrayOf aText) (anArrayOf aText) ms u (ascii "states")
+          (kept (anArrayOf aText) texts-sorted ms (ascii "states")) (okay (required (anArrayOf aText) (ascii "states") ms) (f .is10));
       itsCondition = optional-sorted notNull condition ms u (ascii "condition") (condition-kept ms s) (okay (optional notNull (ascii "condition") ms) (f .is11));
-      preconditions = required-sorted (anArrayOf (aRule notNull)) (anArrayOf (aRule condition)) ms u (ascii "preconditions") (preconditions-kept ms s) (okay (required (anArrayOf (aRule notNull)) (ascii "preconditions") ms) (f .is12));
-      invariants = required-sorted (anArrayOf (aRule notNull)) (anArrayOf (aRule condition)) ms u (ascii "invariants") (invariants-kept ms s) (okay (required (anArrayOf (aRule notNull)) (ascii "invariants") ms) (f .is13));
-      outcomes = required-sorted (anArrayOf (anOutcome notNull)) (anArrayOf (anOutcome condition)) ms u (ascii "outcomes") (outcomes-kept ms s) (okay (required (anArrayOf (anOutcome notNull)) (ascii "outcomes") ms) (f .is14));
+      preconditions =
+          required-sorted (anArrayOf (aRule notNull)) (anArrayOf (aRule condition)) ms u (ascii "preconditions") (preconditions-kept ms s)
+          (okay (required (anArrayOf (aRule notNull)) (ascii "preconditions") ms) (f .is12));
+      invariants =
+          required-sorted (anArrayOf (aRule notNull)) (anArrayOf (aRule condition)) ms u (ascii "invariants") (invariants-kept ms s)
+          (okay (required (anArrayOf (aRule notNull)) (ascii "invariants") ms) (f .is13));
+      outcomes =
+          required-sorted (anArrayOf (anOutcome notNull)) (anArrayOf (anOutcome condition)) ms u (ascii "outcomes") (outcomes-kept ms s)
+          (okay (required (anArrayOf (anOutcome notNull)) (ascii "outcomes") ms) (f .is14));
     }
 
 given-sheet : (ms : Members) → Given ms → (sheet : Sheet Condition) × SheetParts ms sheet
 unfolding aSheet
-given-sheet ms g = (record { id = g .id .0; entity = g .entity .0; version = g .version .0; args = g .args .0; fields = g .fields .0; oldFields = g .oldFields .0; fromState = g .fromState .0; toState = g .toState .0; state = g .state .0; states = g .states .0; condition = g .itsCondition .0; preconditions = g .preconditions .0; invariants = g .invariants .0; outcomes = g .outcomes .0 }, record { whole = bind-ok _ (g .known .1) ∙ bind-ok _ (g .id .1) ∙ bind-ok _ (g .entity .1) ∙ bind-ok _ (g .version .1) ∙ bind-ok _ (g .args .1) ∙ bind-ok _ (g .fields .1) ∙ bind-ok _ (g .oldFields .1) ∙ bind-ok _ (g .fromState .1) ∙ bind-ok _ (g .toState .1) ∙ bind-ok _ (g .state .1) ∙ bind-ok _ (g .states .1) ∙ bind-ok _ (g .itsCondition .1) ∙ bind-ok _ (g .preconditions .1) ∙ bind-ok _ (g .invariants .1) ∙ bind-ok _ (g .outcomes .1); id = g .id .1; entity = g .entity .1; version = g .version .1; args = g .args .1; fields = g .fields .1; oldFields = g .oldFields .1; fromState = g .fromState .1; toState = g .toState .1; state = g .state .1; states = g .states .1; itsCondition = g .itsCondition .1; preconditions = g .preconditions .1; invariants = g .invariants .1; outcomes = g .outcomes .1 })
+given-sheet ms g = (
+  record {
+    id = g .id .0;
+    entity = g .entity .0;
+    version = g .version .0;
+    args = g .args .0;
+    fields = g .fields .0;
+    oldFields = g .oldFields .0;
+    fromState = g .fromState .0;
+    toState = g .toState .0;
+    state = g .state .0;
+    states = g .states .0;
+    condition = g .itsCondition .0;
+    preconditions = g .preconditions .0;
+    invariants = g .invariants .0;
+    outcomes = g .outcomes .0;
+  },
+  record {
+    whole = bind-ok _ (g .known .1) ∙
+        bind-ok _ (g .id .1) ∙
+        bind-ok _ (g .entity .1) ∙
+        bind-ok _ (g .version .1) ∙
+        bind-ok _ (g .args .1) ∙
+        bind-ok _ (g .fields .1) ∙
+        bind-ok _ (g .oldFields .1) ∙
+        bind-ok _ (g .fromState .1) ∙
+        bind-ok _ (g .toState .1) ∙
+        bind-ok _ (g .state .1) ∙
+        bind-ok _ (g .states .1) ∙
+        bind-ok _ (g .itsCondition .1) ∙
+        bind-ok _ (g .preconditions .1) ∙
+        bind-ok _ (g .invariants .1) ∙
+        bind-ok _ (g .outcomes .1);
+    id = g .id .1;
+    entity = g .entity .1;
+    version = g .version .1;
+    args = g .args .1;
+    fields = g .fields .1;
+    oldFields = g .oldFields .1;
+    fromState = g .fromState .1;
+    toState = g .toState .1;
+    state = g .state .1;
+    states = g .states .1;
+    itsCondition = g .itsCondition .1;
+    preconditions = g .preconditions .1;
+    invariants = g .invariants .1;
+    outcomes = g .outcomes .1;
+  },
+)
 
-pub sheet-sorted : (ms : Members) → tidyOf maxNumber ms ≡ true → soundnessOf ms ≡ none → isOk (aSheet notNull (object ms)) ≡ true → (sheet : Sheet Condition) × SheetParts (sortedOf ms) sheet
+pub sheet-sorted : (ms : Members) → tidyOf maxNumber ms ≡ true → soundnessOf ms ≡ none → isOk (aSheet notNull (object ms)) ≡ true →
+    (sheet : Sheet Condition) × SheetParts (sortedOf ms) sheet
 sheet-sorted ms u s o = given-sheet (sortedOf ms) (given-sorted ms u s (all-true _ _ _ _ _ _ _ _ _ _ _ _ _ _ _ (sym (sheet-parts ms) ∙ o)))

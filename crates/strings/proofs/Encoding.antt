@@ -25,16 +25,46 @@ lead-two : (c : ℕ) → 194 ≤ c → c < 224 → lead c ≡ expecting 128 191 
 lead-two c h k = let a : 128 ≤ c = omega arith in rw (le-ltb c 128 a, between-of 194 223 c h (omega arith), choose)
 
 lead-three : (c : ℕ) → 224 ≤ c → (c ≡ 224 → ⊥) → (c ≡ 237 → ⊥) → c < 240 → lead c ≡ expecting 128 191 2
-lead-three c h p q k = let a : 128 ≤ c = omega arith in rw (le-ltb c 128 a, between-out 194 223 c (λ i j. omega arith), ne-eqb c 224 p, ne-eqb c 237 q, between-of 225 239 c (omega arith) (omega arith), choose)
+lead-three c h p q k =
+    let a : 128 ≤ c = omega arith in rw (
+      le-ltb c 128 a,
+      between-out 194 223 c (λ i j. omega arith),
+      ne-eqb c 224 p,
+      ne-eqb c 237 q,
+      between-of 225 239 c (omega arith)
+          (omega arith),
+      choose,
+    )
 
 lead-four : (c : ℕ) → 240 ≤ c → (c ≡ 240 → ⊥) → c < 244 → lead c ≡ expecting 128 191 3
 lead-four c h p k =
     let a : 128 ≤ c = omega arith in
-    rw (le-ltb c 128 a, between-out 194 223 c (λ i j. omega arith), ne-eqb c 224 (λ e. omega arith), ne-eqb c 237 (λ e. omega arith), between-out 225 239 c (λ i j. omega arith), ne-eqb c 240 p, between-of 241 243 c (omega arith) (omega arith), choose)
+    rw (
+      le-ltb c 128 a,
+      between-out 194 223 c (λ i j. omega arith),
+      ne-eqb c 224 (λ e. omega arith),
+      ne-eqb c 237 (λ e. omega arith),
+      between-out 225 239 c (λ i j. omega arith),
+      ne-eqb c 240 p,
+      between-of 241 243 c (omega arith) (omega arith),
+      choose,
+    )
 
 lead-never : (c : ℕ) → 128 ≤ c → (194 ≤ c → c ≤ 244 → ⊥) → lead c ≡ never
 lead-never c h p =
-    rw (le-ltb c 128 h, between-out 194 223 c (λ i j. p (omega arith) (omega arith)), ne-eqb c 224 (λ e. p (omega arith) (omega arith)), ne-eqb c 237 (λ e. p (omega arith) (omega arith)), between-out 225 239 c (λ i j. p (omega arith) (omega arith)), ne-eqb c 240 (λ e. p (omega arith) (omega arith)), between-out 241 243 c (λ i j. p (omega arith) (omega arith)), ne-eqb c 244 (λ e. p (omega arith) (omega arith)), choose)
+    rw (
+      le-ltb c 128 h,
+      between-out 194 223 c (λ i j. p (omega arith) (omega arith)),
+      ne-eqb c 224 (λ e. p (omega arith) (omega arith)),
+      ne-eqb c 237 (λ e. p (omega arith) (omega arith)),
+      between-out 225 239 c (λ i j. p (omega arith) (omega arith)),
+      ne-eqb c 240
+          (λ e. p (omega arith) (omega arith)),
+      between-out 241 243 c (λ i j. p (omega arith) (omega arith)),
+      ne-eqb c 244
+          (λ e. p (omega arith) (omega arith)),
+      choose,
+    )
 
 -- no byte lies between 255 and 0
 pub empty-range : (t : Bytes) → utf8 (expecting 255 0 1) t ≡ false
@@ -77,7 +107,9 @@ module _ (e : Expected) (c : ℕ) (r : Expected) where
     unfolding utf8
     further t = go (e .left) nz
       where
-        go : (n : ℕ) → (n ≡ 0 → ⊥) → utf8 (expecting (e .low) (e .high) n) (c ∷ t) ≡ elim (leb (e .low) c && leb c (e .high)) [ true ↦ utf8 (after (n - 1)) t | false ↦ false ]
+        go : (n : ℕ) → (n ≡ 0 → ⊥) →
+            utf8 (expecting (e .low) (e .high) n) (c ∷ t) ≡
+            elim (leb (e .low) c && leb c (e .high)) [ true ↦ utf8 (after (n - 1)) t | false ↦ false ]
         go zero f = absurd (f refl)
         go (suc n) f = let q : n ≡ suc n - 1 = omega arith in ap {B = Bool} (λ (m : ℕ). elim (leb (e .low) c && leb c (e .high)) [ true ↦ utf8 (after m) t | false ↦ false ]) q
 

@@ -45,7 +45,10 @@ lower-is c p q = let h : c - 87 < 16 = omega arith in rw (between-out 48 57 c (�
 pub no-digit : (c : ℕ) → (48 ≤ c → c ≤ 57 → ⊥) → (65 ≤ c → c ≤ 70 → ⊥) → (97 ≤ c → c ≤ 102 → ⊥) → hexDigit c ≡ digitOf 16
 no-digit c f g h = rw (between-out 48 57 c f, between-out 65 70 c g, between-out 97 102 c h, choose)
 
-pub not-simple : (c : ℕ) → (c ≡ 34 → ⊥) → (c ≡ 92 → ⊥) → (c ≡ 47 → ⊥) → (c ≡ 98 → ⊥) → (c ≡ 102 → ⊥) → (c ≡ 110 → ⊥) → (c ≡ 114 → ⊥) → (c ≡ 116 → ⊥) → simpleEscape c ≡ none
+pub not-simple :
+    (c : ℕ) → (c ≡ 34 → ⊥) → (c ≡ 92 → ⊥) → (c ≡ 47 → ⊥) → (c ≡ 98 → ⊥) → (c ≡ 102 → ⊥) → (c ≡ 110 → ⊥) → (c ≡ 114 → ⊥) → (c ≡ 116 → ⊥)
+    →
+    simpleEscape c ≡ none
 not-simple c p1 p2 p3 p4 p5 p6 p7 p8 = rw (ne-eqb c 34 p1, ne-eqb c 92 p2, ne-eqb c 47 p3, ne-eqb c 98 p4, ne-eqb c 102 p5, ne-eqb c 110 p6, ne-eqb c 114 p7, ne-eqb c 116 p8, choose)
 
 first-byte : (s : Bytes) (at : ℕ) → at < length s → drop at s ≡ getD s at 0 ∷ drop (at + 1) s
@@ -115,7 +118,8 @@ pub escape-bad : {s : Bytes} {at : ℕ} {x : Result (Read ℕ)} → x ≡ refuse
 unfolding escapedOf EscapedIn
 escape-bad e = record { answers = e; bounds = tt }
 
-pub escape-is : {s : Bytes} {at : ℕ} {x : Result (Read ℕ)} (u p : ℕ) → x ≡ ok (record { got = u; rest = drop p s }) → u < 1114112 → at < p → p ≤ length s → EscapedTold s at x (escapes.Is (record { unit = u; next = p }))
+pub escape-is : {s : Bytes} {at : ℕ} {x : Result (Read ℕ)} (u p : ℕ) → x ≡ ok (record { got = u; rest = drop p s }) → u < 1114112 → at < p →
+    p ≤ length s → EscapedTold s at x (escapes.Is (record { unit = u; next = p }))
 unfolding escapedOf EscapedIn
 escape-is u p e a b c = record { answers = e; bounds = (a, b, c) }
 
@@ -124,7 +128,8 @@ pub hex-was-bad : {s : Bytes} {at : ℕ} {r : Hex} → HexTold s at r → r ≡ 
 unfolding hexOf
 hex-was-bad {s} {at} h e = h .answers ∙ ap (hexOf s at) e
 
-pub hex-was : {s : Bytes} {at : ℕ} {r : Hex} (u p : ℕ) → HexTold s at r → r ≡ hexes.Unit u → p ≡ at + 4 → (hex 4 0 (drop at s) ≡ ok (record { got = u; rest = drop p s })) × (u < 65536) × (p ≤ length s)
+pub hex-was : {s : Bytes} {at : ℕ} {r : Hex} (u p : ℕ) → HexTold s at r → r ≡ hexes.Unit u → p ≡ at + 4 →
+    (hex 4 0 (drop at s) ≡ ok (record { got = u; rest = drop p s })) × (u < 65536) × (p ≤ length s)
 unfolding hexOf HexIn
 hex-was {s} {at} u p h e q = let b = subst (HexIn s at) e (h .bounds) in rw q (h .answers ∙ ap (hexOf s at) e, b .0, b .1)
 
@@ -162,11 +167,15 @@ module _ (high : ℕ) (s : Bytes) (at : ℕ) where
       pub no-low : hex 4 0 (drop (at + 2) s) ≡ refused notJson → highScalar high (drop at s) ≡ refused notJson
       no-low e = high-is ∙ rw e
 
-      pub wrong-low : (low : ℕ) (r : Bytes) → hex 4 0 (drop (at + 2) s) ≡ ok (record { got = low; rest = r }) → (56320 ≤ low → low ≤ 57343 → ⊥) → highScalar high (drop at s) ≡ refused notJson
+      pub wrong-low :
+          (low : ℕ) (r : Bytes) → hex 4 0 (drop (at + 2) s) ≡ ok (record { got = low; rest = r }) → (56320 ≤ low → low ≤ 57343 → ⊥) →
+          highScalar high (drop at s) ≡ refused notJson
       unfolding lowScalar
       wrong-low low r e f = high-is ∙ rw (e, between-out 56320 57343 low f, lowScalar)
 
-      pub good-low : (low : ℕ) (r : Bytes) → hex 4 0 (drop (at + 2) s) ≡ ok (record { got = low; rest = r }) → 56320 ≤ low → low ≤ 57343 → highScalar high (drop at s) ≡ ok (record { got = 65536 + (high - 55296) * 1024 + (low - 56320); rest = r })
+      pub good-low : (low : ℕ) (r : Bytes) → hex 4 0 (drop (at + 2) s) ≡
+          ok (record { got = low; rest = r }) → 56320 ≤ low → low ≤ 57343 → highScalar high (drop at s) ≡
+          ok (record { got = 65536 + (high - 55296) * 1024 + (low - 56320); rest = r })
       unfolding lowScalar
       good-low low r e p q = high-is ∙ rw (e, between-of 56320 57343 low p q, lowScalar)
 
@@ -227,13 +236,19 @@ pub escape-was-bad : {s : Bytes} {at : ℕ} {x : Result (Read ℕ)} {r : Escaped
 unfolding escapedOf
 escape-was-bad {s} h e = h .answers ∙ ap (escapedOf s) e
 
-pub escape-was : {s : Bytes} {at : ℕ} {x : Result (Read ℕ)} {r : Escaped} (q : Scalar) → EscapedTold s at x r → r ≡ escapes.Is q → (x ≡ ok (record { got = q .unit; rest = drop (q .next) s })) × (q .unit < 1114112) × (at < q .next) × (q .next ≤ length s)
+pub escape-was : {s : Bytes} {at : ℕ} {x : Result (Read ℕ)} {r : Escaped} (q : Scalar) → EscapedTold s at x r → r ≡
+    escapes.Is q → (x ≡ ok (record { got = q .unit; rest = drop (q .next) s })) × (q .unit < 1114112) × (at < q .next) ×
+    (q .next ≤ length s)
 unfolding escapedOf EscapedIn
 escape-was {s} {at} q h e = let b = subst (EscapedIn s at) e (h .bounds) in (h .answers ∙ ap (escapedOf s) e, b .0, b .1, b .2)
 
 -- ---- cursors
-pub first-taken : {s : Bytes} {at u left : ℕ} {x : Scalar} {t : Taken} → FirstOf x t → Took s at u left (t .byte) (x .next) (x .unit) (t .rest .left) → Took s at u left (t .byte) (t .rest .at) (t .rest .unit) (t .rest .left)
-first-taken {s} {at} {u} {left} {x} {t} f k = subst (λ (n : ℕ). Took s at u left (t .byte) n (t .rest .unit) (t .rest .left)) (sym (f .at)) (subst (λ (n : ℕ). Took s at u left (t .byte) (x .next) n (t .rest .left)) (sym (f .unit)) k)
+pub first-taken :
+    {s : Bytes} {at u left : ℕ} {x : Scalar} {t : Taken} → FirstOf x t → Took s at u left (t .byte) (x .next) (x .unit) (t .rest .left) →
+    Took s at u left (t .byte) (t .rest .at) (t .rest .unit) (t .rest .left)
+first-taken {s} {at} {u} {left} {x} {t} f k =
+    subst (λ (n : ℕ). Took s at u left (t .byte) n (t .rest .unit) (t .rest .left)) (sym (f .at))
+    (subst (λ (n : ℕ). Took s at u left (t .byte) (x .next) n (t .rest .left)) (sym (f .unit)) k)
 
 abbrev pub beforeOf : Bytes → Cursor → Bytes
 beforeOf s c = before s (c .at) (c .unit) (c .left)
@@ -242,7 +257,8 @@ pub was-end : (s : Bytes) (c : Cursor) {r : Step} → Stepped s c r → r ≡ st
 unfolding Stepped
 was-end s c h e = subst (Stepped s c) e h
 
-pub was-byte : {s : Bytes} {c : Cursor} {r : Step} (t : Taken) → Stepped s c r → r ≡ steps.Byte t → Took s (c .at) (c .unit) (c .left) (t .byte) (t .rest .at) (t .rest .unit) (t .rest .left)
+pub was-byte : {s : Bytes} {c : Cursor} {r : Step} (t : Taken) → Stepped s c r → r ≡ steps.Byte t →
+    Took s (c .at) (c .unit) (c .left) (t .byte) (t .rest .at) (t .rest .unit) (t .rest .left)
 unfolding Stepped
 was-byte {s} {c} t h e = subst (Stepped s c) e h
 
@@ -256,7 +272,10 @@ pub comparing : (s : Bytes) (a b : ℕ) → OnText s a 0 → OnText s b 0 → Co
 unfolding before
 comparing s a b p q = record { onX = p; onY = q; same = refl }
 
-pub on : {s : Bytes} {a b : ℕ} {x y : Cursor} (p q : Taken) → Comparing s a b x y → Took s (x .at) (x .unit) (x .left) (p .byte) (p .rest .at) (p .rest .unit) (p .rest .left) → Took s (y .at) (y .unit) (y .left) (q .byte) (q .rest .at) (q .rest .unit) (q .rest .left) → q .byte ≤ p .byte → p .byte ≤ q .byte → Comparing s a b (p .rest) (q .rest)
+pub on : {s : Bytes} {a b : ℕ} {x y : Cursor} (p q : Taken) → Comparing s a b x y →
+    Took s (x .at) (x .unit) (x .left) (p .byte) (p .rest .at) (p .rest .unit) (p .rest .left) →
+    Took s (y .at) (y .unit) (y .left) (q .byte) (q .rest .at) (q .rest .unit) (q .rest .left) → q .byte ≤ p .byte → p .byte ≤ q .byte →
+    Comparing s a b (p .rest) (q .rest)
 on p q h i j k l = record { onX = i .onText; onY = j .onText; same = h .same ∙ order-on (i .byte) (j .byte) (omega arith) }
 
 -- ---- spaces
@@ -279,7 +298,11 @@ pub record Wording (w s : Bytes) (at here k : ℕ) : Type 0 where
 module _ {w s : Bytes} {at here k : ℕ} (l : Wording w s at here k) where
   pub word-done : length w ≤ k → wordAt w s at ≡ ok here
   unfolding wordAt word placeOf
-  word-done h = l .same ∙ rw (drop-of-length-le w h) (let q : length s - length (drop here s) ≡ here = omega (arith, length-drop here s, l .upto) in ap {B = Result ℕ} (λ (n : ℕ). ok n) q)
+  word-done h =
+      l .same ∙
+      rw (drop-of-length-le w h)
+      (let q : length s - length (drop here s) ≡
+      here = omega (arith, length-drop here s, l .upto) in ap {B = Result ℕ} (λ (n : ℕ). ok n) q)
 
   module _ (more : k < length w) where
     pub word-short : length s ≤ here → wordAt w s at ≡ refused notJson
@@ -293,4 +316,9 @@ module _ {w s : Bytes} {at here k : ℕ} (l : Wording w s at here k) where
 
       pub word-on : getD s here 0 ≡ getD w k 0 → Wording w s at (here + 1) (k + 1)
       unfolding wordAt word
-      word-on e = record { upto = omega arith; within = omega arith; same = l .same ∙ rw (first-byte w k more, first-byte s here inside, eq-eqb (getD w k 0) (getD s here 0) (sym e), word) }
+      word-on e =
+          record {
+            upto = omega arith;
+            within = omega arith;
+            same = l .same ∙ rw (first-byte w k more, first-byte s here inside, eq-eqb (getD w k 0) (getD s here 0) (sym e), word);
+          }

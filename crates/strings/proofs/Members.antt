@@ -55,10 +55,24 @@ module _ {s : Bytes} {w : List ℕ} {name e : ℕ} {whole : Option Value} {k : �
 
     pub here : (a : ℕ) → a ≡ startAt w k → true ≡ sameBytes (textAt s name) (textAt s a) → FoundTold s w whole (founds.At (k + 1))
     unfolding foundOf FoundIn
-    here a q e = record { answers = l .rest ∙ find-here s w (textAt s name) (l .members .members) h (ap (λ (x : ℕ). sameBytes (textAt s name) (textAt s x)) (sym q) ∙ sym e); bounds = record { left = l .members .left; isNode = m .here } }
+    here a q e =
+        record {
+          answers = l .rest ∙
+              find-here s w (textAt s name) (l .members .members) h
+              (ap (λ (x : ℕ). sameBytes (textAt s name) (textAt s x)) (sym q) ∙ sym e);
+          bounds = record { left = l .members .left; isNode = m .here };
+        }
 
     pub falls : (k′ : ℕ) → k′ ≡ afterAt w (k + 1) → (k < k′) × (k′ ≤ e)
     falls k′ q = (omega (arith, m .past), omega (arith, m .upto))
 
     pub on : (a : ℕ) → a ≡ startAt w k → false ≡ sameBytes (textAt s name) (textAt s a) → (k′ : ℕ) → k′ ≡ afterAt w (k + 1) → Searching s w name e whole k′
-    on a q f k′ p = subst (Searching s w name e whole) (sym p) (record { members = record { left = l .members .left; members = m .others }; text = l .text; rest = l .rest ∙ find-on s w (textAt s name) (l .members .members) h (ap (λ (x : ℕ). sameBytes (textAt s name) (textAt s x)) (sym q) ∙ sym f) })
+    on a q f k′ p =
+        subst (Searching s w name e whole) (sym p)
+        (record {
+          members = record { left = l .members .left; members = m .others };
+          text = l .text;
+          rest = l .rest ∙
+              find-on s w (textAt s name) (l .members .members) h
+              (ap (λ (x : ℕ). sameBytes (textAt s name) (textAt s x)) (sym q) ∙ sym f);
+        })

@@ -89,7 +89,10 @@ abbrev pub classOf : ℕ → Digit
 classOf r = choose ((eqb r 0, isZero) ∷ (eqb r 1, isNonzero) ∷ (eqb r 2, isMinus) ∷ (eqb r 3, isPlus) ∷ (eqb r 4, isPoint) ∷ (eqb r 5, isE) ∷ []) isOther
 
 abbrev pub placeBy : ℕ → Place
-placeBy r = choose ((eqb r 0, sign) ∷ (eqb r 1, zeroed) ∷ (eqb r 2, whole) ∷ (eqb r 3, point) ∷ (eqb r 4, fraction) ∷ (eqb r 5, exponent) ∷ (eqb r 6, expSign) ∷ (eqb r 7, expDigits) ∷ []) stop
+placeBy r =
+    choose
+    ((eqb r 0, sign) ∷ (eqb r 1, zeroed) ∷ (eqb r 2, whole) ∷ (eqb r 3, point) ∷ (eqb r 4, fraction) ∷ (eqb r 5, exponent) ∷
+    (eqb r 6, expSign) ∷ (eqb r 7, expDigits) ∷ []) stop
 
 -- what may come next in UTF-8
 abbrev pub expecting : ℕ → ℕ → ℕ → Expect

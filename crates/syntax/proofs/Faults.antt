@@ -20,7 +20,34 @@ use Rattle.json.specs.Spans.{textAt}
 use Rattle.json.specs.Table.{afterAt, endAt, kindAt, membersAt, startAt, valueAt, valuesAt}
 use Rattle.strings.specs.declared.rows.Found.{Found}
 use Rattle.strings.specs.declared.rows.Found.the-variants as founds
-use Rattle.members.proofs.Conditions.{a-boolean, by-operator, conditions-array, conditions-first, conditions-none, faultsIn, firstOf, made, made-junction, made-negation, made-pair, made-quantified, no-as, no-condition, no-conditions, no-in, no-name, no-pair, no-quantifier, no-that, not-one, not-two, quantifier-of, several, the-body, two}
+use Rattle.members.proofs.Conditions.{
+  a-boolean,
+  by-operator,
+  conditions-array,
+  conditions-first,
+  conditions-none,
+  faultsIn,
+  firstOf,
+  made,
+  made-junction,
+  made-negation,
+  made-pair,
+  made-quantified,
+  no-as,
+  no-condition,
+  no-conditions,
+  no-in,
+  no-name,
+  no-pair,
+  no-quantifier,
+  no-that,
+  not-one,
+  not-two,
+  quantifier-of,
+  several,
+  the-body,
+  two,
+}
 use Rattle.members.proofs.Shapes.{array-at, object-at, tag, tagged, text-at}
 use Rattle.members.proofs.Walks.{OverNodes, an-element, element-on, full-members, no-element}
 use Rattle.members.specs.Answers.{FoundLeft, Located, formOf, modeOf, operatorOf}
@@ -114,13 +141,19 @@ module _ {s : Bytes} {w : List ℕ} {left n : ℕ} (h : IsNode s w left n) (k : 
             pub alone : valueAt s w n ≡ object (member (textAt s a) (valueAt s w (n + 1 + 1)) empty)
             alone =
                 let r : length (entries (membersAt s w (afterAt w (n + 1 + 1)) e)) ≡ 0 = omega (arith, ap (λ (ms : Members). length (entries ms)) (the-one .value)) in
-                object-is ∙ ap object (the-one .value ∙ ap (λ (x : ℕ). member (textAt s x) (valueAt s w (n + 1 + 1)) (membersAt s w (afterAt w (n + 1 + 1)) e)) (sym g) ∙ ap (member (textAt s a) (valueAt s w (n + 1 + 1))) (no-entries (membersAt s w (afterAt w (n + 1 + 1)) e) r))
+                object-is ∙
+                ap object
+                (the-one .value ∙
+                ap (λ (x : ℕ). member (textAt s x) (valueAt s w (n + 1 + 1)) (membersAt s w (afterAt w (n + 1 + 1)) e)) (sym g) ∙
+                ap (member (textAt s a) (valueAt s w (n + 1 + 1))) (no-entries (membersAt s w (afterAt w (n + 1 + 1)) e) r))
 
             module _ (r : Operator) (t : find (textAt s a) operators ≡ operatorOf r) where
               by : (x : Operator) → r ≡ x → faultOf (condition (valueAt s w n)) ≡ made (valueAt s w (n + 1 + 1)) (operatorOf x)
               by x f = ap (λ (v : Value). faultOf (condition v)) alone ∙ by-operator (textAt s a) (valueAt s w (n + 1 + 1)) (t ∙ ap operatorOf f)
 
-              pub cond-junction : (m : Mode) {o : Option Refusal} → r ≡ ops.Junction m → faultOf (conditionArray (valueAt s w (n + 1 + 1))) ≡ o → faultOf (condition (valueAt s w n)) ≡ o
+              pub cond-junction :
+                  (m : Mode) {o : Option Refusal} → r ≡ ops.Junction m → faultOf (conditionArray (valueAt s w (n + 1 + 1))) ≡ o →
+                  faultOf (condition (valueAt s w n)) ≡ o
               unfolding operatorOf
               cond-junction m f u = by (ops.Junction m) f ∙ made-junction (valueAt s w (n + 1 + 1)) (modeOf m) ∙ u
 
@@ -136,7 +169,8 @@ module _ {s : Bytes} {w : List ℕ} {left n : ℕ} (h : IsNode s w left n) (k : 
               unfolding operatorOf
               cond-pair m f u = by (ops.Pair m) f ∙ made-pair (valueAt s w (n + 1 + 1)) (formOf m) ∙ u
 
-              pub cond-quantified : (m : Mode) {o : Option Refusal} → r ≡ ops.Quantified m → quantifierFault (valueAt s w (n + 1 + 1)) ≡ o → faultOf (condition (valueAt s w n)) ≡ o
+              pub cond-quantified : (m : Mode) {o : Option Refusal} → r ≡ ops.Quantified m → quantifierFault (valueAt s w (n + 1 + 1)) ≡ o →
+                  faultOf (condition (valueAt s w n)) ≡ o
               unfolding operatorOf
               cond-quantified m f u = by (ops.Quantified m) f ∙ made-quantified (valueAt s w (n + 1 + 1)) (modeOf m) ∙ u
 
@@ -181,13 +215,21 @@ module _ {s : Bytes} {w : List ℕ} {left n : ℕ} (h : IsNode s w left n) (k : 
                 found-that = isThat ∙ ap (foundOf s w) atThat
 
                 pub quant-no-name : (ky ≡ 4 → ⊥) → quantifierFault (valueAt s w n) ≡ some wrongShape
-                quant-no-name f = quant-is ∙ no-name every (membersAt s w (n + 1) e) (sym i ∙ three) (valueAt s w x) found-in (valueAt s w y) found-as (valueAt s w u) found-that (no-text (valueAt s w y) (λ q′. f (tagged hy ky py ∙ q′)))
+                quant-no-name f =
+                    quant-is ∙
+                    no-name every (membersAt s w (n + 1) e) (sym i ∙ three) (valueAt s w x) found-in (valueAt s w y) found-as
+                    (valueAt s w u) found-that (no-text (valueAt s w y) (λ q′. f (tagged hy ky py ∙ q′)))
 
                 pub quant-body : {o : Option Refusal} → ky ≡ 4 → faultOf (condition (valueAt s w u)) ≡ o → quantifierFault (valueAt s w n) ≡ o
-                quant-body f g = quant-is ∙ the-body every (membersAt s w (n + 1) e) (sym i ∙ three) (valueAt s w x) found-in (valueAt s w y) found-as (valueAt s w u) found-that (textAt s (startAt w y)) (ap asText (text-at hy (sym py ∙ f) .0)) ∙ g
+                quant-body f g =
+                    quant-is ∙
+                    the-body every (membersAt s w (n + 1) e) (sym i ∙ three) (valueAt s w x) found-in (valueAt s w y) found-as
+                    (valueAt s w u) found-that (textAt s (startAt w y)) (ap asText (text-at hy (sym py ∙ f) .0)) ∙
+                    g
 
 -- where a member that was found may be entered
-pub found-left : {s : Bytes} {w : List ℕ} {from e : ℕ} {whole : Option Value} {r : Found} (n : ℕ) {left : ℕ} → Located s w from e whole r → r ≡ founds.At n → AreMembers s w left from e → IsNode s w left n
+pub found-left : {s : Bytes} {w : List ℕ} {from e : ℕ} {whole : Option Value} {r : Found} (n : ℕ) {left : ℕ} → Located s w from e whole r →
+    r ≡ founds.At n → AreMembers s w left from e → IsNode s w left n
 unfolding FoundLeft
 found-left {s} {w} n {left} l f m = subst (FoundLeft s w left) f (l .within left m)
 
@@ -204,7 +246,10 @@ module _ {s : Bytes} {w : List ℕ} {left n : ℕ} (h : IsNode s w left n) (k : 
     over-conditions =
         record {
           nodes = subst (AreNodes s w (left - 1) (n + 1)) (sym j) (array-at h (sym p ∙ q) .1);
-          rest = ap (λ (v : Value). faultOf (conditionArray v)) (array-at h (sym p ∙ q) .0 ∙ ap (λ (x : ℕ). array (valuesAt s w (n + 1) x)) (sym j)) ∙ conditions-array (valuesAt s w (n + 1) e);
+          rest =
+              ap (λ (v : Value). faultOf (conditionArray v))
+              (array-at h (sym p ∙ q) .0 ∙ ap (λ (x : ℕ). array (valuesAt s w (n + 1) x)) (sym j)) ∙
+              conditions-array (valuesAt s w (n + 1) e);
         }
 
 module _ {s : Bytes} {w : List ℕ} {left e : ℕ} {whole : Option Refusal} {k : ℕ} (l : OverNodes s w left e whole faultsIn k) where
@@ -213,7 +258,10 @@ module _ {s : Bytes} {w : List ℕ} {left e : ℕ} {whole : Option Refusal} {k :
 
   module _ (g : k < e) {o : Option Refusal} (f : faultOf (condition (valueAt s w k)) ≡ o) where
     conditions-here : whole ≡ firstOf o (faultsIn (valuesAt s w (afterAt w k) e))
-    conditions-here = an-element l g ∙ conditions-first (valueAt s w k) (valuesAt s w (afterAt w k) e) ∙ ap (λ (x : Option Refusal). firstOf x (faultsIn (valuesAt s w (afterAt w k) e))) f
+    conditions-here =
+        an-element l g ∙
+        conditions-first (valueAt s w k) (valuesAt s w (afterAt w k) e) ∙
+        ap (λ (x : Option Refusal). firstOf x (faultsIn (valuesAt s w (afterAt w k) e))) f
 
     pub conditions-fault : (r : Refusal) → o ≡ some r → whole ≡ some r
     conditions-fault r i = conditions-here ∙ ap (λ (x : Option Refusal). firstOf x (faultsIn (valuesAt s w (afterAt w k) e))) i

@@ -26,7 +26,8 @@ use borrow.Author.Tests.{ne-eqb}
 pub nonzero-is : (c : ℕ) → 49 ≤ c → c ≤ 57 → digit c ≡ classOf 1
 nonzero-is c p q = rw (ne-eqb c 48 (λ e. omega arith), between-of 49 57 c p q, choose)
 
-pub other-is : (c : ℕ) → (c ≡ 48 → ⊥) → (49 ≤ c → c ≤ 57 → ⊥) → (c ≡ 45 → ⊥) → (c ≡ 43 → ⊥) → (c ≡ 46 → ⊥) → (c ≡ 69 → ⊥) → (c ≡ 101 → ⊥) → digit c ≡ classOf 6
+pub other-is : (c : ℕ) → (c ≡ 48 → ⊥) → (49 ≤ c → c ≤ 57 → ⊥) → (c ≡ 45 → ⊥) → (c ≡ 43 → ⊥) → (c ≡ 46 → ⊥) → (c ≡ 69 → ⊥) → (c ≡ 101 → ⊥) →
+    digit c ≡ classOf 6
 other-is c p1 p2 p3 p4 p5 p6 p7 = rw (ne-eqb c 48 p1, between-out 49 57 c p2, ne-eqb c 45 p3, ne-eqb c 43 p4, ne-eqb c 46 p5, ne-eqb c 69 p6, ne-eqb c 101 p7, choose)
 
 pub first-whole : (c : ℕ) → 49 ≤ c → c ≤ 57 → first c ≡ placeBy 2
@@ -44,7 +45,9 @@ there : (p r k : ℕ) → Leads p r k k → onward (placeBy p) (classOf k) ≡ p
 there p r k (inl n) = absurd (n refl)
 there p r k (inr e) = e
 
-pub leads : (p r d : ℕ) → d < 7 → Leads p r d 0 → Leads p r d 1 → Leads p r d 2 → Leads p r d 3 → Leads p r d 4 → Leads p r d 5 → Leads p r d 6 → onward (placeBy p) (classOf d) ≡ placeBy r
+pub leads :
+    (p r d : ℕ) → d < 7 → Leads p r d 0 → Leads p r d 1 → Leads p r d 2 → Leads p r d 3 → Leads p r d 4 → Leads p r d 5 → Leads p r d 6 →
+    onward (placeBy p) (classOf d) ≡ placeBy r
 leads p r zero h a0 a1 a2 a3 a4 a5 a6 = there p r 0 a0
 leads p r (suc zero) h a0 a1 a2 a3 a4 a5 a6 = there p r 1 a1
 leads p r (suc (suc zero)) h a0 a1 a2 a3 a4 a5 a6 = there p r 2 a2
@@ -131,7 +134,9 @@ module _ {s : Bytes} {at place here left : ℕ} (l : Numbering s at place here l
         q : length s - suc (length (drop (here + 1) s)) ≡ here
         q = omega (arith, length-drop (here + 1) s)
 
-        go : (b : Bool) → behind s (elim b [ true ↦ ok (record { got = []; rest = getD s here 0 ∷ drop (here + 1) s }) | false ↦ refused notJson ]) ≡ cond b (ok here) (refused notJson)
+        go : (b : Bool) → behind s
+            (elim b [ true ↦ ok (record { got = []; rest = getD s here 0 ∷ drop (here + 1) s }) | false ↦ refused notJson ]) ≡
+            cond b (ok here) (refused notJson)
         go true = ap {B = Result ℕ} (λ (n : ℕ). ok n) q
         go false = refl
 
@@ -142,20 +147,32 @@ module _ {s : Bytes} {at place here left : ℕ} (l : Numbering s at place here l
 
       pub on : (left ≡ 0 → ⊥) → Numbering s at next (here + 1) (left - 1)
       unfolding digits
-      on g = record { upto = omega arith; small = small; few = omega (arith, l .few); rest = l .rest ∙ rw (opened, ap isStop e ∙ goes-on next small f, digits, ne-eqb left 0 g) (behind-more s (getD s here 0) (digits (onward (placeBy place) (digit (getD s here 0))) (left - 1) (drop (here + 1) s))) ∙ ap (λ (q : Place). behind s (digits q (left - 1) (drop (here + 1) s))) e }
+      on g =
+          record {
+            upto = omega arith;
+            small = small;
+            few = omega (arith, l .few);
+            rest = l .rest ∙
+                rw (opened, ap isStop e ∙ goes-on next small f, digits, ne-eqb left 0 g)
+                (behind-more s (getD s here 0) (digits (onward (placeBy place) (digit (getD s here 0))) (left - 1) (drop (here + 1) s))) ∙
+                ap (λ (q : Place). behind s (digits q (left - 1) (drop (here + 1) s))) e;
+          }
 
 -- ---- the bytes that most numbers have
 abbrev at-stand : ℕ → ℕ → ℕ → Stand
 at-stand place here left = record { place = place; here = here; left = left }
 
-pub over-digit : {s : Bytes} {a : Stand} (p here left : ℕ) → (p ≡ 2) ⊎ (p ≡ 4) → Reaches s a (at-stand p here left) → here < length s → (left ≡ 0 → ⊥) → 48 ≤ getD s here 0 → getD s here 0 ≤ 57 → Reaches s a (at-stand p (here + 1) (left - 1))
+pub over-digit :
+    {s : Bytes} {a : Stand} (p here left : ℕ) → (p ≡ 2) ⊎ (p ≡ 4) → Reaches s a (at-stand p here left) → here < length s → (left ≡ 0 → ⊥) →
+    48 ≤ getD s here 0 → getD s here 0 ≤ 57 → Reaches s a (at-stand p (here + 1) (left - 1))
 over-digit p here left w r h g i j at n = on (r at n) h p (stays p w (digit-of _ i j)) (r at n .small) (not-stop w) g
   where
     not-stop : (p ≡ 2) ⊎ (p ≡ 4) → p ≡ 8 → ⊥
     not-stop (inl i) j = omega arith
     not-stop (inr i) j = omega arith
 
-pub over-point : (s : Bytes) (a : Stand) → (a .place ≡ 1) ⊎ (a .place ≡ 2) → a .here + 2 ≤ length s → 2 ≤ a .left → getD s (a .here) 0 ≡ 46 → 48 ≤ getD s (a .here + 1) 0 → getD s (a .here + 1) 0 ≤ 57 → Reaches s a (pointed a)
+pub over-point : (s : Bytes) (a : Stand) → (a .place ≡ 1) ⊎ (a .place ≡ 2) → a .here + 2 ≤ length s → 2 ≤ a .left → getD s (a .here) 0 ≡ 46 →
+    48 ≤ getD s (a .here + 1) 0 → getD s (a .here + 1) 0 ≤ 57 → Reaches s a (pointed a)
 over-point s a w h l e i j at n = rw (u, v) second
   where
     u : a .here + 2 ≡ a .here + 1 + 1

@@ -93,7 +93,16 @@ module _ (s : Bytes) (at : ℕ) where
 
     pub scan-escape : (u b : ℕ) → getD s at 0 ≡ 92 → escaped (drop (at + 1) s) ≡ ok (record { got = u; rest = drop b s }) → at < b → charsAt s at ≡ charsAt s b
     unfolding chars place charsAt
-    scan-escape u b e f l = opened ∙ rw (e, escape-is (drop (at + 1) s), f, chars-enough (length (drop (at + 1) s)) (length (drop b s)) (drop b s) (omega (arith, length-drop b s, length-drop (at + 1) s)) (omega arith)) (place-more s (encode u) (chars (length (drop b s)) (drop b s)))
+    scan-escape u b e f l =
+        opened ∙
+        rw (
+          e,
+          escape-is (drop (at + 1) s),
+          f,
+          chars-enough (length (drop (at + 1) s)) (length (drop b s)) (drop b s)
+              (omega (arith, length-drop b s, length-drop (at + 1) s)) (omega arith),
+        )
+        (place-more s (encode u) (chars (length (drop b s)) (drop b s)))
 
 -- ---- spaces
 module _ (s : Bytes) (at : ℕ) where

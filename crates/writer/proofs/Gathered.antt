@@ -46,7 +46,14 @@ gather w nodes h = record { few = omega arith; upto = omega arith; long = refl; 
 module _ {w nodes₀ nodes : List ℕ} {count k : ℕ} (g : Gathering w nodes₀ nodes count k) where
   pub gathered : 4096 ≤ k → Fronted w nodes count
   unfolding markedNodesFrom
-  gathered h = let e : 4096 - k ≡ 0 = omega arith in record { are = sym (append-nil (take count nodes)) ∙ rw e at (g .are); few = omega (arith, g .few, g .upto); fits = omega (arith, g .few, g .upto, g .room) }
+  gathered h =
+      let e : 4096 - k ≡
+      0 = omega arith in
+      record {
+        are = sym (append-nil (take count nodes)) ∙ rw e at (g .are);
+        few = omega (arith, g .few, g .upto);
+        fits = omega (arith, g .few, g .upto, g .room);
+      }
 
   module _ (h : k < 4096) where
     more : 4096 - k ≡ suc (4096 - (k + 1))
@@ -54,7 +61,14 @@ module _ {w nodes₀ nodes : List ℕ} {count k : ℕ} (g : Gathering w nodes₀
 
     pub pass : (getD w (firstMark + k) 0 % 2 ≡ 1 → ⊥) → Gathering w nodes₀ nodes count (k + 1)
     unfolding markedNodesFrom
-    pass n = record { few = omega (arith, g .few); upto = omega arith; long = g .long; room = g .room; are = rw (more, ne-eqb (getD w (firstMark + k) 0 % 2) 1 n, markedNodesFrom) at (g .are) }
+    pass n =
+        record {
+          few = omega (arith, g .few);
+          upto = omega arith;
+          long = g .long;
+          room = g .room;
+          are = rw (more, ne-eqb (getD w (firstMark + k) 0 % 2) 1 n, markedNodesFrom) at (g .are);
+        }
 
     pub note : getD w (firstMark + k) 0 % 2 ≡ 1 → Gathering w nodes₀ (set nodes count k) (count + 1) (k + 1)
     unfolding markedNodesFrom
@@ -140,4 +154,9 @@ module _ {limit : ℕ} {s : Bytes} {w ns : List ℕ} {o₀ : Bytes} {at : ℕ} {
 
     pub lay-on : {o₁ : Bytes} {r : ℕ} → Laid limit o here (elementAfter (textOf s last) (textAt s p)) o₁ r → Laying limit s w ns o₀ at o₁ r (texts.At p) (i + 1)
     unfolding textOf IsText
-    lay-on l = record { going = goes (elements (onceAfter (some (textAt s p)) (textsOf s w (drop (i + 1) ns)))) (rw (on, once-next (textOf s last) (textAt s p) (textsOf s w (drop (i + 1) ns))) at (g .going)) l; isText = t }
+    lay-on l =
+        record {
+          going = goes (elements (onceAfter (some (textAt s p)) (textsOf s w (drop (i + 1) ns))))
+              (rw (on, once-next (textOf s last) (textAt s p) (textsOf s w (drop (i + 1) ns))) at (g .going)) l;
+          isText = t;
+        }

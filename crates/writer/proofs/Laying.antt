@@ -57,7 +57,8 @@ pub record Going (limit : ℕ) (o₀ : Bytes) (at : ℕ) (whole o : Bytes) (here
 pub starts : {limit at : ℕ} {o : Bytes} (whole : Bytes) → Room limit o at → Going limit o at whole o at whole
 starts whole r = record { bytes = refl; place = refl; size = refl; room = r }
 
-pub goes : {limit at here p : ℕ} {o₀ whole o x o₁ : Bytes} (y : Bytes) → Going limit o₀ at whole o here (x ++ y) → Laid limit o here x o₁ p → Going limit o₀ at whole o₁ p y
+pub goes : {limit at here p : ℕ} {o₀ whole o x o₁ : Bytes} (y : Bytes) → Going limit o₀ at whole o here (x ++ y) → Laid limit o here x o₁ p →
+    Going limit o₀ at whole o₁ p y
 goes y g l = record { bytes = g .bytes ∙ bytes-left l y; place = g .place ∙ place-left l y; size = same-size l ∙ g .size; room = l .room }
 
 pub ends : {limit at here : ℕ} {o₀ whole o : Bytes} → Going limit o₀ at whole o here [] → Laid limit o₀ at whole o here

@@ -31,7 +31,9 @@ module _ (s : Bytes) (w : List ℕ) where
   texts-insert n [] = refl
   texts-insert n (m ∷ ms) = go (orderBytes (keyAt s w n) (keyAt s w m)) refl (texts-insert n ms)
     where
-      go : (o : Ordering) → orderBytes (keyAt s w n) (keyAt s w m) ≡ o → textsOf s w (insert (keyAt s w) n ms) ≡ insertText (keyAt s w n) (textsOf s w ms) → textsOf s w (insert (keyAt s w) n (m ∷ ms)) ≡ insertText (keyAt s w n) (textsOf s w (m ∷ ms))
+      go : (o : Ordering) → orderBytes (keyAt s w n) (keyAt s w m) ≡ o →
+          textsOf s w (insert (keyAt s w) n ms) ≡ insertText (keyAt s w n) (textsOf s w ms) →
+          textsOf s w (insert (keyAt s w) n (m ∷ ms)) ≡ insertText (keyAt s w n) (textsOf s w (m ∷ ms))
       go Ordering·lt e below = rw (e, insert, insertText)
       go Ordering·eq e below = rw (e, insert, insertText)
       go Ordering·gt e below = rw (e, insert, insertText) (ap {B = List Bytes} (λ l. keyAt s w m ∷ l) below)
@@ -46,7 +48,8 @@ module _ (s : Bytes) (w : List ℕ) where
   texts-marked zero k = refl
   texts-marked (suc m) k = go (isMarked w k) refl (texts-marked m (k + 1))
     where
-      go : (b : Bool) → isMarked w k ≡ b → textsOf s w (markedNodesFrom w m (k + 1)) ≡ markedFrom s w m (k + 1) → textsOf s w (markedNodesFrom w (suc m) k) ≡ markedFrom s w (suc m) k
+      go : (b : Bool) → isMarked w k ≡ b → textsOf s w (markedNodesFrom w m (k + 1)) ≡ markedFrom s w m (k + 1) →
+          textsOf s w (markedNodesFrom w (suc m) k) ≡ markedFrom s w (suc m) k
       go true q below = rw (q, markedNodesFrom, markedFrom) (ap {B = List Bytes} (λ l. keyAt s w k ∷ l) below)
       go false q below = rw (q, markedNodesFrom, markedFrom) below
 
@@ -81,12 +84,14 @@ once-insert l t (u ∷ us) h = go (orderBytes t u) (order-view t u) refl (once-i
     first : onceAfter (some l) (t ∷ u ∷ us) ≡ t ∷ onceAfter (some t) (u ∷ us)
     first = rw (not-again (apart h))
 
-    go : (o : Ordering) → OrderView t u o → orderBytes t u ≡ o → (Less u t → onceAfter (some u) (insertText t us) ≡ insertName t rest) → onceAfter (some l) (insertText t (u ∷ us)) ≡ insertName t (onceAfter (some l) (u ∷ us))
+    go : (o : Ordering) → OrderView t u o → orderBytes t u ≡ o → (Less u t → onceAfter (some u) (insertText t us) ≡ insertName t rest) →
+        onceAfter (some l) (insertText t (u ∷ us)) ≡ insertName t (onceAfter (some l) (u ∷ us))
     go o (isLt k) e below = rw (e, insertText, first, not-again (apart k), seen (not-again (apart (less-trans h k))), e, insertName)
     go o (isEq′ k) e below = rw (e, insertText, first, again k, seen (not-again (λ q. apart h (q ∙ sym k))), e, insertName) (ap {B = List Bytes} (λ x. x ∷ rest) k)
     go o (isGt k) e below = by (isAgain (some l) u) refl (below k)
       where
-        by : (b : Bool) → isAgain (some l) u ≡ b → onceAfter (some u) (insertText t us) ≡ insertName t rest → onceAfter (some l) (insertText t (u ∷ us)) ≡ insertName t (onceAfter (some l) (u ∷ us))
+        by : (b : Bool) → isAgain (some l) u ≡ b → onceAfter (some u) (insertText t us) ≡ insertName t rest →
+            onceAfter (some l) (insertText t (u ∷ us)) ≡ insertName t (onceAfter (some l) (u ∷ us))
         by true q i = rw (e, insertText, q) i
         by false q i = rw (e, insertText, q, e, insertName) (ap {B = List Bytes} (λ x. u ∷ x) i)
 

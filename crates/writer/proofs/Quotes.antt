@@ -31,7 +31,8 @@ module _ {limit : ℕ} {s o₀ : Bytes} {at text : ℕ} {o : Bytes} {here : ℕ}
   closed h e l = ends-with (rw (was-end s c h e) at (q .going)) l
 
   -- a byte
-  pub on : {r : Step} (t : Taken) {o₁ : Bytes} {p : ℕ} → Stepped s c r → r ≡ steps.Byte t → Laid limit o here (quotedByte (t .byte)) o₁ p → Quoting limit s o₀ at text o₁ p (t .rest)
+  pub on : {r : Step} (t : Taken) {o₁ : Bytes} {p : ℕ} → Stepped s c r → r ≡ steps.Byte t → Laid limit o here (quotedByte (t .byte)) o₁ p →
+      Quoting limit s o₀ at text o₁ p (t .rest)
   unfolding quotedBytes
   on t h e l =
       let k = was-byte t h e in

@@ -117,7 +117,9 @@ pub record Sourcing (limit : ℕ) (s : Bytes) (w : List ℕ) (whole : List Bytes
   pub are : eachOf aText (json.elements (valuesAt s w k e)) ≡ ok rest
   pub going : Going limit o₀ at (elements whole ++ (41 ∷ [])) o here (elements rest ++ (41 ∷ []))
 
-pub sourcing : {limit at n e : ℕ} {s o : Bytes} {w : List ℕ} (h : TextsHeld s w n) → (kindAt w n ≡ 4 → ⊥) → e ≡ afterAt w n → Room limit o at → Sourcing limit s w (textsIn (valueAt s w n)) o at o at (n + 1) e
+pub sourcing :
+    {limit at n e : ℕ} {s o : Bytes} {w : List ℕ} (h : TextsHeld s w n) → (kindAt w n ≡ 4 → ⊥) → e ≡ afterAt w n → Room limit o at →
+    Sourcing limit s w (textsIn (valueAt s w n)) o at o at (n + 1) e
 sourcing h k q r = let a = texts-array h k in rw q (record { left = a .left; nodes = a .nodes; rest = _; are = a .are; going = starts _ r })
 
 module _ {limit : ℕ} {s : Bytes} {w : List ℕ} {whole : List Bytes} {o₀ : Bytes} {at : ℕ} {o : Bytes} {here k e : ℕ} (g : Sourcing limit s w whole o₀ at o here k e) where
@@ -137,7 +139,16 @@ module _ {limit : ℕ} {s : Bytes} {w : List ℕ} {whole : List Bytes} {o₀ : B
     pub source-falls : {j : ℕ} → j ≡ afterAt w k → (k < j) × (j ≤ e)
     source-falls q = rw q (values-more s w (g .nodes) h .past, values-more s w (g .nodes) h .upto)
 
-    pub next-source : {j t : ℕ} {o₁ : Bytes} {p : ℕ} → t ≡ startAt w k → j ≡ afterAt w k → Laid limit o here (32 ∷ quoted (textAt s t)) o₁ p → Sourcing limit s w whole o₀ at o₁ p j e
+    pub next-source :
+        {j t : ℕ} {o₁ : Bytes} {p : ℕ} → t ≡ startAt w k → j ≡ afterAt w k → Laid limit o here (32 ∷ quoted (textAt s t)) o₁ p →
+        Sourcing limit s w whole o₀ at o₁ p j e
     next-source i q l =
         let f = first in
-        rw q (record { left = g .left; nodes = values-more s w (g .nodes) h .others; rest = f .others; are = f .are; going = goes (elements (f .others) ++ (41 ∷ [])) (rw (f .is, elements-more) at (g .going)) (rw i at l) })
+        rw q
+        (record {
+          left = g .left;
+          nodes = values-more s w (g .nodes) h .others;
+          rest = f .others;
+          are = f .are;
+          going = goes (elements (f .others) ++ (41 ∷ [])) (rw (f .is, elements-more) at (g .going)) (rw i at l);
+        })

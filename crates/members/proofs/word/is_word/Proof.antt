@@ -35,8 +35,8 @@ returns-4 c =
     let at-if1 = c .before .before .before .before in
     let at-start = at-if1 .before .before .before in
     let a = at-start .args in
-    other-start (a .s .now) (a .at) (a .word .now) (at-start .pre) (omega (arith, at-if1 .if1 .left)) (c .before .if2 .left)
-    (c .if3 .left)
+    other-start (a .s .now) (a .at) (a .word .now) (at-start .pre) (omega (arith, at-if1 .if1 .left))
+    (c .before .if2 .left) (c .if3 .left)
 
 pub is-word-spec : {M : Type 1} → statement M
 is-word-spec =

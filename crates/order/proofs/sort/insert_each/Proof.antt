@@ -28,9 +28,13 @@ mul-t7 c = search needs
 
 slice-read-t9 : tie.Need-slice-read-t9 Inv-loop μ-loop
 slice-read-t9 c =
-    let a = c .before .before .before .before .before .before .args in
     let loop = c .before .before .loop in
-    omega (arith, ap length (loop .inv .1), sorted-long (a .s .now) (a .work .now) (a .nodes .now) (loop .i) (loop .inv .0))
+    let a = c .before .before .before .before .before .before .args in
+    omega (
+      arith,
+      ap length (loop .inv .1),
+      sorted-long (a .s .now) (a .work .now) (a .nodes .now) (loop .i) (loop .inv .0),
+    )
 
 slice-aggregate-merge : tie.Need-slice-aggregate-merge Inv-loop μ-loop
 slice-aggregate-merge c = search needs
@@ -40,15 +44,23 @@ mul-merge c = search needs
 
 sub-merge : tie.Need-sub-merge Inv-loop μ-loop
 sub-merge c =
-    let a = c .before .before .before .before .before .before .before .args in
     let loop = c .before .before .before .loop in
-    omega (arith, ap length (loop .inv .1), sorted-long (a .s .now) (a .work .now) (a .nodes .now) (loop .i) (loop .inv .0))
+    let a = c .before .before .before .before .before .before .before .args in
+    omega (
+      arith,
+      ap length (loop .inv .1),
+      sorted-long (a .s .now) (a .work .now) (a .nodes .now) (loop .i) (loop .inv .0),
+    )
 
 part-merge-start : tie.Need-part-merge-start Inv-loop μ-loop
 part-merge-start c =
-    let a = c .before .before .before .before .before .before .before .args in
     let loop = c .before .before .before .loop in
-    omega (arith, ap length (loop .inv .1), sorted-long (a .s .now) (a .work .now) (a .nodes .now) (loop .i) (loop .inv .0))
+    let a = c .before .before .before .before .before .before .before .args in
+    omega (
+      arith,
+      ap length (loop .inv .1),
+      sorted-long (a .s .now) (a .work .now) (a .nodes .now) (loop .i) (loop .inv .0),
+    )
 
 part-merge-end : tie.Need-part-merge-end Inv-loop μ-loop
 part-merge-end c = search needs
@@ -60,7 +72,8 @@ merge-requires c κs =
     let a = at-start .args in
     let i = at-loop .loop .i - 1 in
     let whole : at-loop .loop .i ≡ i + 1 = omega arith in
-    can-merge (a .s .now) (a .work .now) (a .nodes .now) i (omega arith) (at-loop .loop .nodes) (rw whole at (at-loop .loop .inv .1)) (at-start .pre .0) (at-start .pre .1)
+    can-merge (a .s .now) (a .work .now) (a .nodes .now) i (omega arith) (at-loop .loop .nodes)
+    (rw whole at (at-loop .loop .inv .1)) (at-start .pre .0) (at-start .pre .1)
 
 loop-less : tie.Need-loop-less Inv-loop μ-loop
 loop-less c = search needs
@@ -73,13 +86,14 @@ loop-again c =
     let i = at-loop .loop .i - 1 in
     let whole : at-loop .loop .i ≡ i + 1 = omega arith in (
       omega arith,
-      merged-in (a .s .now) (a .work .now) (a .nodes .now) i (omega arith) (at-loop .loop .nodes) (rw whole at (at-loop .loop .inv .1)) _ (c .before .before .merge .ensures),
+      merged-in (a .s .now) (a .work .now) (a .nodes .now) i (omega arith) (at-loop .loop .nodes)
+          (rw whole at (at-loop .loop .inv .1)) _ (c .before .before .merge .ensures),
     )
 
 same-length : tie.Need-same-length Inv-loop μ-loop
 same-length c =
-    let a = c .before .before .before .before .before .args in
     let loop = c .before .loop in
+    let a = c .before .before .before .before .before .args in
     ap length (loop .inv .1) ∙ sorted-long (a .s .now) (a .work .now) (a .nodes .now) (loop .i) (loop .inv .0)
 
 returns : tie.Need-returns Inv-loop μ-loop

@@ -36,8 +36,8 @@ under-each-requires c κs = search needs
 
 returns-2 : tie.Need-returns-2
 returns-2 c =
-    held-first _ _
-    (sym (c .before .before .before .before .before .before .is-word .ensures) ∙ c .before .before .before .before .before .if1 .left)
+    let at-if1 = c .before .before .before .before .before in
+    held-first _ _ (sym (at-if1 .before .is-word .ensures) ∙ at-if1 .if1 .left)
     (sym (c .before .before .before .is-word2 .ensures) ∙ c .before .before .if2 .taken)
     (c .under-each .ensures)
 
@@ -55,10 +55,10 @@ under-each-requires-2 c κs = search needs
 
 returns-3 : tie.Need-returns-3
 returns-3 c =
+    let at-if2 = c .before .before .before .before .before in
     held-second _ _
-    (sym (c .before .before .before .before .before .before .before .before .before .is-word .ensures) ∙
-    c .before .before .before .before .before .before .before .before .if1 .left)
-    (sym (c .before .before .before .before .before .before .is-word2 .ensures) ∙ c .before .before .before .before .before .if2 .left)
+    (sym (at-if2 .before .before .before .before .is-word .ensures) ∙
+    at-if2 .before .before .before .if1 .left) (sym (at-if2 .before .is-word2 .ensures) ∙ at-if2 .if2 .left)
     (sym (c .before .before .before .is-word3 .ensures) ∙ c .before .before .if3 .taken)
     (c .under-each2 .ensures)
 
@@ -76,25 +76,25 @@ under-each-requires-3 c κs = search needs
 
 returns-4 : tie.Need-returns-4
 returns-4 c =
+    let at-if3 = c .before .before .before .before .before in
+    let at-if2 = at-if3 .before .before .before in
     held-third _ _
-    (sym (c .before .before .before .before .before .before .before .before .before .before .before .before .is-word .ensures) ∙
-    c .before .before .before .before .before .before .before .before .before .before .before .if1 .left)
-    (sym (c .before .before .before .before .before .before .before .before .before .is-word2 .ensures) ∙
-    c .before .before .before .before .before .before .before .before .if2 .left)
-    (sym (c .before .before .before .before .before .before .is-word3 .ensures) ∙ c .before .before .before .before .before .if3 .left)
+    (sym (at-if2 .before .before .before .before .is-word .ensures) ∙
+    at-if2 .before .before .before .if1 .left) (sym (at-if2 .before .is-word2 .ensures) ∙ at-if2 .if2 .left)
+    (sym (at-if3 .before .is-word3 .ensures) ∙ at-if3 .if3 .left)
     (sym (c .before .before .before .is-word4 .ensures) ∙ c .before .before .if4 .taken)
     (c .under-each3 .ensures)
 
 returns-5 : tie.Need-returns-5
 unfolding faultIs
 returns-5 c =
+    let at-if3 = c .before .before .before in
+    let at-if2 = at-if3 .before .before .before in
     held-nothing _ _
-    (sym (c .before .before .before .before .before .before .before .before .before .before .is-word .ensures) ∙
-    c .before .before .before .before .before .before .before .before .before .if1 .left)
-    (sym (c .before .before .before .before .before .before .before .is-word2 .ensures) ∙ c .before .before .before .before .before .before .if2 .left)
-    (sym (c .before .before .before .before .is-word3 .ensures) ∙ c .before .before .before .if3 .left)
-    (sym (c .before .is-word4 .ensures) ∙ c .if4 .left)
-    refl
+    (sym (at-if2 .before .before .before .before .is-word .ensures) ∙
+    at-if2 .before .before .before .if1 .left) (sym (at-if2 .before .is-word2 .ensures) ∙ at-if2 .if2 .left)
+    (sym (at-if3 .before .is-word3 .ensures) ∙ at-if3 .if3 .left)
+    (sym (c .before .is-word4 .ensures) ∙ c .if4 .left) refl
 
 pub held-spec : {M : Type 1} → statement M
 held-spec =

@@ -11,7 +11,8 @@ use Rattle.members.specs.Condition.{Mode, Operator, eq, every, gt, gte, lt, lte
 use Rattle.syntax.proofs.condition.operator_at.Statement.{statement}
 use Rattle.syntax.proofs.condition.operator_at.Tie as tie
 
-is-name : (t w : Bytes) {b : Bool} {o : Option Operator} → find w operators ≡ o → b ≡ sameBytes t w → b ≡ true → find t operators ≡ o
+is-name : (t w : Bytes) {b : Bool} {o : Option Operator} → find w operators ≡ o → b ≡ sameBytes t w → b ≡ true
+    → find t operators ≡ o
 is-name t w f e h = ap (λ (k : Bytes). find k operators) (sameBytes-true t w (sym e ∙ h)) ∙ f
 
 -- what the names that are told by their first byte find
@@ -26,7 +27,16 @@ record Found : Type 0 where
 
 found : Found
 unfolding find sameBytes
-found = record { is-eq = refl; is-forAll = refl; is-forAny = refl; is-gt = refl; is-gte = refl; is-lt = refl; is-lte = refl }
+found =
+    record {
+      is-eq = refl;
+      is-forAll = refl;
+      is-forAny = refl;
+      is-gt = refl;
+      is-gte = refl;
+      is-lt = refl;
+      is-lte = refl;
+    }
 
 shared-slice-read-match : tie.Need-shared-slice-read-match
 shared-slice-read-match c = search needs

@@ -20,14 +20,17 @@ sub-t6 : tie.Need-sub-t6
 sub-t6 c = omega (arith, c .before .before .before .fraction-follows .ensures (c .before .before .if1 .taken) .1)
 
 digits-requires : tie.Need-digits-requires
-digits-requires c κs = (c .before .before .before .fraction-follows .ensures (c .before .before .if1 .taken) .0, inr refl)
+digits-requires c κs =
+    (c .before .before .before .fraction-follows .ensures (c .before .before .if1 .taken) .0, inr refl)
 
 returns : tie.Need-returns
 returns c =
     let at-follows = c .before .before .before .before in
     let at-whole = at-follows .before in
     let at = at-whole .before .before .args .at in
-    c .digits .ensures at (at-follows .fraction-follows .ensures (c .before .before .before .if1 .taken) .2 at (at-whole .whole .ensures))
+    c .digits .ensures at
+    (at-follows .fraction-follows .ensures (c .before .before .before .if1 .taken) .2 at
+    (at-whole .whole .ensures))
 
 returns-2 : tie.Need-returns-2
 returns-2 c = search needs

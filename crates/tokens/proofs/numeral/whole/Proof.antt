@@ -23,14 +23,17 @@ returns : tie.Need-returns
 returns c =
     let at-first = c .before .before in
     let at-start = at-first .before .before .before in
-    c .digits .ensures (at-start .args .at)
-    (numbering (at-start .args .s .now) (at-start .args .at) (at-first .first .result) (at-start .pre) (at-first .first .ensures .0) (at-first .first .ensures .1))
+    let a = at-start .args in
+    c .digits .ensures (a .at)
+    (numbering (a .s .now) (a .at) (at-first .first .result) (at-start .pre) (at-first .first .ensures .0)
+    (at-first .first .ensures .1))
 
 returns-2 : tie.Need-returns-2
 returns-2 c =
     let at-first = c .before in
     let at-start = at-first .before .before .before in
-    numbering (at-start .args .s .now) (at-start .args .at) (at-first .first .result) (at-start .pre) (at-first .first .ensures .0) (at-first .first .ensures .1)
+    numbering (at-start .args .s .now) (at-start .args .at) (at-first .first .result) (at-start .pre)
+    (at-first .first .ensures .0) (at-first .first .ensures .1)
 
 pub whole-spec : {M : Type 1} → statement M
 whole-spec =
