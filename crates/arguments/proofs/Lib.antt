@@ -1,0 +1,4 @@
+pub mod Same
+pub mod Digits
+pub mod First
+pub mod Examples

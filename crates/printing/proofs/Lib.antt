@@ -1,0 +1,7 @@
+pub mod Printing
+pub mod Overlong
+pub mod Splitting
+pub mod Feeding
+pub mod Keeping
+pub mod Answering
+pub mod Program
