@@ -1,34 +1,35 @@
-// Decides the sheet on standard input, and prints the line, or `(refused N)` where there is none.
-use decision::sent::decide;
-use libc::STDIN_FILENO;
-use libc::STDOUT_FILENO;
-use line::emit::number_line;
-ghost use mathlib.Core.Path.{_≡_};
-ghost use lib.ListN.{length};
-ghost use Rattle.writer.specs.Laid.{Shown};
-ghost use Rattle.intake.specs.Printed.{intake};
+// The program: what its arguments ask, of a file or of standard input. There is no exit status: what went wrong is said on standard error, and then
+// no line stands on standard output.
+mod input;
+mod output;
+mod run;
+mod said;
 
-// One byte more than a sheet may have: a longer input is refused as too long however it goes on.
-const MOST: usize = 32769;
+use arguments::asked::read;
+use run::run;
+use said::complain;
 
-// What is to be printed, at the start of the output.
-fn answer(sheet: &[u8], out: &mut [u8]) -> usize
-    requires { ⌜ length (now out) ≡ 65536 ⌝ }
-    ensures { λ r. ⌜ Shown (intake (now (sheet .entry))) (now (out .entry)) (now (out .exit)) r ⌝ }
-{
-    let mut work = [0u32; 16384];
-    let sent = decide(sheet, &mut work, out);
-    let size = sent.size;
-    if size == 0 {
-        return number_line(out, sent.number);
+// How many arguments stand behind the program's name.
+fn count() -> usize {
+    let all = os::arg_count();
+    if all == 0 {
+        return 0;
     }
-    size
+    all - 1
 }
 
 fn main() {
-    let mut sheet = [0u8; MOST];
-    let n = io::read_full(STDIN_FILENO, &mut sheet);
-    let mut out = io::large_buffer();
-    let size = answer(&sheet[..n], &mut out);
-    io::write_all(STDOUT_FILENO, &out[..size]);
+    let mut first = io::buffer();
+    let a = os::arg(1, &mut first);
+    if os::errno() == libc::ENAMETOOLONG {
+        complain(b"the first argument", b"too long");
+        return;
+    }
+    let mut second = io::buffer();
+    let b = os::arg(2, &mut second);
+    if os::errno() == libc::ENAMETOOLONG {
+        complain(b"the second argument", b"too long");
+        return;
+    }
+    run(read(count(), &first[..a], &second[..b]));
 }

@@ -5,3 +5,4 @@ pub mod Feeding
 pub mod Keeping
 pub mod Answering
 pub mod Program
+pub mod Twofold

@@ -48,7 +48,9 @@ module _ {a : Reply} {w w′ : List ℕ} {o o′ : Bytes} {r : Sent} (c : Called
   pub with-line : (r .size ≡ 0 → ⊥) → Shown (printed a) o o′ (r .size)
   with-line h = go (a .line) (c .isSize) (c .output)
     where
-      go : (l : Option Bytes) → r .size ≡ lineSize (record { number = a .number; line = l }) → o′ ≡ outputAfter (record { number = a .number; line = l }) o → Shown (printed (record { number = a .number; line = l })) o o′ (r .size)
+      go : (l : Option Bytes) → r .size ≡ lineSize (record { number = a .number; line = l }) →
+          o′ ≡ outputAfter (record { number = a .number; line = l }) o →
+          Shown (printed (record { number = a .number; line = l })) o o′ (r .size)
       go none e q = absurd (h e)
       go (some l) e q = record { size = e; bytes = q }
 
@@ -60,7 +62,8 @@ module _ {a : Reply} {w w′ : List ℕ} {o o′ : Bytes} {r : Sent} (c : Called
       go (some l) q f = let z : _≡_ {A = ℕ} 0 1 = cc in absurd (omega arith)
 
 -- a call with the program's own sizes
-pub as-answer : (x : Call) (s : Bytes) {words size : ℕ} → words ≡ 16384 → size ≡ 65536 → {o o′ : Bytes} {k : ℕ} → Shown (printed (replyFor x s words size)) o o′ k → Shown (answerTo x s) o o′ k
+pub as-answer : (x : Call) (s : Bytes) {words size : ℕ} → words ≡ 16384 → size ≡ 65536 → {o o′ : Bytes} {k : ℕ} →
+    Shown (printed (replyFor x s words size)) o o′ k → Shown (answerTo x s) o o′ k
 as-answer x s p q m = rw (p, q) at m
 
 -- what is shown fits the output

@@ -24,6 +24,7 @@ module _ (arguments : List Bytes) (source : Source) (input : Bytes) where
   unfolding program answerFor
   one-sheet call e = ap (λ (a : Asked). answerFor a input) e ∙ ap {B = Option Bytes} some (sym (cut-answer call input))
 
-  pub each-line : ask arguments ≡ asked.Run tasks.Lines source → {handed kept : Bytes} → Fed input handed kept → Unended kept → program arguments input ≡ some (handed ++ each (lastLine kept))
+  pub each-line : ask arguments ≡ asked.Run tasks.Lines source → {handed kept : Bytes} → Fed input handed kept → Unended kept →
+      program arguments input ≡ some (handed ++ each (lastLine kept))
   unfolding program answerFor
   each-line e f h = ap (λ (a : Asked). answerFor a input) e ∙ ap {B = Option Bytes} some (all-answered f h)

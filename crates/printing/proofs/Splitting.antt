@@ -54,7 +54,8 @@ unfolding each linesFrom
 long-alike l m [] g h = rw (last-long l g, last-long m h) (ap (λ (x : Bytes). x ++ []) (long-intake l m g h))
 long-alike l m (c ∷ rest) g h = go (long-alike (l ++ (c ∷ [])) (m ++ (c ∷ [])) rest (longer l c g) (longer m c h)) (eqb c 10) refl
   where
-    go : each (linesFrom (l ++ (c ∷ [])) rest) ≡ each (linesFrom (m ++ (c ∷ [])) rest) → (b : Bool) → eqb c 10 ≡ b → each (linesFrom l (c ∷ rest)) ≡ each (linesFrom m (c ∷ rest))
+    go : each (linesFrom (l ++ (c ∷ [])) rest) ≡ each (linesFrom (m ++ (c ∷ [])) rest) → (b : Bool) → eqb c 10 ≡ b →
+        each (linesFrom l (c ∷ rest)) ≡ each (linesFrom m (c ∷ rest))
     go below true q = rw q (ap (λ (x : Bytes). x ++ each (linesFrom [] rest)) (long-intake l m g h))
     go below false q = rw q below
 

@@ -10,8 +10,8 @@ use Rattle.answers.specs.Ended.{Ended, answered, lineTooLong, withLine, without
 use Rattle.answers.specs.Entry.{Reply, decide, workWords}
 use Rattle.answers.specs.Line.{numberLine, refusalLine}
 use Rattle.decision.proofs.Numbers.{every-call-ends}
-use Rattle.intake.specs.Printed.{intake, printed}
-use Rattle.intake.specs.Repeated.{PrintsRepeat, lineOf}
+use Rattle.printing.specs.Printed.{intake, printed}
+use Rattle.printing.specs.Repeated.{PrintsRepeat, lineOf}
 use Rattle.json.specs.Bytes.{Bytes}
 use Rattle.json.specs.Refusal.{Refusal}
 use Rattle.semantics.specs.Names.{Names}
@@ -38,7 +38,7 @@ prints-line atRule = refl
 prints-line atGuard = refl
 
 pub prints-repeat : PrintsRepeat
-unfolding PrintsRepeat Demand
+unfolding PrintsRepeat Demand intake
 prints-repeat s s′ old new h = record { sameOrRefused = by (both .sameOrRefused); sameWhereUnchanged = λ u. ap printed (both .sameWhereUnchanged u) }
   where
     both : Promised old new refusalReply (called s) (called s′)

@@ -5,7 +5,7 @@ use mathlib.Core.Path.{_≡_}
 use Rattle.answers.specs.Demand.{Comparable, Promised}
 use Rattle.answers.specs.Line.{numberLine, refusalLine}
 use Rattle.answers.specs.Reply.{orEmpty}
-use Rattle.intake.specs.Printed.{intake}
+use Rattle.printing.specs.Printed.{intake}
 use Rattle.json.specs.Bytes.{Bytes}
 use Rattle.json.specs.Refusal.{Refusal, ok}
 use Rattle.members.specs.Condition.{Condition}
