@@ -13,6 +13,7 @@ use Rattle.json.specs.Fault as fault
 use Rattle.json.specs.Fault.{FirstFault, StandsAt}
 use Rattle.json.specs.Json.{Members, Value, Values, array, asText, bool, cons, elements, empty, entries, keys, member, nil, null, number, object, text}
 use Rattle.json.specs.Refusal.{Refusal, Result, notCarried, ok, orElse, refused, wrongShape, wrongSheet, _>>=_}
+use Rattle.json.specs.Tally.{Tally}
 use Rattle.members.specs.Condition.{
   Condition,
   Conditions,
@@ -68,11 +69,11 @@ fault-shown (fault.undecoded h k) = omega arith
 fault-shown (fault.unspelled h k n) = omega arith
 fault-shown (fault.past {q} h k p) = go (p .stands)
   where
-    go : {r : Refusal} {c : ℕ} → StandsAt r c → Shown r
-    go (fault.bracket e) = omega arith
-    go (fault.numeral e) = omega arith
-    go (fault.begins e) = omega arith
-    go (fault.quote e) = omega arith
+    go : {before : Tally} {c : ℕ} {r : Refusal} → StandsAt before c r → Shown r
+    go (fault.bracket e a b) = omega arith
+    go (fault.numeral e a b) = omega arith
+    go (fault.begins e a b) = omega arith
+    go (fault.quote e a) = omega arith
 
 -- what a table holds under a name
 abbrev pub Maybe : {A : Type 0} → (A → Type 0) → Option A → Type 0
