@@ -1,10 +1,18 @@
 -- `intake::run::lines` is safe and ends: what is left is within the buffer.
 -- Assumes nothing.
+use mathlib.Core.Path.{sym}
+use Prim.Native.Nat.{ℕ}
 use native.Mathlib.Omega.{arith}
 use lib.ListN.{length-replicate, length-take}
 use borrow.Author.Needs.{needs}
 use Rattle.intake.proofs.run.lines.Statement.{statement}
 use Rattle.intake.proofs.run.lines.Tie as tie
+
+large-buffer-requires : tie.Need-large-buffer-requires
+large-buffer-requires c κs = search needs
+
+large-buffer-requires-2 : tie.Need-large-buffer-requires-2
+large-buffer-requires-2 c κs = search needs
 
 slice-aggregate-each-chunk : tie.Need-slice-aggregate-each-chunk
 slice-aggregate-each-chunk c = search needs
@@ -16,7 +24,10 @@ slice-aggregate-each-chunk-3 : tie.Need-slice-aggregate-each-chunk-3
 slice-aggregate-each-chunk-3 c = search needs
 
 each-chunk-requires : tie.Need-each-chunk-requires
-each-chunk-requires c κs = (length-replicate 262144 0, (length-replicate 16384 0, length-replicate 262144 0))
+each-chunk-requires c κs = (
+  sym (c .before .before .before .before .large-buffer .ensures),
+  (length-replicate {A = ℕ} 16384 0, sym (c .before .before .before .large-buffer2 .ensures)),
+)
 
 enum-told : tie.Need-enum-told
 enum-told c = search needs
@@ -62,6 +73,8 @@ pub lines-spec : {M : Type 1} → statement M
 lines-spec =
     tie.close
     (tie.spec
+    large-buffer-requires
+    large-buffer-requires-2
     slice-aggregate-each-chunk
     slice-aggregate-each-chunk-2
     slice-aggregate-each-chunk-3
