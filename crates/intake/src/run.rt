@@ -179,7 +179,10 @@ pub fn run(asked: Asked) {
             b"no such option; intake --help says which there are",
         ),
         Asked::NoPlace => complain_of(0, b"the place is missing"),
-        Asked::WrongPlace => complain_of(1, b"no place: plain digits below 2^64 are"),
+        Asked::WrongPlace => complain_of(
+            1,
+            b"a place is plain digits below 2^64, without a zero in front",
+        ),
         Asked::Further(place) => complain_of(place, b"one argument too many"),
     }
 }
