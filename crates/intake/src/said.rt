@@ -14,6 +14,10 @@ pub fn complain(about: &[u8], what: &[u8]) {
 pub fn complain_of(place: usize, what: &[u8]) {
     let mut text = io::buffer();
     let n = os::arg(std::num::wrapping_add_usize(place, 1), &mut text);
+    if os::errno() == libc::ENAMETOOLONG {
+        complain(b"an argument of more than 4,096 bytes", what);
+        return;
+    }
     complain(&text[..n], what);
 }
 
