@@ -1,6 +1,7 @@
-//! bench [--rounds N] [--profile ROW]: the same sheets through the Rust (serde_json's parse, reading of the definitions, a decision) and through `intake_decide`, in one
+//! bench [--rounds N] [--instructions] [--profile ROW]: the same sheets through the Rust (serde_json's parse, reading of the definitions, a decision) and through `intake_decide`, in one
 //! process. Each round times each side in turn, on a batch of calls; printed are the medians of the rounds, in microseconds of processor
 //! time, as tables in Markdown.
+//! With --instructions the first table also has the instructions of one `intake_decide`, in thousands, as valgrind's callgrind counts them.
 //! With --profile only `intake_decide` runs, N times on the row (the first is 0), for a profiler.
 
 mod sheets;
@@ -8,6 +9,7 @@ mod sheets;
 use intake::{Call, WORK};
 use oracle::Sheet;
 use std::hint::black_box;
+use std::process::Command;
 
 /// What a batch should take, in microseconds.
 const BATCH: f64 = 1_000.0;
@@ -123,17 +125,49 @@ fn zeroing(rounds: usize, memory: &mut Memory) -> f64 {
     time
 }
 
-fn run(rounds: usize) {
+/// The instructions of one `intake_decide` on a row, in a process of its own under callgrind.
+fn counted(at: usize) -> u64 {
+    let this = std::env::current_exe().expect("this program has a path");
+    let done = Command::new("valgrind")
+        .args([
+            "--tool=callgrind",
+            "--toggle-collect=intake_decide",
+            "--callgrind-out-file=/dev/null",
+        ])
+        .arg(this)
+        .args(["--rounds", "1", "--profile", &at.to_string()])
+        .output()
+        .expect("valgrind runs");
+    let told = String::from_utf8_lossy(&done.stderr);
+    let count = told
+        .lines()
+        .find_map(|line| line.split_once("Collected : "));
+    count
+        .and_then(|(_, count)| count.trim().parse().ok())
+        .unwrap_or_else(|| panic!("callgrind tells no count: {told}"))
+}
+
+fn run(rounds: usize, instructions: bool) {
     let mut memory = Memory {
         work: vec![0; WORK],
         out: vec![0; OUTPUT],
     };
-    println!("| sheet | bytes | number | Rust | here | parse alone | here / Rust | here / parse |\n|---|--:|--:|--:|--:|--:|--:|--:|");
-    for (name, text) in sheets::rows() {
+    let (title, line) = if instructions {
+        (" instructions |", "--:|")
+    } else {
+        ("", "")
+    };
+    println!("| sheet | bytes | number | Rust | here | parse alone | here / Rust | here / parse |{title}\n|---|--:|--:|--:|--:|--:|--:|--:|{line}");
+    for (at, (name, text)) in sheets::rows().into_iter().enumerate() {
         let (number, _) = intake::parts_of(memory.decide(&text));
         let [rust, here, parse] = row(rounds, &mut memory, &text);
+        let count = if instructions {
+            format!(" {:.1} |", counted(at) as f64 / 1e3)
+        } else {
+            String::new()
+        };
         println!(
-            "| {name} | {} | {number} | {rust:.2} | {here:.2} | {parse:.2} | {:.2} | {:.2} |",
+            "| {name} | {} | {number} | {rust:.2} | {here:.2} | {parse:.2} | {:.2} | {:.2} |{count}",
             text.len(),
             here / rust,
             here / parse
@@ -174,7 +208,10 @@ fn main() {
         arguments.get(at + 1)?.parse::<usize>().ok()
     };
     let (rounds, row) = (option("--rounds").unwrap_or(101), option("--profile"));
-    let body = move || row.map_or_else(|| run(rounds), |row| profile(rounds, row));
+    let instructions = arguments
+        .iter()
+        .any(|argument| argument == "--instructions");
+    let body = move || row.map_or_else(|| run(rounds, instructions), |row| profile(rounds, row));
     std::thread::Builder::new()
         .stack_size(oracle::STACK)
         .spawn(body)
