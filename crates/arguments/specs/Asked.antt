@@ -20,7 +20,7 @@ use Rattle.arguments.specs.declared.place.Place.the-variants as places
 use Rattle.arguments.specs.declared.word.Word.{Word}
 use Rattle.arguments.specs.declared.word.Word.the-variants as words
 
--- a file may stand behind so many of the arguments, and nothing further
+-- after so many arguments one file may stand, and nothing further
 unfoldable pub withFile : Task → ℕ → ℕ → Asked
 withFile task passed count =
     choose

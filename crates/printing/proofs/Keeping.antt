@@ -61,7 +61,7 @@ module _ {l : Bytes} {from n : ℕ} {m : Bytes} {i : ℕ} (v : Moving l from n m
 
   pub kept : (end : ℕ) → n ≡ min (end - from) 32769 → n ≤ i → Kept l from end m n
   unfolding cut
-  kept end e h = record { few = omega (arith, e); bytes = moved h ∙ ap (λ (k : ℕ). take k (drop from l)) e ∙ take-least (drop from l) (end - from) }
+  kept end e h = record { size = e; bytes = moved h ∙ ap (λ (k : ℕ). take k (drop from l)) e ∙ take-least (drop from l) (end - from) }
     where
       take-least : (x : Bytes) (left : ℕ) → take (min left 32769) x ≡ take 32769 (take left x)
       take-least x left = go (leb left 32769) refl

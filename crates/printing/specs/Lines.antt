@@ -25,7 +25,7 @@ unfolding intake
 each [] = []
 each (l ∷ ls) = intake l ++ each ls
 
--- what the program's own lines answer for the whole of an input, however long it is
+-- the answers to all lines of an input, however long it is
 unfoldable pub answers : Bytes → Bytes
 unfolding each lines
 answers s = each (lines s)

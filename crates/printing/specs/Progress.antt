@@ -4,7 +4,7 @@
 use mathlib.Core.Bool.{false, true}
 use mathlib.Core.List.{List, [], _++_, _∷_}
 use mathlib.Core.Path.{_≡_}
-use Prim.Native.Nat.{ℕ, _-_, _<_, _≤_}
+use Prim.Native.Nat.{min, ℕ, _-_, _<_, _≤_}
 use lib.ListN.{drop, length, take}
 use Rattle.json.specs.Bytes.{Bytes}
 use Rattle.printing.specs.Lines.{answers, lineLength}
@@ -29,9 +29,9 @@ pub record Advanced (input out : Bytes) (r : Progress) : Type 0 where
   pub unended : r .done ≡ true → Unended (drop (r .used) input)
   pub moved : r .done ≡ false → 0 < r .used
 
--- what is left of a line without LF stands at the start
+-- what is left of a line without LF stands at the start, and so many bytes are kept
 pub record Kept (input : Bytes) (from end : ℕ) (after : Bytes) (r : ℕ) : Type 0 where
-  pub few : r ≤ 32769
+  pub size : r ≡ min (end - from) 32769
   pub bytes : take r after ≡ cut (take (end - from) (drop from input))
 
 -- how an input goes through the program: a chunk is read behind what is kept, whole lines are answered, and of a line that has no LF yet the start

@@ -186,7 +186,7 @@ loop-again c =
           )) (at-read-some .read-some .kept .1 .0),
       at-hand-on .hand-on .kept .1 .0 ∙ loop .inv .1,
       at-hand-on .hand-on .kept .1 .1 .0 ∙ loop .inv .2,
-      c .before .before .keep .ensures .few,
+      omega (arith, c .before .before .keep .ensures .size),
     )
 
 same-length-7 : tie.Need-same-length-7 Inv-loop μ-loop
