@@ -54,7 +54,7 @@ use Rattle.json_text.proofs.Encoded.{Scalar, coded}
 -- an ASCII byte stands alone
 ascii_on : (c : ℕ) (s : Bytes) → is_ascii c ≡ true → utf8 scalar (c ∷ s) ≡ true → utf8 scalar s ≡ true
 unfolding utf8
-ascii_on c s a h = rw (a, choose) at h
+ascii_on c s a h = rw (a, utf8, choose) at h
 
 ascii_only : (low high n c : ℕ) (s : Bytes) → 128 ≤ low → is_ascii c ≡ true → utf8 (tail low high n) (c ∷ s) ≢ true
 unfolding utf8
