@@ -13,13 +13,13 @@ use sheet::outcome::members;
 use strings::rows::after_at;
 
 // An outcome, by its place among the outcomes and its node.
-#[derive(Drop)]
+#[derive(Clone, Copy)]
 pub struct Placed {
     pub place: usize,
     pub node: usize,
 }
 
-#[derive(Drop)]
+#[derive(Clone, Copy)]
 pub enum Chosen {
     Nothing,
     At(Placed),

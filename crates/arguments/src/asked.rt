@@ -6,7 +6,7 @@ use crate::place::{Place, place_in};
 use crate::word::{Word, word_of};
 
 // Admission is of the outcome at a place.
-#[derive(Drop)]
+#[derive(Clone, Copy)]
 pub enum Call {
     Evaluate,
     Preconditions,
@@ -17,20 +17,20 @@ pub enum Call {
 }
 
 // A call on one sheet, or a decision of each line.
-#[derive(Drop)]
+#[derive(Clone, Copy)]
 pub enum Task {
     One(Call),
     Lines,
 }
 
 // Where the input is: standard input, or the file that an argument names.
-#[derive(Drop)]
+#[derive(Clone, Copy)]
 pub enum Source {
     Input,
     Named(usize),
 }
 
-#[derive(Drop)]
+#[derive(Clone, Copy)]
 pub enum Asked {
     Run(Task, Source),
     Help,

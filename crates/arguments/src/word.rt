@@ -3,7 +3,7 @@ ghost use Rattle.std.specs.Prelude.{◌≡◌};
 ghost use Rattle.json_text.specs.Bytes.{same_bytes};
 ghost use Rattle.arguments.specs.Words.{option_of, word_of};
 
-#[derive(Drop)]
+#[derive(Clone, Copy)]
 pub enum Word {
     Evaluate,
     Preconditions,

@@ -25,14 +25,14 @@ use strings::rows::{Found, after_at};
 use writer::answer::Answer;
 
 // Whether an outcome is taken or passed over, or the answer that ends the selection.
-#[derive(Drop)]
+#[derive(Clone, Copy)]
 pub enum Tried {
     Taken,
     Passed,
     Refused(Answer),
 }
 
-#[derive(Drop)]
+#[derive(Clone, Copy)]
 pub enum Selected {
     At(Placed),
     Refused(Answer),

@@ -18,7 +18,7 @@ use resolving::resolve::resolve;
 use semantics::truth::Truth;
 
 // A truth, or the refusal 13 with the expression's node, or 14.
-#[derive(Drop)]
+#[derive(Clone, Copy)]
 pub enum Outcome {
     Judged(Truth),
     Unknown(usize),

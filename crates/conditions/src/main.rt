@@ -23,7 +23,7 @@ fn report(place: u64) {
 }
 
 // How many records ran, and how many of them differ.
-#[derive(Drop)]
+#[derive(Clone, Copy)]
 struct Tally {
     ran: u64,
     differ: u64,

@@ -17,7 +17,7 @@ use sheet::shape::Members;
 use writer::answer::{Answer, Sent};
 
 // Admission is of the outcome at a place.
-#[derive(Drop)]
+#[derive(Clone, Copy)]
 pub enum Call {
     Evaluate,
     Preconditions,

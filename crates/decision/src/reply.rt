@@ -4,7 +4,7 @@ ghost use Rattle.decision.specs.Replies.{Told, number_of, size_of};
 
 use writer::answer::Sent;
 
-#[derive(Drop)]
+#[derive(Clone, Copy)]
 pub enum Reply {
     Line(usize),
     WorkTooSmall,

@@ -34,7 +34,7 @@ use sheet::shape::node_of;
 use syntax::condition::operator_at;
 
 // The nodes of what a quantifier goes over, its binder's name and its body.
-#[derive(Drop)]
+#[derive(Clone, Copy)]
 pub struct Quantifier {
     pub over: usize,
     pub bind: usize,

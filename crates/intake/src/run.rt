@@ -53,7 +53,7 @@ fn hand_on(input: &[u8], work: &mut [u32], out: &mut [u8]) -> Got
 }
 
 // Why reading and answering ended.
-#[derive(Drop)]
+#[derive(Clone, Copy)]
 enum End {
     Input,
     Unread,
@@ -61,7 +61,7 @@ enum End {
 }
 
 // What is left then: a last line without LF, or the start of an overlong one.
-#[derive(Drop)]
+#[derive(Clone, Copy)]
 struct Left {
     bytes: usize,
     end: End,

@@ -3,7 +3,7 @@ ghost use Rattle.std.specs.Prelude.{◌≤◌, ◌<◌, length};
 ghost use Rattle.leaves.specs.Laid.{Continues, Opens};
 
 // What stands where an element or a member may begin: its place, the place behind the closing bracket, or neither.
-#[derive(Drop)]
+#[derive(Clone, Copy)]
 pub enum Sep {
     Neither,
     Shut(usize),

@@ -14,13 +14,13 @@ use strings::rows::Found;
 use strings::text::Step;
 
 // A name's place between the quotes, and where its value begins.
-#[derive(Drop)]
+#[derive(Clone, Copy)]
 pub struct Spelt {
     pub stop: usize,
     pub value: usize,
 }
 
-#[derive(Drop)]
+#[derive(Clone, Copy)]
 pub enum Named {
     Bad(Refusal),
     Is(Spelt),

@@ -11,7 +11,7 @@ ghost use Rattle.members.specs.Wants.{allowed, meets, needed};
 use crate::node::{ARRAY, FALSE, NULL, NUMBER, OBJECT, TEXT, TRUE};
 use strings::rows::Found;
 
-#[derive(Drop)]
+#[derive(Clone, Copy)]
 pub enum Want {
     Text,
     Bool,
@@ -122,7 +122,7 @@ pub fn allows(s: &[u8], work: &[u32], found: Found, want: Want) -> bool
 }
 
 // What a list of the sheet has as elements.
-#[derive(Drop)]
+#[derive(Clone, Copy)]
 pub enum Element {
     Rule,
     Outcome,

@@ -1,12 +1,12 @@
 // Types that condition answers with.
 
-#[derive(Drop)]
+#[derive(Clone, Copy)]
 pub enum Mode {
     Every,
     Any,
 }
 
-#[derive(Drop)]
+#[derive(Clone, Copy)]
 pub enum Form {
     Eq,
     Ne,
@@ -21,7 +21,7 @@ pub enum Form {
 }
 
 // What the one member's name asks for.
-#[derive(Drop)]
+#[derive(Clone, Copy)]
 pub enum Operator {
     Junction(Mode),
     Negation,
@@ -32,7 +32,7 @@ pub enum Operator {
     Unknown,
 }
 
-#[derive(Drop)]
+#[derive(Clone, Copy)]
 pub enum Fault {
     Sound,
     Shape,

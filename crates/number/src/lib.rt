@@ -7,7 +7,7 @@ ghost use Rattle.number.specs.Compared.{compared, order_of};
 
 use crate::text::Decimal;
 
-#[derive(Drop)]
+#[derive(Clone, Copy)]
 pub enum Order {
     Less,
     Equal,

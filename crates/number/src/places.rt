@@ -8,7 +8,7 @@ ghost use Rattle.number.specs.Compared.{order_of};
 
 use crate::Order;
 
-#[derive(Drop)]
+#[derive(Clone, Copy)]
 pub struct Integer {
     pub digits: [u8; 260],
     // how many of the digits are in use; those above them are 0

@@ -9,40 +9,40 @@ ghost use Rattle.number.specs.Parts.{opens, stops, starts_point, SignTold, Zeros
 use crate::places::Integer;
 use crate::{Order, places};
 
-#[derive(Drop)]
+#[derive(Clone, Copy)]
 pub struct Signed {
     pub negative: bool,
     pub next: usize,
 }
 
 // Where a part of the digits ends, and the place behind its last digit that is not 0.
-#[derive(Drop)]
+#[derive(Clone, Copy)]
 pub struct Ends {
     pub end: usize,
     pub last: usize,
 }
 
 // Digits that are still to come: the bytes from `at` up to `end`, but for a point that is not passed yet.
-#[derive(Drop)]
+#[derive(Clone, Copy)]
 pub struct Cursor {
     pub at: usize,
     pub end: usize,
     pub pointed: bool,
 }
 
-#[derive(Drop)]
+#[derive(Clone, Copy)]
 pub struct Taken {
     pub byte: u8,
     pub rest: Cursor,
 }
 
-#[derive(Drop)]
+#[derive(Clone, Copy)]
 pub enum Step {
     End,
     Byte(Taken),
 }
 
-#[derive(Drop)]
+#[derive(Clone, Copy)]
 pub struct Decimal {
     pub negative: bool,
     // from the first to the last digit that is not 0

@@ -10,7 +10,7 @@ use sheet::shape::{Members, Shape, shape_of};
 use strings::answer::{Read, Refusal};
 
 // A refusal's number, 1 to 11, or the nodes of the sheet's members.
-#[derive(Drop)]
+#[derive(Clone, Copy)]
 pub enum Opened {
     Refused(usize),
     Sheet(Members),

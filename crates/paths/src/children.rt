@@ -5,7 +5,7 @@ ghost use Rattle.paths.specs.Children.{begun, first_at, next_of, onward};
 ghost use Rattle.paths.specs.Stored.{Room, table};
 
 // Where a walk is: the next child, where there is one below the end, and how many more there are at most.
-#[derive(Drop)]
+#[derive(Clone, Copy)]
 pub struct Children {
     pub named: bool,
     pub end: usize,
@@ -13,13 +13,13 @@ pub struct Children {
     pub left: usize,
 }
 
-#[derive(Drop)]
+#[derive(Clone, Copy)]
 pub struct Next {
     pub node: usize,
     pub rest: Children,
 }
 
-#[derive(Drop)]
+#[derive(Clone, Copy)]
 pub enum Child {
     End,
     Is(Next),

@@ -9,14 +9,14 @@ ghost use Rattle.paths.specs.Stack.{Named, Small, bound_in, held};
 use crate::operand::{Bound, Kind, Operand};
 
 // A binder in force: the place of its name in the sheet, and what it stands for.
-#[derive(Drop)]
+#[derive(Clone, Copy)]
 pub struct Frame {
     pub name: usize,
     pub operand: Operand,
 }
 
 // A frame as it is kept, in eight bytes: frames are copied at each call.
-#[derive(Drop)]
+#[derive(Clone, Copy)]
 pub struct Slot {
     pub name: u16,
     pub node: u16,
@@ -24,7 +24,7 @@ pub struct Slot {
     pub kind: Kind,
 }
 
-#[derive(Drop)]
+#[derive(Clone, Copy)]
 pub struct Frames {
     pub slots: [Slot; 32],
     pub depth: usize,

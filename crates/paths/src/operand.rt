@@ -5,7 +5,7 @@ ghost use Rattle.paths.specs.declared.operand.Kind.TheVariants.{Null};
 ghost use Rattle.paths.specs.Stored.{Room, table};
 
 // Which kind of value it is. Less is a text less its first `$`; Listed and Named are a written array and object.
-#[derive(Drop)]
+#[derive(Clone, Copy)]
 pub enum Kind {
     Null,
     False,
@@ -19,21 +19,21 @@ pub enum Kind {
     Named,
 }
 
-#[derive(Drop)]
+#[derive(Clone, Copy)]
 pub struct Operand {
     pub node: usize,
     pub depth: usize,
     pub kind: Kind,
 }
 
-#[derive(Drop)]
+#[derive(Clone, Copy)]
 pub enum Bound {
     At(Operand),
     Nothing,
 }
 
 // What an expression gives: an operand, nothing, or the refusal 13 or 14.
-#[derive(Drop)]
+#[derive(Clone, Copy)]
 pub enum Looked {
     At(Operand),
     Nothing,
@@ -123,7 +123,7 @@ pub fn nothing() -> Operand
 }
 
 // What an operand is: present, missing, or the refusal 13 with the expression's node, or 14.
-#[derive(Drop)]
+#[derive(Clone, Copy)]
 pub enum Resolved {
     Present(Operand),
     Missing,
@@ -132,14 +132,14 @@ pub enum Resolved {
 }
 
 // A part as its whole sees it: whether it is present, or a refusal.
-#[derive(Drop)]
+#[derive(Clone, Copy)]
 pub enum Part {
     Seen(bool),
     Refused(Resolved),
 }
 
 // How two texts are compared.
-#[derive(Drop)]
+#[derive(Clone, Copy)]
 pub enum Where {
     Start,
     Anywhere,

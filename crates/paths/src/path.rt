@@ -10,7 +10,7 @@ ghost use Rattle.paths.specs.Told.{RestTold};
 use crate::written::Unit;
 use strings::text::{Cursor, Step, begin};
 
-#[derive(Drop)]
+#[derive(Clone, Copy)]
 pub enum Rest {
     Nothing,
     At(usize),

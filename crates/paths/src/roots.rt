@@ -8,7 +8,7 @@ ghost use Rattle.paths.specs.Rooted.{BaseTold, RootTold, object_operand, root_of
 use crate::operand::{Bound, Kind, Looked, Operand};
 
 // The nodes of the sheet's members, 0 for one that is missing: node 0 is the sheet itself.
-#[derive(Drop)]
+#[derive(Clone, Copy)]
 pub struct Roots {
     pub id: usize,
     pub entity: usize,
@@ -21,7 +21,7 @@ pub struct Roots {
 }
 
 // `$state` gives `to_state`.
-#[derive(Drop)]
+#[derive(Clone, Copy)]
 pub enum Root {
     Unknown,
     Id,

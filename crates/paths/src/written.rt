@@ -5,14 +5,14 @@ ghost use Rattle.paths.specs.Told.{UnitTold, WrittenTold};
 use strings::escape::{Escaped, Scalar};
 
 // What stands at a place of a text: a byte as it is, or what an escape stands for.
-#[derive(Drop)]
+#[derive(Clone, Copy)]
 pub enum Unit {
     End,
     Is(Scalar),
 }
 
 // With the place of the text behind the `$`.
-#[derive(Drop)]
+#[derive(Clone, Copy)]
 pub enum Written {
     Plain,
     Escaped(usize),

@@ -8,7 +8,7 @@ use crate::sheet::answer;
 use arguments::asked::Call;
 
 // How far the input was answered, how many bytes the answers have, and whether no whole line is left.
-#[derive(Drop)]
+#[derive(Clone, Copy)]
 pub struct Progress {
     pub used: usize,
     pub put: usize,

@@ -149,7 +149,7 @@ fn same_line(line: &[u8], size: usize, out: &[u8]) -> bool {
 }
 
 // What differs from a record.
-#[derive(Drop)]
+#[derive(Clone, Copy)]
 enum Difference {
     Nothing,
     Number,
@@ -230,7 +230,7 @@ fn report_difference(place: u64, what: Difference) {
 }
 
 // How many records ran, and how many of them differ.
-#[derive(Drop)]
+#[derive(Clone, Copy)]
 struct Tally {
     ran: u64,
     differ: u64,

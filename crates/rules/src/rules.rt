@@ -24,7 +24,7 @@ use writer::answer::{Answer, Rule, Rules};
 use writer::quote::Text;
 
 // That a rule holds, or the answer that it settles.
-#[derive(Drop)]
+#[derive(Clone, Copy)]
 pub enum Ruling {
     Holds,
     Settles(Answer),

@@ -3,7 +3,7 @@ ghost use Rattle.std.specs.Prelude.{◌≡◌};
 ghost use Rattle.semantics.specs.Truth.{and, negate, or};
 ghost use Rattle.semantics.specs.Told.{truth_of};
 
-#[derive(Drop)]
+#[derive(Clone, Copy)]
 pub enum Truth {
     True,
     False,

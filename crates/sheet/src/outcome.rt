@@ -15,7 +15,7 @@ use members::node::{OBJECT, TEXT};
 use strings::rows::Found;
 
 // The nodes of an outcome's members, and of a move's.
-#[derive(Drop)]
+#[derive(Clone, Copy)]
 pub struct OutcomeMembers {
     pub name: Found,
     pub when: Found,
@@ -24,7 +24,7 @@ pub struct OutcomeMembers {
     pub effect: Found,
 }
 
-#[derive(Drop)]
+#[derive(Clone, Copy)]
 pub struct MoveMembers {
     pub to: Found,
     pub from: Found,

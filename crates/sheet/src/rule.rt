@@ -13,7 +13,7 @@ use members::node::OBJECT;
 use strings::rows::Found;
 
 // The nodes of a rule's members.
-#[derive(Drop)]
+#[derive(Clone, Copy)]
 pub struct RuleMembers {
     pub assert: Found,
     pub name: Found,

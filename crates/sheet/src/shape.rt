@@ -8,7 +8,7 @@ use members::told::Fault;
 use strings::rows::Found;
 
 // The nodes of an accepted sheet's members. Those that may be missing are as they were found.
-#[derive(Drop)]
+#[derive(Clone, Copy)]
 pub struct Members {
     pub id: Found,
     pub entity: usize,
@@ -26,7 +26,7 @@ pub struct Members {
     pub outcomes: usize,
 }
 
-#[derive(Drop)]
+#[derive(Clone, Copy)]
 pub enum Shape {
     WrongSheet,
     WrongShape,

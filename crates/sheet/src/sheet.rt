@@ -16,7 +16,7 @@ use members::node::ARRAY;
 use strings::rows::Found;
 
 // The nodes of the sheet's members.
-#[derive(Drop)]
+#[derive(Clone, Copy)]
 pub struct SheetMembers {
     pub id: Found,
     pub entity: Found,

@@ -1,7 +1,7 @@
 // What reading answers.
 
 // The refusals of reading, 1 to 8.
-#[derive(Drop)]
+#[derive(Clone, Copy)]
 pub enum Refusal {
     WorkTooSmall,
     TooLong,
@@ -14,27 +14,27 @@ pub enum Refusal {
 }
 
 // The place behind what was scanned, or why it is refused.
-#[derive(Drop)]
+#[derive(Clone, Copy)]
 pub enum Scan {
     Bad(Refusal),
     End(usize),
 }
 
 // The place behind a value that was read, and the nodes in use then.
-#[derive(Drop)]
+#[derive(Clone, Copy)]
 pub struct Place {
     pub at: usize,
     pub node: usize,
 }
 
-#[derive(Drop)]
+#[derive(Clone, Copy)]
 pub enum Parsed {
     Bad(Refusal),
     Done(Place),
 }
 
 // The table with its nodes, or the refusal.
-#[derive(Drop)]
+#[derive(Clone, Copy)]
 pub enum Read {
     Refused(Refusal),
     Table(usize),

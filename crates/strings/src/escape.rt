@@ -4,19 +4,19 @@ ghost use Rattle.json_text.specs.Strings.{hex_digit, simple_escape};
 ghost use Rattle.json_text.specs.Escapes.{escaped, high_scalar};
 ghost use Rattle.strings.specs.Answers.{digit_of, simple_of, HexTold, EscapedTold};
 
-#[derive(Drop)]
+#[derive(Clone, Copy)]
 pub enum Hex {
     Bad,
     Unit(u32),
 }
 
-#[derive(Drop)]
+#[derive(Clone, Copy)]
 pub struct Scalar {
     pub unit: u32,
     pub next: usize,
 }
 
-#[derive(Drop)]
+#[derive(Clone, Copy)]
 pub enum Escaped {
     Bad,
     Is(Scalar),

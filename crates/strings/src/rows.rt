@@ -9,7 +9,7 @@ ghost use Rattle.json_text.specs.Cursor.{OnText};
 ghost use Rattle.json_text.specs.Held.{HasMembers};
 ghost use Rattle.strings.specs.Answers.{FoundTold, RowFits};
 
-#[derive(Drop)]
+#[derive(Clone, Copy)]
 pub enum Found {
     Nothing,
     At(usize),

@@ -8,26 +8,26 @@ ghost use Rattle.strings.specs.Answers.{FirstOf, Stepped, order_of};
 use crate::escape::{Escaped, Scalar};
 
 // A place in a text, and the bytes of a scalar value that are still to be given.
-#[derive(Drop)]
+#[derive(Clone, Copy)]
 pub struct Cursor {
     pub at: usize,
     pub unit: u32,
     pub left: u32,
 }
 
-#[derive(Drop)]
+#[derive(Clone, Copy)]
 pub struct Taken {
     pub byte: u8,
     pub rest: Cursor,
 }
 
-#[derive(Drop)]
+#[derive(Clone, Copy)]
 pub enum Step {
     End,
     Byte(Taken),
 }
 
-#[derive(Drop)]
+#[derive(Clone, Copy)]
 pub enum Order {
     Less,
     Same,

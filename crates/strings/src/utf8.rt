@@ -4,7 +4,7 @@ ghost use Rattle.json_text.specs.Utf8.{is_ascii, scalar, utf8};
 ghost use Rattle.strings.specs.Answers.{Leads, Follows};
 
 // What may come next: `left` bytes more of a scalar value, the first of them from `low` to `high`.
-#[derive(Drop)]
+#[derive(Clone, Copy)]
 pub struct Expect {
     pub low: u8,
     pub high: u8,

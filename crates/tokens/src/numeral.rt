@@ -9,7 +9,7 @@ ghost use Rattle.tokens.specs.Numbering.{Reaches, Standing, pointed};
 use strings::answer::{Refusal, Scan};
 
 // Where a number stands: its place, the byte that is next, and how many may still come.
-#[derive(Drop)]
+#[derive(Clone, Copy)]
 pub struct Stand {
     pub place: usize,
     pub here: usize,

@@ -1,13 +1,13 @@
 // The answers and refusals of the calls on a sheet that was read, with their texts by place and node.
 use crate::quote::Text;
 
-#[derive(Drop)]
+#[derive(Clone, Copy)]
 pub enum Rules {
     Preconditions,
     Invariants,
 }
 
-#[derive(Drop)]
+#[derive(Clone, Copy)]
 pub struct Rule {
     pub rules: Rules,
     pub place: usize,
@@ -15,14 +15,14 @@ pub struct Rule {
     pub message: Text,
 }
 
-#[derive(Drop)]
+#[derive(Clone, Copy)]
 pub struct Outcome {
     pub place: usize,
     pub name: usize,
 }
 
 // A move that does not start from the state: `from` is the node of its sources.
-#[derive(Drop)]
+#[derive(Clone, Copy)]
 pub struct Move {
     pub outcome: Outcome,
     pub state: usize,
@@ -30,7 +30,7 @@ pub struct Move {
 }
 
 // The names of a truth, a rule or a guard are the marked nodes of the table.
-#[derive(Drop)]
+#[derive(Clone, Copy)]
 pub enum Answer {
     True,
     False,
@@ -50,7 +50,7 @@ pub enum Answer {
 }
 
 // The number of an answer, and the bytes of its line, 0 where it has none.
-#[derive(Drop)]
+#[derive(Clone, Copy)]
 pub struct Sent {
     pub number: usize,
     pub size: usize,

@@ -9,7 +9,7 @@ use crate::lay::{byte, quoted_byte};
 use strings::text::{Step, begin};
 
 // A text by its place, or none.
-#[derive(Drop)]
+#[derive(Clone, Copy)]
 pub enum Text {
     Missing,
     At(usize),
