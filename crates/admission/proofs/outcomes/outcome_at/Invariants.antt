@@ -1,0 +1,21 @@
+-- `calls::outcomes::outcome_at` meets its contract: the loop counts the places that it has passed.
+-- Assumes nothing.
+use Prim.Native.Nat.{◌-◌}
+use native.Mathlib.Omega.{arith}
+use Rattle.json_text.specs.Bytes.{Bytes}
+use Rattle.sheet.specs.Accepted.{EachGives}
+use Rattle.members.specs.Condition.{condition}
+use Rattle.members.specs.Outcome.{an_outcome}
+use Rattle.sheet.specs.Accepted.{Known}
+use Rattle.admission.proofs.Seeking.{Counting, at_place, counting, counts_on, past_all}
+use Rattle.rules.proofs.Walking.{element_room, falls}
+use Rattle.admission.proofs.outcomes.outcome_at.Given as goal
+
+abbrev pub invariant-loop-k : goal.invariant-loop-k
+invariant-loop-k l =
+    Known (λ (s : Bytes). Known (EachGives (an_outcome condition) s l.work l.from l.end)) ×
+    ((s : Bytes) → Known (EachGives (an_outcome condition) s l.work l.from l.end) → Counting s l.work l.from l.end l.place l.i
+    l.k)
+
+abbrev pub decreases-loop-k : goal.decreases-loop-k
+decreases-loop-k l = l.end - l.k

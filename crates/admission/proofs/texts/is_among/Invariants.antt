@@ -1,0 +1,16 @@
+-- `calls::texts::is_among` meets its contract: the loop says that the texts from its node on decide.
+-- Assumes nothing.
+use mathlib.Core.Path.{sym, ◌∙◌}
+use Prim.Native.Nat.{◌-◌}
+use native.Mathlib.Omega.{arith}
+use Rattle.json_text.specs.Bytes.{is_one_of}
+use Rattle.json_text.specs.Spans.{text_at}
+use Rattle.admission.proofs.Among.{found_here, none_left, not_here, on_element}
+use Rattle.rules.proofs.Walking.{Walking, element_room, falls, starts}
+use Rattle.admission.proofs.texts.is_among.Given as goal
+
+abbrev pub invariant-loop-k : goal.invariant-loop-k
+invariant-loop-k l = Walking a_text l.s l.work l.from l.end (is_one_of (text_at l.s l.text)) (is_one_of (text_at l.s l.text)) l.k
+
+abbrev pub decreases-loop-k : goal.decreases-loop-k
+decreases-loop-k l = l.end - l.k

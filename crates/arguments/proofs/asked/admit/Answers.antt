@@ -1,0 +1,27 @@
+-- `arguments::asked::admit` meets its contract: by its place.
+-- Assumes nothing.
+use mathlib.Core.Path.{sym, ◌∙◌}
+use borrow.Author.Tests.{le-ltb, lt-ltb}
+use Rattle.arguments.specs.Asked.{admits, admits_at}
+use borrow.Author.Rules.{rules}
+use Rattle.arguments.proofs.asked.admit.Goals as goal
+
+pub returns-then-count-lt2 : goal.returns-then-count-lt2
+unfolding admits
+returns-then-count-lt2 c = rw (lt-ltb _ _ c.if-count-lt2.true)
+
+pub returns-in-At : goal.returns-in-At
+unfolding admits admits_at
+returns-in-At c =
+    rw (
+      le-ltb _ _ c.if-count-lt2.false,
+      sym c.place_in.ensures ∙ c.in-At.is,
+    ) c.with_file.ensures
+
+pub returns-in-Wrong : goal.returns-in-Wrong
+unfolding admits admits_at
+returns-in-Wrong c =
+    rw (
+      le-ltb _ _ c.if-count-lt2.false,
+      sym c.place_in.ensures ∙ c.in-Wrong.is,
+    )

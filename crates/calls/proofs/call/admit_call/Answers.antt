@@ -1,0 +1,61 @@
+-- `calls::call::admit_call` meets its contract: by whether there is such a place, then a state.
+-- Assumes nothing.
+use Rattle.members.proofs.Walks.{room}
+use Rattle.calls.proofs.Calls.{admits, each_outcome, state-room, told-admission, told_stateless, told_unplaced}
+use borrow.Author.Rules.{rules}
+use Rattle.calls.proofs.call.admit_call.Goals as goal
+
+pub after_at-end-requires : goal.after_at-end-requires
+after_at-end-requires c = room c.requires.known.outcomes.node
+
+pub outcome_at-requires : goal.outcome_at-requires
+outcome_at-requires c =
+    record {
+      given = c.args.s.now;
+      known =
+          record {
+            given = c.requires.given.outcomes;
+            known = each_outcome c.args.s.now c.args.work.now c.args.m c.requires.given c.requires.known
+                c.after_at-end.ensures;
+          };
+    }
+
+pub start_at-at-requires : goal.start_at-at-requires
+start_at-at-requires c =
+    state-room c.args.s.now c.args.work.now c.args.m c.requires.given c.requires.known c.args.place _
+    (c.outcome_at.ensures c.args.s.now c.requires.given.outcomes
+    (each_outcome c.args.s.now c.args.work.now c.args.m c.requires.given c.requires.known
+    c.after_at-end.ensures)) c.in-At.p c.in-At.is
+    c.in-At-state.n c.in-At-state.is
+
+pub admit-requires : goal.admit-requires
+admit-requires c =
+    admits c.args.s.now c.args.work.now c.args.m c.requires.given c.requires.known c.args.place _
+    (c.outcome_at.ensures c.args.s.now c.requires.given.outcomes
+    (each_outcome c.args.s.now c.args.work.now c.args.m c.requires.given c.requires.known
+    c.after_at-end.ensures)) c.in-At.p c.in-At.is
+    c.in-At-state.n c.in-At-state.is _ c.start_at-at.ensures
+
+pub returns-in-Nothing : goal.returns-in-Nothing
+returns-in-Nothing c =
+    λ sheet a. told_unplaced c.args.s.now c.args.work.now c.args.m sheet a c.args.place _
+    (c.outcome_at.ensures c.args.s.now sheet.outcomes
+    (each_outcome c.args.s.now c.args.work.now c.args.m sheet a
+    c.after_at-end.ensures)) c.in-Nothing.is
+
+pub returns-in-Nothing-state : goal.returns-in-Nothing-state
+returns-in-Nothing-state c =
+    λ sheet a. told_stateless c.args.s.now c.args.work.now c.args.m sheet a c.args.place _
+    (c.outcome_at.ensures c.args.s.now sheet.outcomes
+    (each_outcome c.args.s.now c.args.work.now c.args.m sheet a
+    c.after_at-end.ensures)) c.in-At.p c.in-At.is
+    c.in-Nothing-state.is
+
+pub returns-in-At-state : goal.returns-in-At-state
+returns-in-At-state c =
+    λ sheet a. told-admission c.args.s.now c.args.work.now c.args.m sheet a c.args.place _
+    (c.outcome_at.ensures c.args.s.now sheet.outcomes
+    (each_outcome c.args.s.now c.args.work.now c.args.m sheet a
+    c.after_at-end.ensures)) c.in-At.p c.in-At.is
+    c.in-At-state.n c.in-At-state.is _
+    c.start_at-at.ensures c.admit.ensures

@@ -1,0 +1,15 @@
+-- `calls::select::select` meets its contract: the loop says that the selection from its node on is the whole selection.
+-- Assumes nothing.
+use Prim.Native.Nat.{◌-◌}
+use native.Mathlib.Omega.{arith}
+use borrow.Author.Rules.{rules}
+use Rattle.members.proofs.Walks.{room}
+use Rattle.calls.proofs.Trying.{Trying, falls_after, none_left, outcome_known, refuses, room_after, takes, tries_on, trying}
+use Rattle.rules.proofs.Walking.{element_room}
+use Rattle.calls.proofs.select.select.Given as goal
+
+abbrev pub invariant-loop-k : goal.invariant-loop-k
+invariant-loop-k l = Trying l.s l.m l.initial.work l.end l.work l.i l.k
+
+abbrev pub decreases-loop-k : goal.decreases-loop-k
+decreases-loop-k l = l.end - l.k

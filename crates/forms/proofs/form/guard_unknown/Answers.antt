@@ -1,0 +1,14 @@
+-- `line::form::guard_unknown` meets its contract: its parts, one after another.
+-- Assumes nothing.
+use mathlib.Core.List.{append_assoc}
+use Rattle.writer.proofs.Laying.{then, told}
+use Rattle.answers.specs.Line.{spaced}
+use borrow.Author.Rules.{rules}
+use Rattle.forms.proofs.form.guard_unknown.Goals as goal
+
+pub returns : goal.returns
+unfolding spaced
+returns c =
+    told (simp append_assoc)
+    (then c.refused_outcome-here.ensures
+    c.close_named.ensures)

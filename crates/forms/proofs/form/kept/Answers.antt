@@ -1,0 +1,19 @@
+-- `line::form::kept` meets its contract: its parts, one after another.
+-- Assumes nothing.
+use mathlib.Core.List.{append_assoc}
+use Rattle.writer.proofs.Laying.{then, told}
+use Rattle.answers.specs.Line.{spaced}
+use borrow.Author.Rules.{rules}
+use Rattle.forms.proofs.form.kept.Goals as goal
+
+pub returns : goal.returns
+unfolding spaced
+returns c =
+    told (simp append_assoc)
+    (then
+    (then
+    (then
+    (then c.byte-a.ensures
+    c.bytes-b.ensures) c.number-c.ensures)
+    c.element-d.ensures)
+    c.byte.ensures)

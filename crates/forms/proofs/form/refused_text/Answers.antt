@@ -1,0 +1,17 @@
+-- `line::form::refused_text` meets its contract: its parts, one after another.
+-- Assumes nothing.
+use mathlib.Core.List.{append_assoc}
+use Rattle.writer.proofs.Laying.{then, told}
+use Rattle.answers.specs.Line.{spaced}
+use borrow.Author.Rules.{rules}
+use Rattle.forms.proofs.form.refused_text.Goals as goal
+
+pub returns : goal.returns
+unfolding spaced
+returns c =
+    told (simp append_assoc)
+    (then
+    (then
+    c.refused-a.ensures
+    c.element-b.ensures)
+    c.byte.ensures)

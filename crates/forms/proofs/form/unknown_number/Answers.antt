@@ -1,0 +1,15 @@
+-- `line::form::unknown_number` meets its contract: by its two cases.
+-- Assumes nothing.
+use mathlib.Core.Path.{ap, sym}
+use Rattle.answers.specs.Line.{unknown_number}
+use Rattle.writer.specs.Meaning.{rules_of}
+use borrow.Author.Rules.{rules}
+use Rattle.forms.proofs.form.unknown_number.Goals as goal
+
+pub returns-in-Preconditions : goal.returns-in-Preconditions
+unfolding rules_of
+returns-in-Preconditions c = sym (ap (λ k. unknown_number (rules_of k)) c.in-Preconditions.is)
+
+pub returns-in-Invariants : goal.returns-in-Invariants
+unfolding rules_of
+returns-in-Invariants c = sym (ap (λ k. unknown_number (rules_of k)) c.in-Invariants.is)

@@ -1,0 +1,27 @@
+-- `reader::bracket::opening` meets its contract: by the byte behind the bracket.
+-- Assumes nothing.
+use Rattle.leaves.proofs.Values.{opens_on, opens_shut}
+use Rattle.leaves.proofs.MemberName.{byte_inside}
+use mathlib.Core.Path.{sym, ◌∙◌}
+use native.Mathlib.Omega.{arith}
+use borrow.Author.Rules.{rules}
+use Rattle.leaves.proofs.bracket.opening.Goals as goal
+
+pub overflow_add-result : goal.overflow_add-result
+overflow_add-result c =
+    omega (
+      arith,
+      byte_inside c.args.s.now c.skip-here.result c.args.close
+          (sym c.byte_at.ensures ∙ c.if-byte_at-close.true) c.requires.1,
+    )
+
+pub returns-then-byte_at-close : goal.returns-then-byte_at-close
+returns-then-byte_at-close c =
+    opens_shut c.args.s.now c.args.at c.args.close c.skip-here.result c.requires.1
+    c.requires.0 c.skip-here.ensures (sym c.byte_at.ensures ∙ c.if-byte_at-close.true)
+
+pub returns : goal.returns
+returns c =
+    opens_on c.args.s.now c.args.at c.args.close c.skip-here.result c.requires.1
+    c.requires.0 c.skip-here.ensures
+    (λ q. c.if-byte_at-close.false (c.byte_at.ensures ∙ q))

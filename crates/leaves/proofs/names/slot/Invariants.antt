@@ -1,0 +1,14 @@
+-- `reader::names::slot` meets its contract: the loop says that the rest of the text from this number on decides the whole.
+-- Assumes nothing.
+use Rattle.leaves.proofs.Marks.{Hashing, hashed_all, hashed_on, hashing}
+use Rattle.strings.proofs.Leaves.{was_byte, was_end}
+use Rattle.json_text.specs.Cursor.{weight}
+use borrow.Author.Rules.{rules}
+use native.Mathlib.Omega.{arith}
+use Rattle.leaves.proofs.names.slot.Given as goal
+
+abbrev pub invariant-loop-t : goal.invariant-loop-t
+invariant-loop-t l = Hashing l.s l.object l.name l.h l.c
+
+abbrev pub decreases-loop-t : goal.decreases-loop-t
+decreases-loop-t l = weight l.s l.c.at l.c.left

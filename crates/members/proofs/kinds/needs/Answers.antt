@@ -1,0 +1,20 @@
+-- `sheet::kinds::needs` meets its contract: from what `fits` says of the node.
+-- Assumes nothing.
+use Rattle.members.proofs.Wanted.{found_node, needs_found, needs_nothing}
+use Rattle.members.specs.Wants.{meets}
+use borrow.Author.Rules.{rules}
+use Rattle.members.proofs.kinds.needs.Goals as goal
+
+pub fits-requires : goal.fits-requires
+fits-requires c =
+    found_node c.in-At.n c.in-At.is
+    c.requires
+
+pub returns-in-Nothing : goal.returns-in-Nothing
+returns-in-Nothing c =
+    needs_nothing c.args.s.now c.args.work.now (meets c.args.want) _ c.in-Nothing.is
+
+pub returns-in-At : goal.returns-in-At
+returns-in-At c =
+    needs_found c.args.s.now c.args.work.now (meets c.args.want) _ c.in-At.n _
+    c.in-At.is c.fits.ensures

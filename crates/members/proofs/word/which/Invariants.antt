@@ -1,0 +1,17 @@
+-- `sheet::word::which` meets its contract: the loop says that the place among all words is the place among those from here on.
+-- Assumes nothing.
+use native.Mathlib.Omega.{arith}
+use Prim.Native.Nat.{◌-◌}
+use lib.ListN.{length}
+use mathlib.Core.Logic.{⊎_elim}
+use mathlib.Core.Path.{sym, ◌∙◌}
+use Rattle.json_text.specs.Spans.{text_at}
+use Rattle.members.proofs.Words.{Listing, list_ended, listed, listing, listing_at, next_word, other_word, same_word}
+use Rattle.members.specs.Answers.{place_of}
+use Rattle.members.proofs.word.which.Given as goal
+
+abbrev pub invariant-loop-i : goal.invariant-loop-i
+invariant-loop-i l = Listing (text_at l.s l.at) l.names l.n l.from l.i
+
+abbrev pub decreases-loop-i : goal.decreases-loop-i
+decreases-loop-i l = length l.names - l.i

@@ -1,0 +1,23 @@
+-- `Integer::parse` meets its contract: first the text is read from its end, then what is carried over goes into further digits.
+-- Assumes nothing.
+use borrow.Author.Rules.{rules}
+use mathlib.Core.Path.{refl, ap}
+use Prim.Native.Nat.{ℕ, ◌+◌, ◌-◌}
+use native.Mathlib.Omega.{arith}
+use lib.ListN.{drop}
+use Rattle.json_text.specs.Bytes.{natural}
+use Rattle.number.proofs.Columns.{Carrying, Reading, all_carried, all_read, carry_more, none_written, read_on, reading, room}
+use Rattle.number.proofs.places.Integer.parse.Given as goal
+
+abbrev pub invariant-loop-i : goal.invariant-loop-i
+invariant-loop-i l = Reading l.s l.at l.more l.digits l.count l.carry l.i
+
+abbrev pub decreases-loop-i : goal.decreases-loop-i
+decreases-loop-i l = l.i
+
+abbrev pub invariant-loop-carry : goal.invariant-loop-carry
+invariant-loop-carry l =
+    Carrying (natural 0 (drop l.at l.s) + l.more) l.digits l.count l.carry
+
+abbrev pub decreases-loop-carry : goal.decreases-loop-carry
+decreases-loop-carry l = l.carry

@@ -1,0 +1,14 @@
+-- `zeros` meets its contract: the zeros passed and those to come are all of them.
+-- Assumes nothing.
+use mathlib.Core.Path.{refl}
+use Prim.Native.Nat.{◌-◌}
+use native.Mathlib.Omega.{arith}
+use lib.ListN.{length}
+use Rattle.number.proofs.Parts.{Skipping, skip_end, skip_on, skip_stop}
+use Rattle.number.proofs.text.zeros.Given as goal
+
+abbrev pub invariant-loop-at : goal.invariant-loop-at
+invariant-loop-at l = Skipping l.s l.from l.at
+
+abbrev pub decreases-loop-at : goal.decreases-loop-at
+decreases-loop-at l = length l.s - l.at

@@ -1,0 +1,269 @@
+-- Equality and the walk over parts meet their contracts: classes first, then part by part. What falls is the number of layers left.
+-- Assumes nothing.
+use Prim.Native.Nat.{ℕ, ◌<◌}
+use mathlib.Core.Path.{sym, ◌∙◌}
+use Prim.Native.Nat.{ℕ, ◌<◌, ◌+◌, ◌*◌, ◌-◌}
+use Rattle.paths.specs.Comparing.{alike}
+use Rattle.paths.specs.Layered.{alike_nodes, kids, part_at}
+use Rattle.members.specs.Sheet.{sheet_in}
+use Rattle.paths.specs.Stored.{frames_of, table}
+use Rattle.resolving.proofs.Alike.{
+  Comparing,
+  begin_room,
+  both_end,
+  compare_begins,
+  equal_apart,
+  equal_leaves,
+  equal_none,
+  equal-paired,
+  equal-whole,
+  first_child,
+  first_ends,
+  names_differ,
+  parts-differ,
+  parts_same,
+  second_child,
+  second_ends,
+  value_there,
+}
+use Rattle.paths.proofs.Ordered.{child_end, child_given}
+use Rattle.resolving.proofs.Slices.{layer_falls, one_less, part_falls}
+use borrow.Author.Rules.{rules}
+use native.Mathlib.Omega.{arith}
+use Rattle.operands.proofs.equal.+equal_at_equal_parts.Goals as goal
+
+pub equal_at-returns-then-left-eq0 : goal.equal_at-returns-then-left-eq0
+equal_at-returns-then-left-eq0 t c =
+    equal_none (sheet_in c.args.s.now) c.args.s.now (table c.args.work.now)
+    (frames_of c.args.s.now (table c.args.work.now) c.args.frames) c.args.a c.args.b c.args.left c.if-left-eq0.true
+
+pub equal_at-returns-then-class-class_of : goal.equal_at-returns-then-class-class_of
+equal_at-returns-then-class-class_of t c =
+    equal_apart (sheet_in c.args.s.now) c.args.s.now (table c.args.work.now)
+    (frames_of c.args.s.now (table c.args.work.now) c.args.frames) c.args.a c.args.b c.args.left
+    c.if-left-eq0.false c.class_of-class.ensures
+    c.class_of.ensures c.if-class-class_of.true
+
+pub equal_at-same_leaf-requires : goal.equal_at-same_leaf-requires
+equal_at-same_leaf-requires t c = (
+  record { rows = c.requires.1.0.rows; node = omega arith },
+  c.requires.1.1,
+  c.requires.1.2,
+  c.if-class-lt5.true,
+  sym c.class_of-class.ensures,
+  sym c.class_of.ensures ∙ sym c.if-class-class_of.false,
+)
+
+pub equal_at-returns-then-class-lt5 : goal.equal_at-returns-then-class-lt5
+equal_at-returns-then-class-lt5 t c =
+    equal_leaves (sheet_in c.args.s.now) c.args.s.now (table c.args.work.now)
+    (frames_of c.args.s.now (table c.args.work.now) c.args.frames) c.args.a c.args.b c.args.left c.if-left-eq0.false
+    c.same_leaf.ensures
+
+pub equal_at-overflow_sub-left : goal.equal_at-overflow_sub-left
+equal_at-overflow_sub-left t c =
+    one_less c.args.left
+    c.if-left-eq0.false
+
+pub equal_at-equal_parts-requires : goal.equal_at-equal_parts-requires
+equal_at-equal_parts-requires t c = (
+  layer_falls c.args.left c.requires.0 c.if-left-eq0.false,
+  (
+    c.requires.1.0,
+    equal-paired (sheet_in c.args.s.now) c.args.s.now (table c.args.work.now)
+        (frames_of c.args.s.now (table c.args.work.now) c.args.frames) c.args.a c.args.b c.args.left c.if-left-eq0.false
+        c.class_of-class.ensures c.class_of.ensures
+        c.if-class-class_of.false (λ h. omega (arith, h, c.if-class-lt5.false)) c.requires.1.1 c.requires.1.2,
+  ),
+)
+
+pub equal_at-returns : goal.equal_at-returns
+equal_at-returns t c =
+    equal-whole (sheet_in c.args.s.now) c.args.s.now (table c.args.work.now)
+    (frames_of c.args.s.now (table c.args.work.now) c.args.frames) c.args.a c.args.b c.args.left
+    c.if-left-eq0.false c.class_of-class.ensures
+    c.class_of.ensures c.if-class-class_of.false (λ h. omega (arith, h, c.if-class-lt5.false))
+    c.equal_parts.ensures
+
+pub equal_parts-of-x-requires : goal.equal_parts-of-x-requires
+equal_parts-of-x-requires t c =
+    begin_room c.args.s.now c.args.work.now c.args.named c.requires.1.0.rows
+    c.requires.1.1.first
+
+pub equal_parts-of-y-requires : goal.equal_parts-of-y-requires
+equal_parts-of-y-requires t c =
+    begin_room c.args.s.now c.args.work.now c.args.named c.requires.1.0.rows
+    c.requires.1.1.second
+
+pub equal_parts-loop-p-init : goal.equal_parts-loop-p-init
+equal_parts-loop-p-init t c =
+    compare_begins c.requires.1.1 c.requires.1.0.linked c.of-x.ensures c.of-y.ensures
+
+pub equal_parts-next-requires : goal.equal_parts-next-requires
+equal_parts-next-requires t c = (
+  record { rows = c.requires.1.0.rows; node = omega arith },
+  c.loop-p.invariant.first.within,
+)
+
+pub equal_parts-next-requires-in_default : goal.equal_parts-next-requires-in_default
+equal_parts-next-requires-in_default t c = (
+  record {
+    rows = c.requires.1.0.rows;
+    node = omega arith;
+  },
+  c.loop-p.invariant.second.within,
+)
+
+pub equal_parts-returns-in-End : goal.equal_parts-returns-in-End
+equal_parts-returns-in-End t c =
+    let frames = frames_of c.args.s.now (table c.args.work.now) c.args.frames in
+    both_end c.args.s.now (table c.args.work.now) (alike (sheet_in c.args.s.now) c.args.left frames) c.args.named
+    (part_at (sheet_in c.args.s.now) c.args.s.now (table c.args.work.now) frames c.args.a) (part_at (sheet_in c.args.s.now) c.args.s.now (table c.args.work.now) frames c.args.b) _ c.loop-p.invariant
+    (child_end c.loop-p.invariant.first c.next.ensures c.in_default.is)
+    (child_end c.loop-p.invariant.second c.next-in_default.ensures c.in-End.is)
+
+pub equal_parts-returns-in-Is-next : goal.equal_parts-returns-in-Is-next
+equal_parts-returns-in-Is-next t c =
+    let frames = frames_of c.args.s.now (table c.args.work.now) c.args.frames in
+    first_ends c.args.s.now (table c.args.work.now) (alike (sheet_in c.args.s.now) c.args.left frames) c.args.named
+    (part_at (sheet_in c.args.s.now) c.args.s.now (table c.args.work.now) frames c.args.a) (part_at (sheet_in c.args.s.now) c.args.s.now (table c.args.work.now) frames c.args.b) _ c.loop-p.invariant
+    (child_end c.loop-p.invariant.first c.next.ensures c.in_default.is)
+    (child_given c.loop-p.invariant.second c.next-in_default.ensures c.in-Is-next._q
+    c.in-Is-next.is)
+
+pub equal_parts-next-requires-in-loop-p : goal.equal_parts-next-requires-in-loop-p
+equal_parts-next-requires-in-loop-p t c = (
+  record {
+    rows = c.requires.1.0.rows;
+    node = omega arith;
+  },
+  c.loop-p.invariant.second.within,
+)
+
+pub equal_parts-returns-in_default-next : goal.equal_parts-returns-in_default-next
+equal_parts-returns-in_default-next t c =
+    let frames = frames_of c.args.s.now (table c.args.work.now) c.args.frames in
+    second_ends c.args.s.now (table c.args.work.now) (alike (sheet_in c.args.s.now) c.args.left frames) c.args.named
+    (part_at (sheet_in c.args.s.now) c.args.s.now (table c.args.work.now) frames c.args.a) (part_at (sheet_in c.args.s.now) c.args.s.now (table c.args.work.now) frames c.args.b) _ c.loop-p.invariant
+    (child_given c.loop-p.invariant.first c.next.ensures c.in-Is.p
+    c.in-Is.is)
+    (child_end c.loop-p.invariant.second c.next-in-loop-p.ensures c.in_default-next.is)
+
+pub equal_parts-names_agree-requires : goal.equal_parts-names_agree-requires
+equal_parts-names_agree-requires t c =
+    let frames = frames_of c.args.s.now (table c.args.work.now) c.args.frames in
+    let child-given1 = child_given c.loop-p.invariant.second c.next-in-loop-p.ensures
+    c.in-Is-next-2.given.0.0 c.in-Is-next-2.given.1 in
+    let child-given2 = child_given c.loop-p.invariant.first c.next.ensures c.in-Is.p
+    c.in-Is.is in
+    let part = part_at (sheet_in c.args.s.now) c.args.s.now (table c.args.work.now) frames c.args.a in
+    let part1 = part_at (sheet_in c.args.s.now) c.args.s.now (table c.args.work.now) frames c.args.b in (
+      record { rows = c.requires.1.0.rows; node = omega arith },
+      first_child c.args.s.now (table c.args.work.now) (alike (sheet_in c.args.s.now) c.args.left frames) c.args.named part part1 _ c.loop-p.invariant child-given2
+          child-given1,
+      second_child c.args.s.now (table c.args.work.now) (alike (sheet_in c.args.s.now) c.args.left frames) c.args.named part part1 _ c.loop-p.invariant
+          child-given2 child-given1,
+    )
+
+pub equal_parts-returns-then-not-names_agree : goal.equal_parts-returns-then-not-names_agree
+equal_parts-returns-then-not-names_agree t c =
+    let frames = frames_of c.args.s.now (table c.args.work.now) c.args.frames in
+    names_differ c.args.s.now (table c.args.work.now) (alike (sheet_in c.args.s.now) c.args.left frames) c.args.named
+    (part_at (sheet_in c.args.s.now) c.args.s.now (table c.args.work.now) frames c.args.a) (part_at (sheet_in c.args.s.now) c.args.s.now (table c.args.work.now) frames c.args.b) _ c.loop-p.invariant
+    (child_given c.loop-p.invariant.first c.next.ensures c.in-Is.p
+    c.in-Is.is)
+    (child_given c.loop-p.invariant.second c.next-in-loop-p.ensures c.in-Is-next-2.q
+    c.in-Is-next-2.is) c.names_agree.ensures c.if-not-names_agree.true
+
+pub equal_parts-value_node-requires : goal.equal_parts-value_node-requires
+equal_parts-value_node-requires t c =
+    let frames = frames_of c.args.s.now (table c.args.work.now) c.args.frames in
+    (value_there c.args.s.now (table c.args.work.now) c.args.named
+    (first_child c.args.s.now (table c.args.work.now) (alike (sheet_in c.args.s.now) c.args.left frames) c.args.named
+    (part_at (sheet_in c.args.s.now) c.args.s.now (table c.args.work.now) frames c.args.a) (part_at (sheet_in c.args.s.now) c.args.s.now (table c.args.work.now) frames c.args.b) _
+    c.loop-p.invariant
+    (child_given c.loop-p.invariant.first c.next.ensures c.in-Is.p
+    c.in-Is.is)
+    (child_given c.loop-p.invariant.second c.next-in-loop-p.ensures c.in-Is-next-2.q
+    c.in-Is-next-2.is))).1
+
+pub equal_parts-part_of-u-requires : goal.equal_parts-part_of-u-requires
+equal_parts-part_of-u-requires t c =
+    let frames = frames_of c.args.s.now (table c.args.work.now) c.args.frames in (
+      c.requires.1.0,
+      rw c.value_node.ensures
+          (value_there c.args.s.now (table c.args.work.now) c.args.named
+          (first_child c.args.s.now (table c.args.work.now) (alike (sheet_in c.args.s.now) c.args.left frames) c.args.named
+          (part_at (sheet_in c.args.s.now) c.args.s.now (table c.args.work.now) frames c.args.a) (part_at (sheet_in c.args.s.now) c.args.s.now (table c.args.work.now) frames c.args.b)
+          _ c.loop-p.invariant
+          (child_given c.loop-p.invariant.first c.next.ensures c.in-Is.p
+          c.in-Is.is)
+          (child_given c.loop-p.invariant.second c.next-in-loop-p.ensures c.in-Is-next-2.q
+          c.in-Is-next-2.is))).0,
+    )
+
+pub equal_parts-value_node-requires-in-loop-p : goal.equal_parts-value_node-requires-in-loop-p
+equal_parts-value_node-requires-in-loop-p t c =
+    let frames = frames_of c.args.s.now (table c.args.work.now) c.args.frames in
+    (value_there c.args.s.now (table c.args.work.now) c.args.named
+    (second_child c.args.s.now (table c.args.work.now) (alike (sheet_in c.args.s.now) c.args.left frames) c.args.named
+    (part_at (sheet_in c.args.s.now) c.args.s.now (table c.args.work.now) frames c.args.a) (part_at (sheet_in c.args.s.now) c.args.s.now (table c.args.work.now) frames c.args.b) _
+    c.loop-p.invariant
+    (child_given c.loop-p.invariant.first c.next.ensures c.in-Is.p
+    c.in-Is.is)
+    (child_given c.loop-p.invariant.second c.next-in-loop-p.ensures c.in-Is-next-2.q
+    c.in-Is-next-2.is))).1
+
+pub equal_parts-part_of-v-requires : goal.equal_parts-part_of-v-requires
+equal_parts-part_of-v-requires t c =
+    let frames = frames_of c.args.s.now (table c.args.work.now) c.args.frames in (
+      c.requires.1.0,
+      rw c.value_node-in-loop-p.ensures
+          (value_there c.args.s.now (table c.args.work.now) c.args.named
+          (second_child c.args.s.now (table c.args.work.now) (alike (sheet_in c.args.s.now) c.args.left frames) c.args.named
+          (part_at (sheet_in c.args.s.now) c.args.s.now (table c.args.work.now) frames c.args.a) (part_at (sheet_in c.args.s.now) c.args.s.now (table c.args.work.now) frames c.args.b)
+          _ c.loop-p.invariant
+          (child_given c.loop-p.invariant.first c.next.ensures c.in-Is.p
+          c.in-Is.is)
+          (child_given c.loop-p.invariant.second c.next-in-loop-p.ensures c.in-Is-next-2.q
+          c.in-Is-next-2.is))).0,
+    )
+
+pub equal_parts-equal_at-requires : goal.equal_parts-equal_at-requires
+equal_parts-equal_at-requires t c = (
+  part_falls c.args.left c.requires.0,
+  (c.requires.1.0, c.part_of-u.ensures.fits, c.part_of-v.ensures.fits),
+)
+
+pub equal_parts-returns-then-not-equal_at : goal.equal_parts-returns-then-not-equal_at
+equal_parts-returns-then-not-equal_at t c =
+    let frames = frames_of c.args.s.now (table c.args.work.now) c.args.frames in
+    parts-differ c.args.s.now (table c.args.work.now) (alike (sheet_in c.args.s.now) c.args.left frames) c.args.named
+    (part_at (sheet_in c.args.s.now) c.args.s.now (table c.args.work.now) frames c.args.a) (part_at (sheet_in c.args.s.now) c.args.s.now (table c.args.work.now) frames c.args.b) _ c.loop-p.invariant
+    (child_given c.loop-p.invariant.first c.next.ensures c.in-Is.p
+    c.in-Is.is)
+    (child_given c.loop-p.invariant.second c.next-in-loop-p.ensures c.in-Is-next-2.q
+    c.in-Is-next-2.is) c.names_agree.ensures c.if-not-names_agree.false
+    c.equal_at.ensures
+    (rw c.value_node.ensures at c.part_of-u.ensures.means)
+    (rw c.value_node-in-loop-p.ensures at c.part_of-v.ensures.means)
+    c.if-not-equal_at.true
+
+pub equal_parts-loop-p-smaller : goal.equal_parts-loop-p-smaller
+equal_parts-loop-p-smaller t c =
+    (child_given c.loop-p.inv.first c.next.ensures
+    c.in-Is.p c.in-Is.is).falls
+
+pub equal_parts-loop-p-preserved : goal.equal_parts-loop-p-preserved
+equal_parts-loop-p-preserved t c =
+    let frames = frames_of c.args.s.now (table c.args.work.now) c.args.frames in
+    parts_same c.args.s.now (table c.args.work.now) (alike (sheet_in c.args.s.now) c.args.left frames) c.args.named
+    (part_at (sheet_in c.args.s.now) c.args.s.now (table c.args.work.now) frames c.args.a) (part_at (sheet_in c.args.s.now) c.args.s.now (table c.args.work.now) frames c.args.b) _ c.loop-p.invariant
+    (child_given c.loop-p.invariant.first c.next.ensures c.in-Is.p
+    c.in-Is.is)
+    (child_given c.loop-p.invariant.second c.next-in-loop-p.ensures c.in-Is-next-2.q
+    c.in-Is-next-2.is) c.names_agree.ensures c.if-not-names_agree.false
+    c.equal_at.ensures
+    (rw c.value_node.ensures at c.part_of-u.ensures.means)
+    (rw c.value_node-in-loop-p.ensures at
+    c.part_of-v.ensures.means) c.if-not-equal_at.false

@@ -1,0 +1,45 @@
+-- `order::links::chain` meets its contract: the links that are written, and those still to be, are the whole chain.
+-- Assumes nothing.
+use native.Mathlib.Omega.{arith}
+use mathlib.Core.Path.{ap, refl, ◌∙◌}
+use Prim.Native.Nat.{◌-◌}
+use lib.ListN.{length, length-set}
+use Rattle.order.proofs.Chains.{Chaining, chained_end, chained_step}
+use Rattle.order.proofs.links.chain.Goals as goal
+
+pub loop-i-init : goal.loop-i-init
+loop-i-init c = record { long = refl; here = c.requires.0.here; within = omega arith; same = refl }
+
+pub overflow_cast-next : goal.overflow_cast-next
+overflow_cast-next c = omega (arith, c.shared_slice_known-in-loop-i-1.given c.loop-i.i)
+
+pub link-requires : goal.link-requires
+link-requires c =
+    record {
+      long = omega (arith, c.loop-i.invariant.long, c.requires.0.long);
+      here = c.loop-i.invariant.here;
+      there = omega (arith, c.requires.1 c.loop-i.i c.loop-i-test.true);
+    }
+
+pub loop-i-preserved : goal.loop-i-preserved
+loop-i-preserved c =
+    rw c.link.ensures
+    (chained_step c.loop-i.invariant c.loop-i-test.true
+    c.requires.1)
+
+pub link-requires-2 : goal.link-requires-2
+link-requires-2 c =
+    record {
+      long = omega (arith, c.loop-i.invariant.long, c.requires.0.long);
+      here = c.loop-i.invariant.here;
+      there = c.requires.0.there;
+    }
+
+pub shape_of-work : goal.shape_of-work
+shape_of-work c =
+    ap length c.link-2.ensures ∙ length-set c.loop-i.work _ _ ∙ c.loop-i.invariant.long
+
+pub returns : goal.returns
+returns c =
+    c.link-2.ensures ∙ chained_end c.loop-i.invariant
+    c.loop-i-test.false

@@ -1,0 +1,12 @@
+-- `order::order::clear_behind` meets its contract: the loop says that the words passed are zero.
+-- Assumes nothing.
+use native.Mathlib.Omega.{arith}
+use Prim.Native.Nat.{◌-◌}
+use Rattle.order.proofs.Clearing.{Clearing, cleared_all, cleared_one, clearing}
+use Rattle.order.proofs.order.clear_behind.Given as goal
+
+abbrev pub invariant-loop-k : goal.invariant-loop-k
+invariant-loop-k l = Clearing l.initial.work l.count l.work l.k
+
+abbrev pub decreases-loop-k : goal.decreases-loop-k
+decreases-loop-k l = 12288 - l.k

@@ -1,0 +1,56 @@
+-- `order::sort::join` meets its contract: it is in order, or the first part is copied and merged with the other.
+-- Assumes nothing.
+use mathlib.Core.Path.{ap, sym, ◌∙◌}
+use Prim.Native.Nat.{◌-◌}
+use native.Mathlib.Omega.{arith}
+use lib.ListN.{length}
+use Rattle.order.proofs.ByText.{text_get_d}
+use Rattle.order.proofs.Joining.{copied, front, halves, in_order_lem, merged}
+use borrow.Author.Rules.{rules}
+use Rattle.order.proofs.sort.join.Goals as goal
+
+pub overflow_cast-nodes : goal.overflow_cast-nodes
+overflow_cast-nodes c = omega (arith, c.slice_known-3-1.given (c.args.mid - 1))
+
+pub overflow_cast-nodes-2 : goal.overflow_cast-nodes-2
+overflow_cast-nodes-2 c = omega (arith, c.slice_known-4-1.given c.args.mid)
+
+pub is_after-requires : goal.is_after-requires
+is_after-requires c = (
+  c.requires.0.long,
+  text_get_d c.args.s.now c.args.work.now c.args.nodes.now (c.args.mid - 1) c.requires.0.texts (omega arith),
+  text_get_d c.args.s.now c.args.work.now c.args.nodes.now c.args.mid c.requires.0.texts c.requires.0.within,
+)
+
+pub slice_bounds-copy-end-then-is_after : goal.slice_bounds-copy-end-then-is_after
+slice_bounds-copy-end-then-is_after c =
+    sym (front c.args.s.now c.args.work.now c.args.nodes.now c.args.mid c.requires.0)
+
+pub copy-requires : goal.copy-requires
+copy-requires c =
+    rw (front c.args.s.now c.args.work.now c.args.nodes.now c.args.mid c.requires.0) c.requires.1
+
+pub slice_bounds-merge-end-then-is_after : goal.slice_bounds-merge-end-then-is_after
+slice_bounds-merge-end-then-is_after c =
+    sym
+    (ap length
+    (copied c.args.s.now c.args.work.now c.args.nodes.now c.args.mid c.requires.0
+    c.copy.new.to _ c.copy.ensures) ∙ front
+    c.args.s.now c.args.work.now c.args.nodes.now c.args.mid c.requires.0)
+
+pub merge-requires : goal.merge-requires
+merge-requires c =
+    halves c.args.s.now c.args.work.now c.args.nodes.now c.args.mid c.requires.0 _
+    (copied c.args.s.now c.args.work.now c.args.nodes.now c.args.mid c.requires.0 c.copy.new.to _
+    c.copy.ensures)
+
+pub returns-then-is_after : goal.returns-then-is_after
+returns-then-is_after c =
+    merged c.args.s.now c.args.work.now c.args.nodes.now c.args.mid c.requires.0 _
+    (copied c.args.s.now c.args.work.now c.args.nodes.now c.args.mid c.requires.0 c.copy.new.to _
+    c.copy.ensures) _ c.merge.ensures
+
+pub returns-else-is_after : goal.returns-else-is_after
+returns-else-is_after c =
+    in_order_lem c.args.s.now c.args.work.now c.args.nodes.now c.args.mid c.requires.0
+    (sym c.is_after.ensures ∙ c.if-is_after.false)

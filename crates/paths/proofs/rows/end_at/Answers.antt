@@ -1,0 +1,13 @@
+-- `operands::rows::end_at` meets its contract: the word is one of the rows.
+-- Assumes nothing.
+use borrow.Author.Rules.{rules}
+use Prim.Native.Nat.{◌*◌, ◌+◌}
+use Rattle.paths.proofs.Words.{row_word}
+use native.Mathlib.Omega.{arith}
+use Rattle.paths.proofs.rows.end_at.Goals as goal
+
+pub overflow_cast-result : goal.overflow_cast-result
+overflow_cast-result c = omega (arith, c.shared_slice_known-1.given (3 * c.args.node + 1))
+
+pub returns : goal.returns
+returns c = row_word c.args.work.now (3 * c.args.node + 1) (omega arith)

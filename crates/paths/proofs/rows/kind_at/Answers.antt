@@ -1,0 +1,11 @@
+-- `operands::rows::kind_at` meets its contract: the word is one of the rows.
+-- Assumes nothing.
+use borrow.Author.Rules.{rules}
+use mathlib.Core.Path.{ap}
+use Prim.Native.Nat.{ℕ, ◌%◌, ◌*◌}
+use Rattle.paths.proofs.Words.{row_word}
+use native.Mathlib.Omega.{arith}
+use Rattle.paths.proofs.rows.kind_at.Goals as goal
+
+returns : tie.Need-returns
+returns c = ap (λ (x : ℕ). x % 8) (row_word c.before.args.work.now (3 * c.before.args.node) (omega arith))

@@ -1,0 +1,14 @@
+-- `printing::lines::line_end` meets its contract: what was passed has no LF.
+-- Assumes nothing.
+use mathlib.Core.Path.{refl}
+use Prim.Native.Nat.{◌-◌}
+use lib.ListN.{length}
+use Rattle.printing.proofs.Splitting.{Passed, ends_here, never_ends, passes}
+use borrow.Author.Rules.{rules}
+use Rattle.printing.proofs.lines.line_end.Given as goal
+
+abbrev pub invariant-loop-at : goal.invariant-loop-at
+invariant-loop-at l = Passed l.text l.from l.at
+
+abbrev pub decreases-loop-at : goal.decreases-loop-at
+decreases-loop-at l = length l.text - l.at

@@ -1,0 +1,34 @@
+-- `printing::sheet::send` meets its contract: by the call.
+-- Assumes nothing.
+use borrow.Author.Rules.{rules}
+use Rattle.printing.proofs.sheet.send.Goals as goal
+
+pub returns-in-Evaluate : goal.returns-in-Evaluate
+returns-in-Evaluate c =
+    rw c.in-Evaluate.is
+    c.evaluate.ensures
+
+pub returns-in-Preconditions : goal.returns-in-Preconditions
+returns-in-Preconditions c =
+    rw c.in-Preconditions.is
+    c.check_preconditions.ensures
+
+pub returns-in-Invariants : goal.returns-in-Invariants
+returns-in-Invariants c =
+    rw c.in-Invariants.is
+    c.check_invariants.ensures
+
+pub returns-in-Select : goal.returns-in-Select
+returns-in-Select c =
+    rw c.in-Select.is
+    c.select_outcome.ensures
+
+pub returns-in-Admit : goal.returns-in-Admit
+returns-in-Admit c =
+    rw c.in-Admit.is
+    c.admit_state.ensures
+
+pub returns-in-Decide : goal.returns-in-Decide
+returns-in-Decide c =
+    rw c.in-Decide.is
+    c.decide.ensures

@@ -1,0 +1,32 @@
+-- Resolving and the walk over parts meet their contracts: what was seen so far and the parts left make the whole. What falls is the brackets left.
+-- Assumes nothing.
+use Prim.Native.Nat.{ℕ, ◌<◌}
+use mathlib.Core.Path.{sym, ◌∙◌}
+use Prim.Native.Nat.{ℕ, ◌<◌, ◌+◌, ◌*◌, ◌-◌}
+use Rattle.paths.specs.Lazy.{operand}
+use Rattle.members.specs.Sheet.{sheet_in}
+use Rattle.paths.specs.Stored.{frames_of, table, tree}
+use Rattle.resolving.proofs.Alike.{begin_room, value_there}
+use Rattle.resolving.proofs.Gathering.{plain_value}
+use Rattle.resolving.proofs.Marking.{ready_after}
+use Rattle.paths.proofs.Ordered.{child_end, child_given}
+use Rattle.resolving.proofs.Slices.{frames_length, node_room, part_falls, parts_falls}
+use Rattle.resolving.proofs.Wholes.{Gathering, gather_begin, gather_end, gather_on, gather_refused, this_child, this_shallow, whole_shallow}
+use borrow.Author.Rules.{rules}
+use native.Mathlib.Omega.{arith}
+use Rattle.resolving.proofs.resolve.+resolve_resolve_parts.Given as goal
+
+abbrev pub decreases-resolve : goal.decreases-resolve
+decreases-resolve l = 2 * l.left + 1
+
+abbrev pub decreases-resolve_parts : goal.decreases-resolve_parts
+decreases-resolve_parts l = 2 * l.left
+
+abbrev pub invariant-resolve_parts-loop-x : goal.invariant-resolve_parts-loop-x
+invariant-resolve_parts-loop-x l =
+    Gathering l.quiet l.s l.initial.work (sheet_in l.s) (frames_of l.s (table l.initial.work) l.frames) l.node l.frames.depth l.named
+    (l.left - 1) (operand (sheet_in l.s) (frames_of l.s (table l.initial.work) l.frames) (tree l.s (table l.initial.work) l.node)) l.work l.whole
+    l.c
+
+abbrev pub decreases-resolve_parts-loop-x : goal.decreases-resolve_parts-loop-x
+decreases-resolve_parts-loop-x l = l.c.left

@@ -1,0 +1,15 @@
+-- `search::borders::fill` meets its contract: the part is looked for in itself, and each place reached has its entry.
+-- Assumes nothing.
+use mathlib.Core.Path.{refl, ◌≡◌}
+use Prim.Native.Nat.{◌*◌, ◌+◌, ◌-◌, ◌≤◌}
+use native.Mathlib.Omega.{arith}
+use lib.ListN.{length, length-set}
+use Rattle.search.proofs.Laws.{Filling, fill_grow, fill_jump, fill_skip, filled, filling, read_border}
+use Rattle.search.proofs.borders.fill.Given as goal
+
+abbrev pub invariant-loop-start : goal.invariant-loop-start
+invariant-loop-start l =
+    (length l.part ≤ 65536) × (l.n ≡ length l.part) × (length l.table ≡ length l.initial.table) × Filling l.part l.table l.start l.k
+
+abbrev pub decreases-loop-start : goal.decreases-loop-start
+decreases-loop-start l = 2 * length l.part - (2 * l.start + l.k)

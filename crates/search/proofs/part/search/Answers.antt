@@ -1,0 +1,118 @@
+-- `search::part::search` meets its contract: every start before this one is refuted, and k bytes match from it on.
+-- Assumes nothing.
+use mathlib.Core.Path.{sym}
+use Prim.Native.Nat.{◌*◌, ◌+◌, ◌≤◌}
+use native.Mathlib.Omega.{arith}
+use borrow.Author.Rules.{rules}
+use Rattle.strings.proofs.Leaves.{was_byte, was_end}
+use Rattle.json_text.specs.Cursor.{weight}
+use Rattle.json_text.specs.Spans.{text_at}
+use Rattle.search.proofs.Reading.{Reading, read_end, read_found, read_grow, read-jump, read-skip, reading}
+use Rattle.search.proofs.part.search.Goals as goal
+
+abbrev invariant-search : tie.invariant-search
+invariant-search s text part table n x₀ k₀ x k = Reading s part (text_at s text) x k
+
+abbrev decreases-search : tie.decreases-search
+decreases-search s text part table n x₀ k₀ x k = 2 * weight s x.at x.left + k
+
+pub search-init : goal.search-init
+search-init c =
+    reading c.args.s.now c.args.part.now c.args.text c.begin-x.ensures
+    c.requires.0
+
+pub loop-k-init : goal.loop-k-init
+loop-k-init c = (c.search.invariant, omega arith)
+
+pub next-requires : goal.next-requires
+next-requires c = c.loop-k.invariant.0.on_text
+
+pub returns-in-End : goal.returns-in-End
+returns-in-End c =
+    sym
+    (read_end c.args.s.now c.args.part.now (text_at c.args.s.now c.args.text) c.loop-k.x c.loop-k.k c.loop-k.invariant.0
+    c.if-k-n.false
+    (was_end c.args.s.now c.loop-k.x c.next.ensures c.in-End.is))
+
+pub bounds-part-k : goal.bounds-part-k
+bounds-part-k c = omega (arith, c.loop-k.invariant.0.most)
+
+pub search-smaller-then-k-eq0 : goal.search-smaller-then-k-eq0
+search-smaller-then-k-eq0 c =
+    omega (
+      arith,
+      c.loop-k.invariant.1,
+      (was_byte c.in-Byte.t c.next.ensures c.in-Byte.is).falls,
+    )
+
+pub search-preserved-then-k-eq0 : goal.search-preserved-then-k-eq0
+search-preserved-then-k-eq0 c =
+    read-skip c.args.s.now c.args.part.now (text_at c.args.s.now c.args.text) c.loop-k.x c.loop-k.k c.loop-k.invariant.0
+    c.if-k-n.false _ _
+    (was_byte c.in-Byte.t c.next.ensures c.in-Byte.is)
+    c.if-t-part.true c.if-k-eq0.true
+
+pub offset_bounds-table-k : goal.offset_bounds-table-k
+offset_bounds-table-k c =
+    omega (
+      arith,
+      c.requires.1.room,
+      c.loop-k.invariant.0.most,
+    )
+
+pub bounds-table-k : goal.bounds-table-k
+bounds-table-k c =
+    omega (
+      arith,
+      c.requires.1.room,
+      c.loop-k.invariant.0.most,
+    )
+
+pub overflow_cast-k : goal.overflow_cast-k
+overflow_cast-k c =
+    omega (
+      arith,
+      (c.requires.1.border c.loop-k.k
+          (omega arith) (omega (arith, c.loop-k.invariant.0.most))).less,
+    )
+
+pub search-smaller : goal.search-smaller
+search-smaller c =
+    omega (
+      arith,
+      c.loop-k.invariant.1,
+      (c.requires.1.border c.loop-k.k
+          (omega arith) (omega (arith, c.loop-k.invariant.0.most))).less,
+    )
+
+pub search-preserved : goal.search-preserved
+search-preserved c =
+    read-jump c.args.s.now c.args.part.now (text_at c.args.s.now c.args.text) c.loop-k.x c.loop-k.k c.loop-k.invariant.0
+    c.if-k-n.false _ _
+    (was_byte c.in-Byte.t c.next.ensures c.in-Byte.is)
+    c.if-t-part.true _
+    (c.requires.1.border c.loop-k.k (omega arith) (omega (arith, c.loop-k.invariant.0.most)))
+
+pub overflow_add-k : goal.overflow_add-k
+overflow_add-k c = omega (arith, c.loop-k.invariant.0.most)
+
+pub loop-k-smaller : goal.loop-k-smaller
+loop-k-smaller c =
+    omega (
+      arith,
+      (was_byte c.in-Byte.t c.next.ensures c.in-Byte.is).falls,
+    )
+
+pub loop-k-preserved : goal.loop-k-preserved
+loop-k-preserved c =
+    let was-byte1 = was_byte c.in-Byte.t c.next.ensures c.in-Byte.is in (
+      read_grow c.args.s.now c.args.part.now (text_at c.args.s.now c.args.text) c.loop-k.x c.loop-k.k c.loop-k.invariant.0
+          c.if-k-n.false _ _ was-byte1 c.if-t-part.false,
+      omega (arith, c.loop-k.invariant.1, was-byte1.falls),
+    )
+
+pub returns : goal.returns
+returns c =
+    sym
+    (read_found c.args.s.now c.args.part.now (text_at c.args.s.now c.args.text) c.loop-k.x
+    c.loop-k.k c.loop-k.invariant.0 c.if-k-n.true)

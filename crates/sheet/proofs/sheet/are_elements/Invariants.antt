@@ -1,0 +1,20 @@
+-- `sheet::sheet::are_elements` meets its contract: the loop says that the elements from here on decide.
+-- Assumes nothing.
+use native.Mathlib.Omega.{arith}
+use mathlib.Core.Path.{refl, sym, ◌∙◌}
+use Prim.Native.Nat.{◌-◌}
+use borrow.Author.Tests.{not-false, not-true}
+use Rattle.json_text.specs.Table.{values_at}
+use Rattle.members.proofs.Elements.{right_here, wrong_here}
+use Rattle.members.proofs.Walks.{OverNodes, element_falls, element_node, no_element, room}
+use Rattle.members.specs.Verdicts.{all_of}
+use Rattle.members.specs.Wants.{element_ok}
+use Rattle.sheet.proofs.sheet.are_elements.Given as goal
+
+abbrev pub invariant-loop-k : goal.invariant-loop-k
+invariant-loop-k l =
+    OverNodes l.s l.work 64 l.end (all_of (element_ok l.element) (values_at l.s l.work l.from l.end)) (all_of (element_ok l.element))
+    l.k
+
+abbrev pub decreases-loop-k : goal.decreases-loop-k
+decreases-loop-k l = l.end - l.k

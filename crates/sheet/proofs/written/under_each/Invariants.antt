@@ -1,0 +1,22 @@
+-- `sheet::written::under_each` meets its contract: the loop says that the first fault from here on is the first of all.
+-- Assumes nothing.
+use native.Mathlib.Omega.{arith}
+use borrow.Author.Rules.{rules}
+use mathlib.Core.Path.{ap}
+use Prim.Native.Nat.{◌-◌}
+use Rattle.json_text.specs.Json.{elements}
+use Rattle.json_text.specs.Refusal.{not_carried, wrong_shape}
+use Rattle.json_text.specs.Table.{value_at}
+use Rattle.members.proofs.Soundness.{each_fault, each_none, each_on, each_sound, over_each, soundness}
+use Rattle.members.proofs.Walks.{OverNodes, element_falls, element_node, room}
+use Rattle.members.specs.Answers.{fault_is}
+use Rattle.members.specs.Sheet.{in_array, member_of_each}
+use Rattle.sheet.proofs.written.under_each.Given as goal
+
+abbrev pub invariant-loop-k : goal.invariant-loop-k
+invariant-loop-k l =
+    OverNodes l.s l.work 64 l.end (soundness (in_array l.word (value_at l.s l.work l.node)))
+    (λ vs. soundness (member_of_each l.word (elements vs))) l.k
+
+abbrev pub decreases-loop-k : goal.decreases-loop-k
+decreases-loop-k l = l.end - l.k

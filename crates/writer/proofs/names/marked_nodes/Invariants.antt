@@ -1,0 +1,13 @@
+-- `line::names::marked_nodes` meets its contract: what was found and the nodes from k on are all.
+-- Assumes nothing.
+use mathlib.Core.Logic.{⊎_elim}
+use native.Mathlib.Omega.{arith}
+use Rattle.writer.proofs.Gathered.{Gathering, gather, gathered, note, pass}
+use Prim.Native.Nat.{◌-◌}
+use Rattle.writer.proofs.names.marked_nodes.Given as goal
+
+abbrev pub invariant-loop-k : goal.invariant-loop-k
+invariant-loop-k l = Gathering l.work l.initial.nodes l.nodes l.count l.k
+
+abbrev pub decreases-loop-k : goal.decreases-loop-k
+decreases-loop-k l = 4096 - l.k
