@@ -1,2 +1,3 @@
 // `exists` and the pair forms of two resolved operands.
+#![tactic(auto)]
 pub mod comparison;

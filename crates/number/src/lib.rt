@@ -1,4 +1,5 @@
 // The exact order of two numbers by their characters.
+#![tactic(auto)]
 mod places;
 mod text;
 

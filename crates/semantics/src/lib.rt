@@ -1,2 +1,3 @@
 // Truth. What conditions mean stands in specs/, its laws in proofs/.
+#![tactic(auto)]
 pub mod truth;

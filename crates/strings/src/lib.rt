@@ -1,4 +1,6 @@
 // UTF-8, escapes, and texts of the sheet decoded as they are read; the rows of the node table.
+#![tactic(auto)]
+
 pub mod answer;
 pub mod escape;
 pub mod rows;
