@@ -1,6 +1,7 @@
 // Runs a stored list of conditions: each record is a sheet, a tab, and the line that Evaluate writes. Prints the first records that differ, and how
 // many do.
 #![tactic(auto)]
+
 use decision::sent::evaluate;
 use libc::STDOUT_FILENO;
 use records::{behind, find, is_line, more, whole};

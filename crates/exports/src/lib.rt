@@ -1,5 +1,6 @@
 // The calls for C and Rust, in a static library (include/intake.h). A slice crosses as a pointer and a length.
 #![tactic(auto)]
+
 ghost use Rattle.std.specs.Prelude.{◌≡◌, ◌<◌, ◌≤◌, length};
 ghost use Rattle.answers.specs.Entry.{admit, check_invariants, check_preconditions, decide, evaluate, select};
 ghost use Rattle.exports.specs.Exported.{Exported, word_of};

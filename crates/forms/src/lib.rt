@@ -1,3 +1,4 @@
 // The bracketed form of each answer and refusal.
 #![tactic(auto)]
+
 pub mod form;

@@ -1,6 +1,7 @@
 // The program: what its arguments ask, of a file or of standard input. The language has no exit status: what went wrong is said on standard error, and then
 // no further line stands on standard output.
 #![tactic(auto)]
+
 mod input;
 mod output;
 mod run;

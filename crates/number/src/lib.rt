@@ -1,5 +1,6 @@
 // The exact order of two numbers by their characters.
 #![tactic(auto)]
+
 mod places;
 mod text;
 

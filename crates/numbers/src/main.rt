@@ -1,5 +1,6 @@
 // Reads pairs of numbers, one pair to a line and a space between the two, and writes the order of each.
 #![tactic(auto)]
+
 ghost use Rattle.std.specs.Prelude.{◌≤◌, ◌<◌, length};
 
 use libc::{STDIN_FILENO, STDOUT_FILENO};

@@ -1,5 +1,6 @@
 // Binders in force, the roots of expressions, and the steps of a path over the node table.
 #![tactic(auto)]
+
 pub mod children;
 pub mod frames;
 pub mod member;

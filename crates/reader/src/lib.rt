@@ -1,5 +1,6 @@
 // Reading a sheet: its bytes become the node table, or the refusal that they show first. The definitions stand in specs/, the laws in proofs/.
 #![tactic(auto)]
+
 ghost use Rattle.strings.specs.Reads.{ReadTold};
 
 use strings::answer::{Parsed, Read, Refusal};

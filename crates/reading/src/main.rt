@@ -1,6 +1,7 @@
 // Reads texts on standard input, each behind a line with its length, and answers each in a line: the number of its refusal, or `ok` and for
 // each node its kind, where it starts and ends, and the node after it.
 #![tactic(auto)]
+
 ghost use Rattle.std.specs.Prelude.{◌+◌, ◌*◌, ◌≤◌, ◌<◌, length};
 
 use strings::answer::{Read, Refusal};

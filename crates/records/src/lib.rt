@@ -1,5 +1,6 @@
 // Stored lists on standard input: one record a line, its fields with a tab between. A list is read part by part.
 #![tactic(auto)]
+
 ghost use Rattle.std.specs.Prelude.{◌≡◌, ◌+◌, ◌≤◌, min, length};
 
 use libc::STDIN_FILENO;

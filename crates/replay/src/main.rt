@@ -1,6 +1,7 @@
 // Runs a stored list of calls: each record's number, line, output past the line and work table must be as the record says. Prints
 // the first that differ, how many ran and how many differ.
 #![tactic(auto)]
+
 ghost use Rattle.std.specs.Prelude.{◌<◌, ◌≤◌, length};
 
 use decision::sent::{

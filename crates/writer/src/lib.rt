@@ -1,5 +1,6 @@
 // Bytes, digits, quoted texts and lists laid into an output, or only counted where there is no room.
 #![tactic(auto)]
+
 pub mod answer;
 pub mod lay;
 pub mod names;
