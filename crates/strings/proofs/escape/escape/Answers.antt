@@ -3,7 +3,6 @@
 use native.Mathlib.Omega.{arith}
 use Prim.Native.Nat.{◌+◌}
 use Rattle.strings.proofs.Leaves.{escape_bad, escape_is, escape_none, escape_simple, escape_other, no-unit, plain_unit_lem, low_unit_lem, high_unit_lem, later, hex_was, hex_was_bad}
-use borrow.Author.Rules.{rules}
 use Rattle.strings.proofs.escape.escape.Goals as goal
 
 pub returns-then-s-at : goal.returns-then-s-at

@@ -2,7 +2,6 @@
 -- Assumes nothing.
 use native.Mathlib.Omega.{arith}
 use Rattle.strings.proofs.Leaves.{short, first_bad, second_bad, third_bad, fourth-bad, all-four}
-use borrow.Author.Rules.{rules}
 use Rattle.strings.proofs.escape.hex4.Goals as goal
 
 pub returns-then-s-at-lt4 : goal.returns-then-s-at-lt4

@@ -2,7 +2,6 @@
 -- Assumes nothing.
 use native.Mathlib.Omega.{arith}
 use Rattle.strings.proofs.Leaves.{decimal_is, upper_is, lower_is, no_digit}
-use borrow.Author.Rules.{rules}
 use Rattle.strings.proofs.escape.hex_digit.Goals as goal
 
 pub returns-in-48-to-57 : goal.returns-in-48-to-57

@@ -3,7 +3,6 @@
 use native.Mathlib.Omega.{arith}
 use Prim.Native.Nat.{◌+◌}
 use Rattle.strings.proofs.Leaves.{escape_bad, escape_is, high_short, not_backslash, not_u, no_low, wrong_low, good_low, hex_was, hex_was_bad}
-use borrow.Author.Rules.{rules}
 use Rattle.strings.proofs.escape.low_half.Goals as goal
 
 pub returns-then-s-at-lt2 : goal.returns-then-s-at-lt2

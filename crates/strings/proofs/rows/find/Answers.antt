@@ -2,12 +2,7 @@
 -- Assumes nothing.
 use native.Mathlib.Omega.{arith}
 use mathlib.Core.Path.{refl, sym, ◌∙◌}
-use Prim.Native.Nat.{◌-◌}
-use Rattle.strings.proofs.Members.{Searching, ended, name_room, value_room, on_name, here, falls, on}
-use Rattle.json_text.specs.Bytes.{find}
-use Rattle.json_text.specs.Json.{entries}
-use Rattle.json_text.specs.Spans.{text_at}
-use Rattle.json_text.specs.Table.{members_at}
+use Rattle.strings.proofs.Members.{ended, name_room, value_room, on_name, here, falls, on}
 use Rattle.strings.proofs.rows.find.Goals as goal
 
 pub loop-k-init : goal.loop-k-init

@@ -1,9 +1,7 @@
 -- `reader::rows::find` meets its contract: the loop says that the search from here on is the whole search.
 -- Assumes nothing.
-use native.Mathlib.Omega.{arith}
-use mathlib.Core.Path.{refl, sym, ◌∙◌}
 use Prim.Native.Nat.{◌-◌}
-use Rattle.strings.proofs.Members.{Searching, ended, name_room, value_room, on_name, here, falls, on}
+use Rattle.strings.proofs.Members.{Searching}
 use Rattle.json_text.specs.Bytes.{find}
 use Rattle.json_text.specs.Json.{entries}
 use Rattle.json_text.specs.Spans.{text_at}

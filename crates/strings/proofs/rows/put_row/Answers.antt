@@ -4,7 +4,6 @@ use lib.ListN.{length-set}
 use Prim.Native.Nat.{suc, ◌+◌, ◌*◌}
 use mathlib.Core.Path.{◌≡◌}
 use native.Mathlib.Omega.{arith}
-use borrow.Author.Rules.{rules}
 use Rattle.strings.proofs.rows.put_row.Goals as goal
 
 pub bounds-work-at-2 : goal.bounds-work-at-2

@@ -1,11 +1,8 @@
 -- `reader::text::compare` meets its contract: up to the first escape or difference the bytes of both texts are those of the sheet, and the same.
 -- Assumes nothing.
 use mathlib.Core.Path.{◌∙◌}
-use Prim.Native.Nat.{◌-◌}
 use native.Mathlib.Omega.{arith}
-use lib.ListN.{length}
-use Rattle.json_text.proofs.Cursor.{Abreast, abreast, abreast_end, abreast_in_a, abreast_in_b, abreast_less, abreast_more, abreast_on}
-use Rattle.json_text.proofs.Laws.{eqb_no}
+use Rattle.json_text.proofs.Cursor.{abreast, abreast_end, abreast_in_a, abreast_in_b, abreast_less, abreast_more, abreast_on}
 use Rattle.strings.specs.Answers.{order_of}
 use Rattle.strings.proofs.text.compare.Goals as goal
 
@@ -42,15 +39,15 @@ pub returns-then-c-d-2 : goal.returns-then-c-d-2
 unfolding order_of
 returns-then-c-d-2 c =
     abreast_less c.loop-a.invariant c.if-c-eq34.false
-    (eqb_no _ _ c.if-c-eq92.false) (eqb_no _ _ c.if-d-eq34.false)
-    (eqb_no _ _ c.if-d-eq92.false) c.if-c-d-2.true
+    c.if-c-eq92.false c.if-d-eq34.false
+    c.if-d-eq92.false c.if-c-d-2.true
 
 pub returns-then-c-d : goal.returns-then-c-d
 unfolding order_of
 returns-then-c-d c =
     abreast_more c.loop-a.invariant c.if-c-eq34.false
-    (eqb_no _ _ c.if-c-eq92.false) (eqb_no _ _ c.if-d-eq34.false)
-    (eqb_no _ _ c.if-d-eq92.false) (omega (arith, c.if-c-d.true, c.if-c-d-2.false))
+    c.if-c-eq92.false c.if-d-eq34.false
+    c.if-d-eq92.false (omega (arith, c.if-c-d.true, c.if-c-d-2.false))
 
 pub returns-then-c-eq34-2 : goal.returns-then-c-eq34-2
 unfolding order_of

@@ -1,12 +1,8 @@
 -- `reader::text::compare` meets its contract: up to the first escape or difference the bytes of both texts are those of the sheet, and the same.
 -- Assumes nothing.
-use mathlib.Core.Path.{◌∙◌}
 use Prim.Native.Nat.{◌-◌}
-use native.Mathlib.Omega.{arith}
 use lib.ListN.{length}
-use Rattle.json_text.proofs.Cursor.{Abreast, abreast, abreast_end, abreast_in_a, abreast_in_b, abreast_less, abreast_more, abreast_on}
-use Rattle.json_text.proofs.Laws.{eqb_no}
-use Rattle.strings.specs.Answers.{order_of}
+use Rattle.json_text.proofs.Cursor.{Abreast}
 use Rattle.strings.proofs.text.compare.Given as goal
 
 abbrev pub invariant-loop-a : goal.invariant-loop-a

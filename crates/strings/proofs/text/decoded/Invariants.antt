@@ -1,10 +1,6 @@
 -- `reader::text::decoded` meets its contract: the loop says that what the two cursors have before them is in the order of the two texts.
 -- Assumes nothing.
-use borrow.Author.Rules.{rules}
-use mathlib.Core.Path.{◌∙◌}
-use Rattle.strings.proofs.Leaves.{Comparing, comparing, was_end, was_byte, on}
-use Rattle.json_text.proofs.Cursor.{order_less, order_long, order_more, order_none, order_short}
-use Rattle.strings.specs.Answers.{order_of}
+use Rattle.strings.proofs.Leaves.{Comparing}
 use Rattle.json_text.specs.Cursor.{weight}
 use Rattle.strings.proofs.text.decoded.Given as goal
 

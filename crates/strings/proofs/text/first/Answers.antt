@@ -3,7 +3,6 @@
 use native.Mathlib.Omega.{arith}
 use mathlib.Core.Path.{refl}
 use Rattle.json_text.proofs.Cursor.{encode_1, encode_2, encode_3, encode_4}
-use borrow.Author.Rules.{rules}
 use Rattle.strings.proofs.text.first.Goals as goal
 
 pub returns-then-u-lt128 : goal.returns-then-u-lt128

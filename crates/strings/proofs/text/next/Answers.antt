@@ -5,7 +5,6 @@ use Rattle.strings.proofs.Leaves.{escape_was, escape_was_bad, first_taken}
 use Rattle.json_text.proofs.Cursor.{turn_1, turn_2, turn_3, turn_bad, turn_end, turn_escape, turn_raw}
 use Rattle.strings.specs.Answers.{Stepped}
 use Rattle.json_text.specs.Refusal.{not_json}
-use borrow.Author.Rules.{rules}
 use Rattle.strings.proofs.text.next.Goals as goal
 
 pub returns-then-left-eq1 : goal.returns-then-left-eq1

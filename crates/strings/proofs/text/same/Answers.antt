@@ -4,7 +4,6 @@ use native.Mathlib.Omega.{arith}
 use mathlib.Core.Path.{◌≡◌, ap, ◌∙◌}
 use Prim.Native.Nat.{ℕ}
 use Rattle.strings.proofs.Members.{apart, alike}
-use borrow.Author.Rules.{rules}
 use Rattle.strings.specs.Answers.{order_of}
 use Rattle.json_text.specs.Spans.{text_at}
 use Rattle.strings.proofs.text.same.Goals as goal

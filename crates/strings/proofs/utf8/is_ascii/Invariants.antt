@@ -1,10 +1,8 @@
 -- `reader::utf8::is_ascii` meets its contract: the greatest byte so far and what is left decide the whole.
 -- Assumes nothing.
-use mathlib.Core.Logic.{⊎_elim}
 use Prim.Native.Nat.{◌-◌}
 use lib.ListN.{length}
-use native.Mathlib.Omega.{arith}
-use Rattle.strings.proofs.Encoding.{Greatest, greatest_new, greatest_none, greatest_of_all, greatest_still}
+use Rattle.strings.proofs.Encoding.{Greatest}
 use Rattle.strings.proofs.utf8.is_ascii.Given as goal
 
 abbrev pub invariant-loop-at : goal.invariant-loop-at

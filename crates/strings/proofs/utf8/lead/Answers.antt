@@ -4,7 +4,6 @@ use Rattle.strings.proofs.Encoding.{leads, leads_ascii, leads_four, leads_never,
 use Rattle.json_text.specs.Utf8.{lead}
 use mathlib.Core.Path.{ap}
 use native.Mathlib.Omega.{arith}
-use borrow.Author.Rules.{rules}
 use Rattle.strings.proofs.utf8.lead.Goals as goal
 
 pub returns-then-c-lt128 : goal.returns-then-c-lt128

@@ -2,7 +2,6 @@
 -- Assumes nothing.
 use Rattle.strings.proofs.Encoding.{follows_first, follows_in, follows_out}
 use native.Mathlib.Omega.{arith}
-use borrow.Author.Rules.{rules}
 use Rattle.strings.proofs.utf8.next.Goals as goal
 
 pub returns-then-left-eq0 : goal.returns-then-left-eq0
