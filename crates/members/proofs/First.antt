@@ -371,6 +371,7 @@ sheet_rises s {low} {high} (field_ascends {from = f} {middle = m} {a = x} {t = t
 
 -- ---- the first fault is that of the least first byte
 begins_behind : (low high : ℕ) (cs : List Node) (d : Node) → Rises low high cs → OneOf d cs → low ≤ first_byte d
+begins_behind low high [] d r i = elim i [ ]
 begins_behind low high (c ∷ cs) d r here = r.0
 begins_behind low high (c ∷ cs) d r (there i) = omega (arith, r.0, begins_behind (first_byte c + 1) high cs d r.2 i)
 

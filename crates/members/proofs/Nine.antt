@@ -92,7 +92,7 @@ move_nine : (v : Value) → OnlyNine (a_move v)
 unfolding a_move
 move_nine v =
     bind (an_object v) _ (object_nine v)
-    (λ ms. bind (only (ascii "to" ∷ ascii "from" ∷ []) (keys ms)) _ (only_nine _ (keys ms))
+    (λ ms. bind (only (ascii "to" ∷ ascii "from" ∷ []) (keys ms)) _ (only_nine (ascii "to" ∷ ascii "from" ∷ []) (keys ms))
     (λ _. bind (required a_text (ascii "to") ms) _ (required_nine a_text text_nine (ascii "to") ms)
     (λ t. last (required some_texts (ascii "from") ms) _ (required_nine some_texts some_nine (ascii "from") ms))))
 
@@ -107,13 +107,13 @@ effect_nine v = go (as_text v)
               (an_object v >>= (λ ms. only (ascii "moves" ∷ []) (keys ms) >>= (λ _. required a_move (ascii "moves") ms)))
         ])
     go (some s) = else (find s effect_words)
-    go none = bind (an_object v) _ (object_nine v) (λ ms. bind (only (ascii "moves" ∷ []) (keys ms)) _ (only_nine _ (keys ms)) (λ _. required_nine a_move move_nine (ascii "moves") ms))
+    go none = bind (an_object v) _ (object_nine v) (λ ms. bind (only (ascii "moves" ∷ []) (keys ms)) _ (only_nine (ascii "moves" ∷ []) (keys ms)) (λ _. required_nine a_move move_nine (ascii "moves") ms))
 
 rule_nine : (v : Value) → OnlyNine (a_rule not_null v)
 unfolding a_rule
 rule_nine v =
     bind (an_object v) _ (object_nine v)
-    (λ ms. bind (only (ascii "assert" ∷ ascii "name" ∷ ascii "message" ∷ []) (keys ms)) _ (only_nine _ (keys ms))
+    (λ ms. bind (only (ascii "assert" ∷ ascii "name" ∷ ascii "message" ∷ []) (keys ms)) _ (only_nine (ascii "assert" ∷ ascii "name" ∷ ascii "message" ∷ []) (keys ms))
     (λ _. bind (required not_null (ascii "assert") ms) _ (required_nine not_null present_nine (ascii "assert") ms)
     (λ c. bind (optional a_text (ascii "name") ms) _ (optional_nine a_text text_nine (ascii "name") ms)
     (λ n. last (optional a_text (ascii "message") ms) _ (optional_nine a_text text_nine (ascii "message") ms)))))
@@ -126,7 +126,7 @@ unfolding an_outcome
 outcome_nine v =
     bind (an_object v) _ (object_nine v)
     (λ ms. bind (only (ascii "name" ∷ ascii "when" ∷ ascii "in_state" ∷ ascii "wrong_state" ∷ ascii "effect" ∷ []) (keys ms)) _
-    (only_nine _ (keys ms))
+    (only_nine (ascii "name" ∷ ascii "when" ∷ ascii "in_state" ∷ ascii "wrong_state" ∷ ascii "effect" ∷ []) (keys ms))
     (λ _. bind (required a_text (ascii "name") ms) _ (required_nine a_text text_nine (ascii "name") ms)
     (λ n. bind (optional not_null (ascii "when") ms) _ (optional_nine not_null present_nine (ascii "when") ms)
     (λ c. bind (optional a_text (ascii "in_state") ms) _ (optional_nine a_text text_nine (ascii "in_state") ms)

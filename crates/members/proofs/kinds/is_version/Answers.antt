@@ -1,9 +1,7 @@
 -- `sheet::kinds::is_version` meets its contract: the loop says that the digits from here on decide, after the number that was read.
 -- Assumes nothing.
 use native.Mathlib.Omega.{arith}
-use Prim.Native.Nat.{◌-◌}
-use lib.Seq.{slice}
-use Rattle.members.proofs.Digits.{Counting, a_digit, above_digits, below_digits, counting, digits_ended, no_digit, one_more, too_many}
+use Rattle.members.proofs.Digits.{a_digit, above_digits, below_digits, counting, digits_ended, no_digit, one_more, too_many}
 use Rattle.members.proofs.kinds.is_version.Goals as goal
 
 pub loop-i-init : goal.loop-i-init
@@ -25,12 +23,9 @@ returns-then-c-gt57 c =
 pub overflow_mul-n : goal.overflow_mul-n
 overflow_mul-n c = omega (arith, c.loop-i.invariant.small)
 
-pub overflow_cast-n : goal.overflow_cast-n
-overflow_cast-n c = omega (arith, c.shared_slice_known-1.given c.loop-i.i)
-
 pub overflow_add-n : goal.overflow_add-n
 overflow_add-n c =
-    omega (arith, c.loop-i.invariant.small, c.shared_slice_known-1.given c.loop-i.i)
+    omega (arith, c.loop-i.invariant.small)
 
 pub returns-then-n-gt4294967295 : goal.returns-then-n-gt4294967295
 returns-then-n-gt4294967295 c =

@@ -7,6 +7,7 @@ use Rattle.members.proofs.Walks.{falls, name_room, no_member, on_name, value_roo
 use Rattle.json_text.specs.Table.{members_at}
 use mathlib.Core.Path.{refl, sym}
 use Rattle.members.proofs.Names.{Knowing, all_known, known_name, unknown_name}
+use Rattle.members.specs.Kinds.{only}
 use Rattle.members.specs.Words.{words}
 use Rattle.members.proofs.member.only.Goals as goal
 

@@ -3,11 +3,11 @@
 use native.Mathlib.Omega.{arith}
 use Prim.Native.Nat.{◌-◌}
 use lib.ListN.{length}
-use mathlib.Core.Logic.{⊎_elim}
 use mathlib.Core.Path.{sym, ◌∙◌}
 use Rattle.json_text.specs.Spans.{text_at}
 use Rattle.members.proofs.Words.{Listing, list_ended, listed, listing, listing_at, next_word, other_word, same_word}
 use Rattle.members.specs.Answers.{place_of}
+use Rattle.members.proofs.word.which.Goals.{else-names-from, else-names-i-eq44, then-names-from+else-is_word, then-names-i-eq44}
 use Rattle.members.proofs.word.which.Goals as goal
 
 pub head-first-requires : goal.head-first-requires
@@ -56,13 +56,18 @@ loop-i-smaller c = omega (arith, c.loop-i-test.true)
 
 pub loop-i-preserved : goal.loop-i-preserved
 loop-i-preserved c =
-    ⊎_elim
-    (λ w. listing_at w.3 w.4
-    (next_word c.loop-i.invariant c.loop-i-test.true w.0.taken
-    (⊎_elim (λ v. sym v.3.left ∙ v.2.ensures)
-    (λ v. other_word c.loop-i.invariant c.loop-i-test.true w.0.taken
-    (λ e. v.left (e ∙ sym c.head-first.ensures))) w.2.came)))
-    (λ w. listing_at w.1 w.2 (same_word c.loop-i.invariant c.loop-i-test.true w.0.left)) c.if-names-i-eq44.branch
+    elim c.if-names-i-eq44.branch [
+      | then-names-i-eq44 w ↦
+          listing_at w.n-is w.from-is
+          (next_word c.loop-i.invariant c.loop-i-test.true w.if-names-i-eq44.true
+          (elim w.if-names-from.branch [
+            | then-names-from+else-is_word v ↦ sym v.if-is_word.false ∙ v.is_word.ensures
+            | else-names-from v ↦
+                other_word c.loop-i.invariant c.loop-i-test.true w.if-names-i-eq44.true
+                (λ e. v.if-names-from.false (e ∙ sym c.head-first.ensures))
+          ]))
+      | else-names-i-eq44 w ↦ listing_at w.n-is w.from-is (same_word c.loop-i.invariant c.loop-i-test.true w.if-names-i-eq44.false)
+    ]
 
 pub returns : goal.returns
 unfolding place_of

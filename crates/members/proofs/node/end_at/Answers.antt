@@ -1,9 +1,0 @@
--- `sheet::node::end_at` meets its contract: read from the row.
--- Assumes nothing.
-use native.Mathlib.Omega.{arith}
-use Prim.Native.Nat.{◌*◌, ◌+◌}
-use borrow.Author.Rules.{rules}
-use Rattle.members.proofs.node.end_at.Goals as goal
-
-pub overflow_cast-result : goal.overflow_cast-result
-overflow_cast-result c = omega (arith, c.shared_slice_known-1.given (3 * c.args.node + 1))
