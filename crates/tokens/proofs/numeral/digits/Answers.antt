@@ -1,11 +1,6 @@
 -- `digits` meets its contract: the loop says that what stands at the start stands here.
 -- Assumes nothing.
-use Prim.Native.Nat.{◌-◌, ◌≤◌}
 use native.Mathlib.Omega.{arith}
-use borrow.Author.Rules.{rules}
-use borrow.Author.Tests.{not-false}
-use lib.ListN.{length}
-use Rattle.tokens.specs.Numbering.{Reaches}
 use Rattle.tokens.proofs.Numbers.{over_digit}
 use Rattle.tokens.proofs.numeral.digits.Goals as goal
 
@@ -14,7 +9,7 @@ loop-here-init c = (c.requires.0, λ at n. n)
 
 pub loop-here-preserved : goal.loop-here-preserved
 loop-here-preserved c =
-    let d = c.is_digit.ensures (not-false _ c.if-not-is_digit.false) in (
+    let d = c.is_digit.ensures c.if-not-is_digit.false in (
       omega (arith, c.loop-here-test.true),
       over_digit _ c.loop-here.here c.loop-here.left c.requires.1 c.loop-here.invariant.1 c.loop-here-test.true
           c.if-left-eq0.false d.0 d.1,

@@ -2,7 +2,6 @@
 -- Assumes nothing.
 use Rattle.strings.specs.Answers.{scan_of}
 use mathlib.Core.Path.{sym, ◌∙◌}
-use borrow.Author.Rules.{rules}
 use Rattle.tokens.proofs.numeral.ending.Goals as goal
 
 pub returns-then-complete : goal.returns-then-complete

@@ -2,7 +2,6 @@
 -- Assumes nothing.
 use Rattle.tokens.proofs.Numbers.{first_none, first_whole}
 use native.Mathlib.Omega.{arith}
-use borrow.Author.Rules.{rules}
 use Rattle.tokens.proofs.numeral.first.Goals as goal
 
 pub returns-in-49-to-57 : goal.returns-in-49-to-57
@@ -10,14 +9,14 @@ returns-in-49-to-57 c = (first_whole c.args.c (omega arith) (omega arith), omega
 
 pub returns-in_default : goal.returns-in_default
 returns-in_default c = (
-  first_none c.args.c c.in_default-1.rest.0.1 c.in_default-1.rest.1
+  first_none c.args.c (λ e. omega arith) (λ e. omega arith)
       (λ p q. omega arith),
   omega arith,
 )
 
 pub returns-in_default-2 : goal.returns-in_default-2
 returns-in_default-2 c = (
-  first_none c.args.c c.in_default-1.rest.0.1
-      c.in_default-1.rest.1 (λ p q. omega arith),
+  first_none c.args.c (λ e. omega arith)
+      (λ e. omega arith) (λ p q. omega arith),
   omega arith,
 )

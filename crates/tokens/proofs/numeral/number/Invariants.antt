@@ -1,13 +1,8 @@
 -- `number` meets its contract: the loop says that the rest of the number decides the whole.
 -- Assumes nothing.
 use Rattle.tokens.specs.Numbering.{Numbering}
-use Rattle.tokens.proofs.Numbers.{at_end, at_stop, on, too_long}
-use Rattle.strings.specs.Answers.{scan_of}
 use lib.ListN.{length}
 use Prim.Native.Nat.{◌-◌}
-use mathlib.Core.Path.{◌∙◌}
-use borrow.Author.Rules.{rules}
-use native.Mathlib.Omega.{arith}
 use Rattle.tokens.proofs.numeral.number.Given as goal
 
 abbrev pub invariant-loop-here : goal.invariant-loop-here

@@ -4,7 +4,6 @@ use Rattle.tokens.proofs.Numbers.{leads}
 use mathlib.Core.Logic.{inl, inr}
 use mathlib.Core.Path.{refl}
 use native.Mathlib.Omega.{arith}
-use borrow.Author.Rules.{rules}
 use Rattle.tokens.proofs.numeral.onward.Goals as goal
 
 pub returns-in-0-class : goal.returns-in-0-class

@@ -64,5 +64,5 @@ returns-in_default-class-3 c = (
   omega arith,
 )
 
-returns-8 : tie.Need-returns-8
-returns-8 c = let e : c.before.args.place ≡ 8 = omega arith in (rw e, omega arith)
+pub returns-in_default : goal.returns-in_default
+returns-in_default c = let e : c.args.place ≡ 8 = omega arith in (rw e, omega arith)

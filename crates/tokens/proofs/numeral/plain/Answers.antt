@@ -3,7 +3,6 @@
 use mathlib.Core.Logic.{inr}
 use mathlib.Core.Path.{refl}
 use native.Mathlib.Omega.{arith}
-use borrow.Author.Rules.{rules}
 use Rattle.tokens.proofs.numeral.plain.Goals as goal
 
 pub overflow_sub-whole : goal.overflow_sub-whole

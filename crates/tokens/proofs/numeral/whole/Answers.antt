@@ -3,7 +3,6 @@
 use mathlib.Core.Logic.{inl}
 use native.Mathlib.Omega.{arith}
 use Rattle.tokens.proofs.Numbers.{numbering}
-use borrow.Author.Rules.{rules}
 use Rattle.tokens.proofs.numeral.whole.Goals as goal
 
 pub digits-requires : goal.digits-requires

@@ -2,7 +2,6 @@
 -- Assumes nothing.
 use lib.ListN.{get_or-eq_default}
 use mathlib.Core.Path.{sym}
-use borrow.Author.Rules.{rules}
 use Rattle.tokens.proofs.scan.byte_at.Goals as goal
 
 pub returns : goal.returns

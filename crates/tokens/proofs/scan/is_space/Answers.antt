@@ -1,5 +1,6 @@
 -- `reader::scan::is_space` meets its contract: by the byte.
 -- Assumes nothing.
+use native.Mathlib.Omega.{arith}
 use mathlib.Core.Path.{refl}
 use Rattle.strings.proofs.Leaves.{is_space_lem, no_space}
 use Rattle.tokens.proofs.scan.is_space.Goals as goal
@@ -18,5 +19,5 @@ returns-in-13 c = is_space_lem c.args.c 13 c.in-13.is refl
 
 pub returns-in_default : goal.returns-in_default
 returns-in_default c =
-    no_space c.args.c c.in_default.rest.0.0.0.1 c.in_default.rest.0.0.1
-    c.in_default.rest.0.1 c.in_default.rest.1
+    no_space c.args.c (λ e. omega arith) (λ e. omega arith)
+    (λ e. omega arith) (λ e. omega arith)

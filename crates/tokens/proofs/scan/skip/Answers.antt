@@ -1,12 +1,7 @@
 -- `reader::scan::skip` meets its contract: the loop says that skipping from here on is the whole.
 -- Assumes nothing.
 use native.Mathlib.Omega.{arith}
-use borrow.Author.Rules.{rules}
 use mathlib.Core.Path.{refl, sym, ◌∙◌}
-use Prim.Native.Nat.{◌-◌}
-use lib.ListN.{length}
-use borrow.Author.Tests.{not-true, not-false}
-use Rattle.strings.proofs.Leaves.{Skipping}
 use Rattle.tokens.proofs.Scans.{skip_none, skip_on, skip_stop}
 use Rattle.tokens.proofs.scan.skip.Goals as goal
 
@@ -18,7 +13,7 @@ returns-then-not-is_space c =
     sym
     (c.loop-here.invariant.same ∙ skip_stop c.args.s.now c.loop-here.here
     c.loop-here-test.true
-    (sym c.is_space.ensures ∙ not-true _ c.if-not-is_space.true))
+    (sym c.is_space.ensures ∙ c.if-not-is_space.true))
 
 pub loop-here-preserved : goal.loop-here-preserved
 loop-here-preserved c =
@@ -26,7 +21,7 @@ loop-here-preserved c =
       upto = omega arith;
       same = c.loop-here.invariant.same ∙ skip_on c.args.s.now c.loop-here.here
           c.loop-here-test.true
-          (sym c.is_space.ensures ∙ not-false _ c.if-not-is_space.false);
+          (sym c.is_space.ensures ∙ c.if-not-is_space.false);
     }
 
 pub returns : goal.returns

@@ -1,13 +1,8 @@
 -- `reader::scan::skip` meets its contract: the loop says that skipping from here on is the whole.
 -- Assumes nothing.
-use native.Mathlib.Omega.{arith}
-use borrow.Author.Rules.{rules}
-use mathlib.Core.Path.{refl, sym, ◌∙◌}
 use Prim.Native.Nat.{◌-◌}
 use lib.ListN.{length}
-use borrow.Author.Tests.{not-true, not-false}
 use Rattle.strings.proofs.Leaves.{Skipping}
-use Rattle.tokens.proofs.Scans.{skip_none, skip_on, skip_stop}
 use Rattle.tokens.proofs.scan.skip.Given as goal
 
 abbrev pub invariant-loop-here : goal.invariant-loop-here

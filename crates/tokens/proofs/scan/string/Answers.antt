@@ -1,11 +1,8 @@
 -- `reader::scan::string` meets its contract: the loop says that the scan from here on is the whole scan.
 -- Assumes nothing.
 use native.Mathlib.Omega.{arith}
-use borrow.Author.Rules.{rules}
 use mathlib.Core.Path.{refl, ◌∙◌}
-use Prim.Native.Nat.{◌-◌}
-use lib.ListN.{length}
-use Rattle.strings.proofs.Leaves.{Scanning, escape_was, escape_was_bad}
+use Rattle.strings.proofs.Leaves.{escape_was, escape_was_bad}
 use Rattle.tokens.proofs.Scans.{scan_bad, scan_control, scan_escape, scan_none, scan_quote, scan_raw}
 use Rattle.strings.specs.Answers.{scan_of}
 use Rattle.tokens.proofs.scan.string.Goals as goal
@@ -36,11 +33,8 @@ returns-in-Bad c =
 
 pub loop-here-smaller-in-Is : goal.loop-here-smaller-in-Is
 loop-here-smaller-in-Is c =
-    omega (
-      arith,
-      (escape_was c.in-Is.given.0.0 c.escape.ensures c.in-Is.given.1).2,
-      (escape_was c.in-Is.given.0.0 c.escape.ensures c.in-Is.given.1).3,
-    )
+    let w = escape_was c.in-Is.x c.escape.ensures c.in-Is.is in
+    omega arith
 
 pub loop-here-preserved-in-Is : goal.loop-here-preserved-in-Is
 loop-here-preserved-in-Is c =

@@ -1,13 +1,8 @@
 -- `reader::scan::string` meets its contract: the loop says that the scan from here on is the whole scan.
 -- Assumes nothing.
-use native.Mathlib.Omega.{arith}
-use borrow.Author.Rules.{rules}
-use mathlib.Core.Path.{refl, ◌∙◌}
 use Prim.Native.Nat.{◌-◌}
 use lib.ListN.{length}
-use Rattle.strings.proofs.Leaves.{Scanning, escape_was, escape_was_bad}
-use Rattle.tokens.proofs.Scans.{scan_bad, scan_control, scan_escape, scan_none, scan_quote, scan_raw}
-use Rattle.strings.specs.Answers.{scan_of}
+use Rattle.strings.proofs.Leaves.{Scanning}
 use Rattle.tokens.proofs.scan.string.Given as goal
 
 abbrev pub invariant-loop-here : goal.invariant-loop-here

@@ -1,9 +1,7 @@
 -- `reader::scan::word` meets its contract: the loop says that the rest of the word at this place decides the whole.
 -- Assumes nothing.
-use Rattle.strings.proofs.Leaves.{Wording, word_apart, word_done, word_on, word_short}
+use Rattle.strings.proofs.Leaves.{word_apart, word_done, word_on, word_short}
 use Rattle.strings.specs.Answers.{scan_of}
-use lib.ListN.{length}
-use Prim.Native.Nat.{◌-◌}
 use mathlib.Core.Path.{refl}
 use native.Mathlib.Omega.{arith}
 use Rattle.tokens.proofs.scan.word.Goals as goal
