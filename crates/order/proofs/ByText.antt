@@ -72,7 +72,7 @@ module _ (s : Bytes) (w : List ℕ) where
   text_all [] f = tt
   text_all (n ∷ ns) f = (f n (Memᴰ.head refl), text_all ns (λ m i. f m (Memᴰ.tail i)))
 
-  pub text_one : (ns : List ℕ) {n : ℕ} → TextNodes s w ns → Memᴰ n ns → TextNode s w n
+  pub text_one : {n : ℕ} (ns : List ℕ) → TextNodes s w ns → Memᴰ n ns → TextNode s w n
   unfolding TextNodes
   text_one ns t (Memᴰ.head e) = rw e t.0
   text_one ns t (Memᴰ.tail {xs = ms} i) = text_one ms t.1 i

@@ -2,16 +2,12 @@
 -- Assumes nothing.
 use native.Mathlib.Omega.{arith}
 use mathlib.Core.Path.{ap, refl, ◌∙◌}
-use Prim.Native.Nat.{◌-◌}
 use lib.ListN.{length, length-set}
-use Rattle.order.proofs.Chains.{Chaining, chained_end, chained_step}
+use Rattle.order.proofs.Chains.{chained_end, chained_step}
 use Rattle.order.proofs.links.chain.Goals as goal
 
 pub loop-i-init : goal.loop-i-init
 loop-i-init c = record { long = refl; here = c.requires.0.here; within = omega arith; same = refl }
-
-pub overflow_cast-next : goal.overflow_cast-next
-overflow_cast-next c = omega (arith, c.shared_slice_known-in-loop-i-1.given c.loop-i.i)
 
 pub link-requires : goal.link-requires
 link-requires c =

@@ -1,10 +1,8 @@
 -- `order::links::chain` meets its contract: the links that are written, and those still to be, are the whole chain.
 -- Assumes nothing.
-use native.Mathlib.Omega.{arith}
-use mathlib.Core.Path.{ap, refl, ◌∙◌}
 use Prim.Native.Nat.{◌-◌}
-use lib.ListN.{length, length-set}
-use Rattle.order.proofs.Chains.{Chaining, chained_end, chained_step}
+use lib.ListN.{length}
+use Rattle.order.proofs.Chains.{Chaining}
 use Rattle.order.proofs.links.chain.Given as goal
 
 abbrev pub invariant-loop-i : goal.invariant-loop-i

@@ -1,8 +1,7 @@
 -- `order::order::clear_behind` meets its contract: the loop says that the words passed are zero.
 -- Assumes nothing.
 use native.Mathlib.Omega.{arith}
-use Prim.Native.Nat.{◌-◌}
-use Rattle.order.proofs.Clearing.{Clearing, cleared_all, cleared_one, clearing}
+use Rattle.order.proofs.Clearing.{cleared_all, cleared_one, clearing}
 use Rattle.order.proofs.order.clear_behind.Goals as goal
 
 pub loop-k-init : goal.loop-k-init

@@ -9,15 +9,14 @@ use Rattle.order.proofs.Ordering.{cleared_count, cleared_table, ordered}
 use Rattle.order.proofs.order.order.Goals as goal
 
 pub clear_behind-requires : goal.clear_behind-requires
-clear_behind-requires c =
-    (
-      c.requires.long,
-      omega (
-        arith,
-        c.after_at-count.ensures,
-        after_node c.args.s.now c.args.work.now c.requires.root,
-      ),
-    )
+clear_behind-requires c = (
+  c.requires.long,
+  omega (
+    arith,
+    c.after_at-count.ensures,
+    after_node c.args.s.now c.args.work.now c.requires.root,
+  ),
+)
 
 pub order_rows-requires : goal.order_rows-requires
 order_rows-requires c =
@@ -25,16 +24,16 @@ order_rows-requires c =
     omega (arith, c.clear_behind) in
     record {
       table = cleared_table c.requires c.after_at-count.ensures c.clear_behind.ensures long;
-      c.after_at-count.ensures = cleared_count c.requires c.after_at-count.ensures c.clear_behind.ensures long;
+      counted = cleared_count c.requires c.after_at-count.ensures c.clear_behind.ensures long;
       room = omega arith;
       more = omega arith;
     }
 
 pub returns : goal.returns
 returns c =
-    let long : length c.clear_behind.new.0 ≡ length c.args.work.now =
+    let long : length c.clear_behind.new.work ≡ length c.args.work.now =
     omega (arith, c.clear_behind) in
-    let still : length c.order_rows.new.1.0 ≡ length c.clear_behind.new.0 =
+    let still : length c.order_rows.new.work ≡ length c.clear_behind.new.work =
     omega (arith, c.order_rows) in
     ordered c.requires c.after_at-count.ensures c.clear_behind.ensures long
     c.order_rows.ensures still

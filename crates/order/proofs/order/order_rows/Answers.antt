@@ -1,6 +1,5 @@
 -- `order::order::order_rows` meets its contract: the objects passed are linked.
 -- Assumes nothing.
-use mathlib.Core.Logic.{⊎_elim}
 use mathlib.Core.Path.{ap, refl, subst, ◌∙◌, ◌≡◌}
 use Prim.Native.Nat.{ℕ, ◌-◌, ◌<◌, ◌≤◌}
 use native.Mathlib.Omega.{arith}
@@ -8,6 +7,7 @@ use lib.ListN.{length}
 use Rattle.order.proofs.Ordering.{row_within, its_members, linked_none, linked_one, passed}
 use Rattle.json_text.specs.Table.{after_at}
 use Rattle.order.specs.Ordered.{LinkedUpto}
+use Rattle.order.proofs.order.order_rows.Goals.{else-w-eq6, then-w-eq6}
 use Rattle.order.proofs.order.order_rows.Goals as goal
 
 pub loop-k-init : goal.loop-k-init
@@ -49,21 +49,23 @@ pub loop-k-preserved : goal.loop-k-preserved
 loop-k-preserved c =
     let below : c.loop-k.k < after_at c.args.work.now 0 =
     omega (arith, c.requires.counted, c.loop-k-test.true) in
-    ⊎_elim
-    (λ w. (
-      omega (arith, c.loop-k-test.true),
-      omega (arith, ap length w.11, w.4, c.loop-k.invariant.1),
-      omega (arith, ap length w.12, w.4, c.loop-k.invariant.2),
-      omega (arith, ap length w.13, w.4, c.loop-k.invariant.3),
-      rw (w.11 ∙ w.4.ensures) (linked_one c.requires.table c.loop-k.invariant.1 c.loop-k.invariant.4 below w.0.taken),
-    ))
-    (λ w. (
-      omega (arith, c.loop-k-test.true),
-      ap length w.1 ∙ c.loop-k.invariant.1,
-      ap length w.2 ∙ c.loop-k.invariant.2,
-      ap length w.3 ∙ c.loop-k.invariant.3,
-      rw w.1 (passed c.requires.table c.loop-k.invariant.1 c.loop-k.invariant.4 below w.0.left),
-    )) c.if-w-eq6.branch
+    elim c.if-w-eq6.branch [
+      | then-w-eq6 w ↦ (
+        omega (arith, c.loop-k-test.true),
+        omega (arith, ap length w.work-is, w.order_at, c.loop-k.invariant.1),
+        omega (arith, ap length w.names-is, w.order_at, c.loop-k.invariant.2),
+        omega (arith, ap length w.spare-is, w.order_at, c.loop-k.invariant.3),
+        rw (w.work-is ∙ w.order_at.ensures)
+            (linked_one c.requires.table c.loop-k.invariant.1 c.loop-k.invariant.4 below w.if-w-eq6.true),
+      )
+      | else-w-eq6 w ↦ (
+        omega (arith, c.loop-k-test.true),
+        ap length w.work-is ∙ c.loop-k.invariant.1,
+        ap length w.names-is ∙ c.loop-k.invariant.2,
+        ap length w.spare-is ∙ c.loop-k.invariant.3,
+        rw w.work-is (passed c.requires.table c.loop-k.invariant.1 c.loop-k.invariant.4 below w.if-w-eq6.false),
+      )
+    ]
 
 pub shape_of-work : goal.shape_of-work
 shape_of-work c = c.loop-k.invariant.1

@@ -13,7 +13,7 @@ use Rattle.order.proofs.sort.+sort.Goals as goal
 
 pub insert_each-requires : goal.insert_each-requires
 insert_each-requires t c =
-    (c.requires.1.0, c.requires.1.1)
+    (c.requires.0, c.requires.1)
 
 pub returns-then-n-lt9 : goal.returns-then-n-lt9
 returns-then-n-lt9 t c = c.insert_each.ensures
@@ -28,7 +28,7 @@ sort-requires t c =
     let l = length-take-le mid c.args.nodes.now (omega arith) in
     let falls : mid < t = omega arith in
     let fits : mid ≤ length c.args.spare.now = omega arith in
-    (rw l falls, (c.requires.1.0, text_take c.args.s.now c.args.work.now c.args.nodes.now mid c.requires.1.1, rw l fits))
+    (rw l falls, (c.requires.0, text_take c.args.s.now c.args.work.now c.args.nodes.now mid c.requires.1, rw l fits))
 
 pub sort-requires-2 : goal.sort-requires-2
 sort-requires-2 t c =
@@ -38,9 +38,9 @@ sort-requires-2 t c =
     let falls : length c.args.nodes.now - mid < t = omega arith in (
       rw l falls,
       (
-        c.requires.1.0,
+        c.requires.0,
         second_texts c.args.s.now c.args.work.now c.args.nodes.now c.sort.new.nodes mid (omega arith)
-            c.sort.ensures c.requires.1.1,
+            c.sort.ensures c.requires.1,
         rw l (search rules),
       ),
     )
@@ -49,7 +49,7 @@ pub join-requires : goal.join-requires
 join-requires t c =
     let mid = length c.args.nodes.now / 2 in (
       joinable c.args.s.now c.args.work.now c.args.nodes.now c.sort.new.nodes mid (omega arith)
-          c.sort.ensures c.sort-2.new.nodes c.sort-2.ensures c.requires.1.0 c.requires.1.1
+          c.sort.ensures c.sort-2.new.nodes c.sort-2.ensures c.requires.0 c.requires.1
           (omega arith) (omega arith),
       search rules,
     )
@@ -57,6 +57,6 @@ join-requires t c =
 pub returns : goal.returns
 returns t c =
     let mid = length c.args.nodes.now / 2 in
-    all_sorted c.args.s.now c.args.work.now c.args.nodes.now c.sort.last.1.1.0 mid (omega arith)
-    c.sort.ensures c.sort-2.last.1.1.0 c.sort-2.ensures _
+    all_sorted c.args.s.now c.args.work.now c.args.nodes.now c.sort.new.nodes mid (omega arith)
+    c.sort.ensures c.sort-2.new.nodes c.sort-2.ensures _
     c.join.ensures

@@ -1,13 +1,9 @@
 -- `order::sort::copy` meets its contract: what was copied so far, and then what stood there.
 -- Assumes nothing.
-use mathlib.Core.List.{List, ◌++◌}
-use mathlib.Core.Path.{refl, ◌∙◌, ◌≡◌}
-use Prim.Native.Nat.{ℕ, ◌+◌, ◌-◌, ◌<◌, ◌≤◌}
-use native.Mathlib.Nat.{zero-add}
-use native.Mathlib.Numerals.{add-one}
-use native.Mathlib.Omega.{arith}
-use lib.ListN.{drop, get_or, length, length-set, set, take}
-use lib.Seq.{paste-suc, take-length}
+use mathlib.Core.List.{◌++◌}
+use mathlib.Core.Path.{◌≡◌}
+use Prim.Native.Nat.{◌-◌, ◌≤◌}
+use lib.ListN.{drop, length, take}
 use Rattle.order.proofs.sort.copy.Given as goal
 
 abbrev pub invariant-loop-i : goal.invariant-loop-i

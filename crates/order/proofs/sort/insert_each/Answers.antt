@@ -48,5 +48,5 @@ pub shape_of-nodes : goal.shape_of-nodes
 shape_of-nodes c =
     ap length c.loop-i.invariant.1 ∙ sorted_long c.args.s.now c.args.work.now c.args.nodes.now c.loop-i.i c.loop-i.invariant.0
 
-returns : tie.Need-returns invariant-loop decreases-loop
-returns c = let z : c.before.loop.i ≡ 0 = omega arith in rw z at c.before.loop.invariant.1
+pub returns : goal.returns
+returns c = let z : c.loop-i.i ≡ 0 = omega arith in rw z at c.loop-i.invariant.1

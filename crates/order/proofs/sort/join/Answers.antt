@@ -9,12 +9,6 @@ use Rattle.order.proofs.Joining.{copied, front, halves, in_order_lem, merged}
 use borrow.Author.Rules.{rules}
 use Rattle.order.proofs.sort.join.Goals as goal
 
-pub overflow_cast-nodes : goal.overflow_cast-nodes
-overflow_cast-nodes c = omega (arith, c.slice_known-3-1.given (c.args.mid - 1))
-
-pub overflow_cast-nodes-2 : goal.overflow_cast-nodes-2
-overflow_cast-nodes-2 c = omega (arith, c.slice_known-4-1.given c.args.mid)
-
 pub is_after-requires : goal.is_after-requires
 is_after-requires c = (
   c.requires.0.long,

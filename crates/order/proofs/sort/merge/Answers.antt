@@ -1,10 +1,10 @@
 -- `order::sort::merge` meets its contract: a turn puts the least of what is left in its place.
 -- Assumes nothing.
-use mathlib.Core.Logic.{⊎_elim}
 use Prim.Native.Nat.{◌-◌}
 use native.Mathlib.Omega.{arith}
 use lib.ListN.{length}
 use Rattle.order.proofs.InPlace.{Merging, begins, ended, some_right, turn_left, turn_right}
+use Rattle.order.proofs.sort.merge.Goals.{else-right_first, then-right_first}
 use Rattle.order.proofs.sort.merge.Goals as goal
 
 pub loop-i-init : goal.loop-i-init
@@ -26,15 +26,16 @@ bounds-nodes-j c =
 
 pub loop-i-preserved : goal.loop-i-preserved
 loop-i-preserved c =
-    ⊎_elim
-    (λ w. rw (w.2, w.3, w.4)
-    (turn_right c.args.s.now c.args.work.now c.args.left.now c.args.nodes.now c.loop-i.nodes c.loop-i.i c.loop-i.j c.loop-i.k
-    c.loop-i.invariant c.loop-i-test.true _ c.right_first.ensures
-    w.0.taken))
-    (λ w. rw (w.2, w.3, w.4)
-    (turn_left c.args.s.now c.args.work.now c.args.left.now c.args.nodes.now c.loop-i.nodes c.loop-i.i c.loop-i.j c.loop-i.k
-    c.loop-i.invariant c.loop-i-test.true _ c.right_first.ensures
-    w.0.left)) c.if-right_first.branch
+    elim c.if-right_first.branch [
+      | then-right_first w ↦ rw (w.nodes-is, w.i-is, w.j-is)
+          (turn_right c.args.s.now c.args.work.now c.args.left.now c.args.nodes.now c.loop-i.nodes c.loop-i.i c.loop-i.j c.loop-i.k
+          c.loop-i.invariant c.loop-i-test.true _ c.right_first.ensures
+          w.if-right_first.true)
+      | else-right_first w ↦ rw (w.nodes-is, w.i-is, w.j-is)
+          (turn_left c.args.s.now c.args.work.now c.args.left.now c.args.nodes.now c.loop-i.nodes c.loop-i.i c.loop-i.j c.loop-i.k
+          c.loop-i.invariant c.loop-i-test.true _ c.right_first.ensures
+          w.if-right_first.false)
+    ]
 
 pub shape_of-nodes : goal.shape_of-nodes
 shape_of-nodes c = c.loop-i.invariant.long

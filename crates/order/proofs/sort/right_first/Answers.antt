@@ -8,17 +8,6 @@ use Rattle.order.specs.ByText.{is_above}
 use borrow.Author.Rules.{rules}
 use Rattle.order.proofs.sort.right_first.Goals as goal
 
-pub overflow_cast-left : goal.overflow_cast-left
-overflow_cast-left c =
-    omega (arith, c.shared_slice_known-then-j-right-1.given c.args.i)
-
-pub overflow_cast-right : goal.overflow_cast-right
-overflow_cast-right c =
-    omega (
-      arith,
-      c.shared_slice_known-then-j-right-2-1.given c.args.j,
-    )
-
 pub is_after-requires : goal.is_after-requires
 is_after-requires c = (
   c.requires.0,
