@@ -1,6 +1,5 @@
 -- `compare` meets its contract: by the signs, then by the magnitudes.
 -- Assumes nothing.
-use borrow.Author.Rules.{rules}
 use mathlib.Core.Path.{sym, ◌∙◌}
 use native.Mathlib.Omega.{arith}
 use Rattle.number.specs.Compare.{is_negative, is_nought, is_positive, scaled, sign_of}
@@ -58,7 +57,7 @@ returns-in_default c =
     let m = rank_most (sign_of (scaled c.args.left.now)) in
     c.magnitude-in_default.ensures ∙ sym
     (looked_at c.args.left.now c.args.right.now c.if-left-gt255.false c.if-right-gt255.false ∙ order_signed c.args.left.now c.args.right.now is_positive
-    (omega (arith, c.rank-i.ensures, m, c.in_default.rest))
+    (omega (arith, c.rank-i.ensures, m))
     (omega (
       arith,
       c.rank-i.ensures,
@@ -66,5 +65,4 @@ returns-in_default c =
       c.if-i-j.false,
       c.if-j-i.false,
       m,
-      c.in_default.rest,
     )))

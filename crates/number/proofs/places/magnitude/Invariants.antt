@@ -1,12 +1,8 @@
 -- `magnitude` meets its contract: the digits above the place that is looked at stand for the same number.
 -- Assumes nothing.
-use mathlib.Core.Path.{sym, ◌≡◌}
-use Prim.Native.Nat.{◌+◌, ◌-◌, ◌≤◌}
-use native.Mathlib.Omega.{arith}
+use mathlib.Core.Path.{◌≡◌}
+use Prim.Native.Nat.{◌≤◌}
 use lib.ListN.{drop}
-use Prim.Native.Nat.{Ordering}
-use Rattle.number.proofs.Columns.{above_same, equal_here, less_here}
-use Rattle.number.proofs.Exact.{cmp_is, less, more, same}
 use Rattle.number.specs.Places.{value}
 use Rattle.number.proofs.places.magnitude.Given as goal
 

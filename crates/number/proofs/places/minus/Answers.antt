@@ -1,9 +1,8 @@
 -- `minus` meets its contract: below the place that is looked at, the digits written and the second number make up the first, but for what is borrowed.
 -- Assumes nothing.
 use mathlib.Core.Path.{refl, sym, ◌≡◌}
-use Prim.Native.Nat.{◌-◌, ◌≤◌}
 use native.Mathlib.Omega.{arith}
-use Rattle.number.proofs.Columns.{Borrowing, all_borrowed, borrow_on, borrowing, none_written, written_digits}
+use Rattle.number.proofs.Columns.{all_borrowed, borrow_on, borrowing, none_written, written_digits}
 use Rattle.number.proofs.places.minus.Goals as goal
 
 pub loop-i-init : goal.loop-i-init
@@ -47,11 +46,10 @@ loop-i-preserved c = (
 
 pub returns : goal.returns
 returns c =
-    let e : c.loop-i.i ≡ c.args.count = omega arith in (
-      rw (sym e) (written_digits _ c.loop-i.i c.loop-i.invariant.1.written (omega (arith, c.requires.0.few))),
-      (
-        all_borrowed c.args.a.now c.args.b.now _ c.requires.0 c.requires.1 _ _ c.loop-i.i c.loop-i.invariant.1 (omega arith)
-            c.requires.2,
-        refl,
-      ),
-    )
+    let e : c.loop-i.i ≡ c.args.count = omega arith in record {
+      digits = rw (sym e) (written_digits _ c.loop-i.i c.loop-i.invariant.1.written (omega (arith, c.requires.0.few)));
+      b_value =
+          all_borrowed c.args.a.now c.args.b.now _ c.requires.0 c.requires.1 _ _ c.loop-i.i c.loop-i.invariant.1 (omega arith)
+          c.requires.2;
+      negative_value = refl;
+    }

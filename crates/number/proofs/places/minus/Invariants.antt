@@ -1,9 +1,7 @@
 -- `minus` meets its contract: below the place that is looked at, the digits written and the second number make up the first, but for what is borrowed.
 -- Assumes nothing.
-use mathlib.Core.Path.{refl, sym, ◌≡◌}
 use Prim.Native.Nat.{◌-◌, ◌≤◌}
-use native.Mathlib.Omega.{arith}
-use Rattle.number.proofs.Columns.{Borrowing, all_borrowed, borrow_on, borrowing, none_written, written_digits}
+use Rattle.number.proofs.Columns.{Borrowing}
 use Rattle.number.proofs.places.minus.Given as goal
 
 abbrev pub invariant-loop-i : goal.invariant-loop-i

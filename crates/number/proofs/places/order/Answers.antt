@@ -1,6 +1,5 @@
 -- `order` meets its contract: by the signs, and by the magnitudes where they agree.
 -- Assumes nothing.
-use borrow.Author.Rules.{rules}
 use mathlib.Core.Bool.{Bool}
 use mathlib.Core.Path.{ap₂, sym, ◌∙◌, ◌≡◌}
 use Prim.Native.Nat.{ℕ}
@@ -24,14 +23,14 @@ returns-then-x c =
     sym
     (by-signs (value c.args.a.now) (value c.args.b.now)
     c.if-x.true c.if-y.false ∙ first_negative _ _
-    (c.requires.a_nonzero.0 c.if-x.true))
+    (c.requires.a_nonzero c.if-x.true))
 
 pub returns-then-y-2 : goal.returns-then-y-2
 returns-then-y-2 c =
     sym
     (by-signs (value c.args.a.now) (value c.args.b.now)
     c.if-x.false c.if-y-2.true ∙ second_negative _ _
-    (c.requires.a_nonzero.1 c.if-y-2.true))
+    (c.requires.b_nonzero c.if-y-2.true))
 
 pub returns : goal.returns
 returns c =

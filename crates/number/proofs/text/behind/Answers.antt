@@ -1,6 +1,5 @@
 -- `behind` meets its contract.
 -- Assumes nothing.
-use borrow.Author.Rules.{rules}
 use Rattle.number.proofs.Steps.{behind_end, behind_here}
 use Rattle.number.proofs.text.behind.Goals as goal
 

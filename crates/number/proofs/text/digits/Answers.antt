@@ -1,11 +1,9 @@
 -- `digits` meets its contract: two cursors have before them what decides the order.
 -- Assumes nothing.
-use borrow.Author.Rules.{rules}
 use mathlib.Core.Path.{refl, sym, ◌∙◌}
-use Prim.Native.Nat.{◌-◌}
 use native.Mathlib.Omega.{arith}
 use Rattle.json_text.proofs.Cursor.{order_less, order_long, order_more, order_none, order_short}
-use Rattle.number.proofs.Steps.{Comparing, compare_on, was_byte, was_end}
+use Rattle.number.proofs.Steps.{compare_on, was_byte, was_end}
 use Rattle.number.proofs.text.digits.Goals as goal
 
 pub loop-q-init : goal.loop-q-init

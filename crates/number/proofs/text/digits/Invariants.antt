@@ -1,11 +1,7 @@
 -- `digits` meets its contract: two cursors have before them what decides the order.
 -- Assumes nothing.
-use borrow.Author.Rules.{rules}
-use mathlib.Core.Path.{refl, sym, ◌∙◌}
 use Prim.Native.Nat.{◌-◌}
-use native.Mathlib.Omega.{arith}
-use Rattle.json_text.proofs.Cursor.{order_less, order_long, order_more, order_none, order_short}
-use Rattle.number.proofs.Steps.{Comparing, compare_on, was_byte, was_end}
+use Rattle.number.proofs.Steps.{Comparing}
 use Rattle.number.proofs.text.digits.Given as goal
 
 abbrev pub invariant-loop-q : goal.invariant-loop-q

@@ -1,11 +1,7 @@
 -- `part` meets its contract: the end and the last digit that is not 0, as seen from each place.
 -- Assumes nothing.
-use borrow.Author.Rules.{rules}
 use mathlib.Core.Path.{refl, sym, ◌∙◌}
-use Prim.Native.Nat.{◌-◌}
-use native.Mathlib.Omega.{arith}
-use lib.ListN.{length}
-use Rattle.number.proofs.Parts.{Parting, part_end, part_other, part_stop, part_zero}
+use Rattle.number.proofs.Parts.{part_end, part_other, part_stop, part_zero}
 use Rattle.number.proofs.text.part.Goals as goal
 
 pub loop-at-init : goal.loop-at-init

@@ -1,6 +1,5 @@
 -- `point_at` meets its contract.
 -- Assumes nothing.
-use borrow.Author.Rules.{rules}
 use mathlib.Core.Path.{sym}
 use Rattle.number.proofs.Steps.{no_point, point_here}
 use Rattle.number.proofs.text.point_at.Goals as goal

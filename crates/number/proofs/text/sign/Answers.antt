@@ -1,6 +1,5 @@
 -- `sign` meets its contract.
 -- Assumes nothing.
-use borrow.Author.Rules.{rules}
 use borrow.Author.Tests.{eq-eqb, ne_eqb}
 use mathlib.Core.Bool.{false, true}
 use mathlib.Core.Path.{ap, sym}

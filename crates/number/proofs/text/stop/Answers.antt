@@ -1,6 +1,5 @@
 -- `stop` meets its contract.
 -- Assumes nothing.
-use borrow.Author.Rules.{rules}
 use borrow.Author.Tests.{ne_eqb}
 use mathlib.Core.Bool.{Bool}
 use mathlib.Core.Path.{ap, sym, ◌∙◌}

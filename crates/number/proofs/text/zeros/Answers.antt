@@ -1,10 +1,7 @@
 -- `zeros` meets its contract: the zeros passed and those to come are all of them.
 -- Assumes nothing.
 use mathlib.Core.Path.{refl}
-use Prim.Native.Nat.{◌-◌}
-use native.Mathlib.Omega.{arith}
-use lib.ListN.{length}
-use Rattle.number.proofs.Parts.{Skipping, skip_end, skip_on, skip_stop}
+use Rattle.number.proofs.Parts.{skip_end, skip_on, skip_stop}
 use Rattle.number.proofs.text.zeros.Goals as goal
 
 pub loop-at-init : goal.loop-at-init

@@ -1,10 +1,8 @@
 -- `zeros` meets its contract: the zeros passed and those to come are all of them.
 -- Assumes nothing.
-use mathlib.Core.Path.{refl}
 use Prim.Native.Nat.{◌-◌}
-use native.Mathlib.Omega.{arith}
 use lib.ListN.{length}
-use Rattle.number.proofs.Parts.{Skipping, skip_end, skip_on, skip_stop}
+use Rattle.number.proofs.Parts.{Skipping}
 use Rattle.number.proofs.text.zeros.Given as goal
 
 abbrev pub invariant-loop-at : goal.invariant-loop-at

@@ -1,12 +1,9 @@
 -- `Integer::parse` meets its contract: first the text is read from its end, then what is carried over goes into further digits.
 -- Assumes nothing.
-use borrow.Author.Rules.{rules}
 use mathlib.Core.Path.{refl, ap}
 use Prim.Native.Nat.{ℕ, ◌+◌, ◌-◌}
 use native.Mathlib.Omega.{arith}
-use lib.ListN.{drop}
-use Rattle.json_text.specs.Bytes.{natural}
-use Rattle.number.proofs.Columns.{Carrying, Reading, all_carried, all_read, carry_more, none_written, read_on, reading, room}
+use Rattle.number.proofs.Columns.{all_carried, all_read, carry_more, none_written, read_on, reading, room}
 use Rattle.number.proofs.places.Integer.parse.Goals as goal
 
 pub loop-i-init : goal.loop-i-init
@@ -23,7 +20,7 @@ overflow_add-t c =
       arith,
       c.digit.ensures,
       c.loop-i.invariant.small,
-      c.shared_slice_known-in-loop-i-1.given (c.loop-i.i - 1),
+      c.type_inv.s (c.loop-i.i - 1),
     )
 
 pub bounds-digits-count : goal.bounds-digits-count
@@ -47,7 +44,7 @@ loop-i-preserved c =
     read_on c.args.s.now c.args.at c.args.more c.requires.1 c.loop-i.digits c.loop-i.count
     c.loop-i.carry c.loop-i.i _ c.loop-i.invariant c.loop-i-test.true
     (ap (λ (z : ℕ). z + c.loop-i.carry) c.digit.ensures)
-    (omega (arith, c.shared_slice_known-in-loop-i-1.given (c.loop-i.i - 1)))
+    (omega (arith, c.type_inv.s (c.loop-i.i - 1)))
 
 pub loop-carry-init : goal.loop-carry-init
 loop-carry-init c =
@@ -64,4 +61,4 @@ pub loop-carry-preserved : goal.loop-carry-preserved
 loop-carry-preserved c = carry_more _ _ _ _ c.loop-carry.invariant c.loop-carry-test.true
 
 pub returns : goal.returns
-returns c = let e = all_carried _ _ _ _ c.loop-carry.invariant (omega arith) in (e.0, (e.1, refl))
+returns c = let e = all_carried _ _ _ _ c.loop-carry.invariant (omega arith) in record { digits = e.0; digits_value = e.1; negative_value = refl }

@@ -1,12 +1,9 @@
 -- `Integer::parse` meets its contract: first the text is read from its end, then what is carried over goes into further digits.
 -- Assumes nothing.
-use borrow.Author.Rules.{rules}
-use mathlib.Core.Path.{refl, ap}
-use Prim.Native.Nat.{ℕ, ◌+◌, ◌-◌}
-use native.Mathlib.Omega.{arith}
+use Prim.Native.Nat.{◌+◌}
 use lib.ListN.{drop}
 use Rattle.json_text.specs.Bytes.{natural}
-use Rattle.number.proofs.Columns.{Carrying, Reading, all_carried, all_read, carry_more, none_written, read_on, reading, room}
+use Rattle.number.proofs.Columns.{Carrying, Reading}
 use Rattle.number.proofs.places.Integer.parse.Given as goal
 
 abbrev pub invariant-loop-i : goal.invariant-loop-i

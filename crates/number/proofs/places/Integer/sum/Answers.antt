@@ -1,6 +1,5 @@
 -- `Integer::sum` meets its contract: by the signs, and by the magnitudes where they differ.
 -- Assumes nothing.
-use borrow.Author.Rules.{rules}
 use mathlib.Core.Bool.{false}
 use mathlib.Core.Path.{ap, refl, sym, ◌∙◌, ◌≡◌}
 use Prim.Native.Nat.{ℕ, ◌≤◌}
@@ -22,26 +21,28 @@ nothing s at h = rw (drop_of_length-le s {i = at} h, natural_nil) refl
 
 pub returns-then-at-end : goal.returns-then-at-end
 returns-then-at-end c =
-    held c.parse.result c.args.less c.parse.ensures.1.1 c.parse.ensures.0
-    (λ k. omega (arith, c.parse.ensures.1.0, c.requires.amount_nonzero k)) _
-    (sum_none _ _ _ c.args.negative c.args.less (nothing c.args.s.now c.args.at (omega arith)) c.parse.ensures.1.0)
+    let h = held c.parse.result c.args.less c.parse.ensures.negative_value c.parse.ensures.digits
+    (λ k. omega (arith, c.parse.ensures.digits_value, c.requires.amount_nonzero k)) _
+    (sum_none _ _ _ c.args.negative c.args.less (nothing c.args.s.now c.args.at (omega arith)) c.parse.ensures.digits_value) in
+    record { tidy = h.0; same = h.1 }
 
 pub returns-then-negative-less : goal.returns-then-negative-less
 returns-then-negative-less c =
-    held c.parse-then-negative-less.result c.args.less c.parse-then-negative-less.ensures.1.1 c.parse-then-negative-less.ensures.0
-    (λ k. omega (arith, c.parse-then-negative-less.ensures.1.0, c.requires.amount_nonzero k)) _
-    (sum_same _ _ _ c.args.negative c.args.less (alike _ _ c.if-negative-less.true) c.parse-then-negative-less.ensures.1.0)
+    let h = held c.parse-then-negative-less.result c.args.less c.parse-then-negative-less.ensures.negative_value c.parse-then-negative-less.ensures.digits
+    (λ k. omega (arith, c.parse-then-negative-less.ensures.digits_value, c.requires.amount_nonzero k)) _
+    (sum_same _ _ _ c.args.negative c.args.less (alike _ _ c.if-negative-less.true) c.parse-then-negative-less.ensures.digits_value) in
+    record { tidy = h.0; same = h.1 }
 
 pub magnitude-requires : goal.magnitude-requires
 magnitude-requires c =
-    let k = c.larger-count.ensures.1 260 c.parse-x.ensures.digits.few c.parse-y.ensures.digits.few in
-    (wider _ _ _ c.larger-count.ensures.0.0 k c.parse-x.ensures.digits, wider _ _ _ c.larger-count.ensures.0.1 k c.parse-y.ensures.digits)
+    let k = c.larger-count.ensures.by_index 260 c.parse-x.ensures.digits.few c.parse-y.ensures.digits.few in
+    (wider _ _ _ c.larger-count.ensures.lower_bound.0 k c.parse-x.ensures.digits, wider _ _ _ c.larger-count.ensures.lower_bound.1 k c.parse-y.ensures.digits)
 
 pub minus-requires : goal.minus-requires
 minus-requires c =
-    let k = c.larger-count.ensures.1 260 c.parse-x.ensures.digits.few c.parse-y.ensures.digits.few in (
-      wider _ _ _ c.larger-count.ensures.0.1 k c.parse-y.ensures.digits,
-      wider _ _ _ c.larger-count.ensures.0.0 k c.parse-x.ensures.digits,
+    let k = c.larger-count.ensures.by_index 260 c.parse-x.ensures.digits.few c.parse-y.ensures.digits.few in (
+      wider _ _ _ c.larger-count.ensures.lower_bound.1 k c.parse-y.ensures.digits,
+      wider _ _ _ c.larger-count.ensures.lower_bound.0 k c.parse-x.ensures.digits,
       omega (
         arith,
         is_less
@@ -53,9 +54,9 @@ minus-requires c =
 
 pub minus-requires-in-Greater : goal.minus-requires-in-Greater
 minus-requires-in-Greater c =
-    let k = c.larger-count.ensures.1 260 c.parse-x.ensures.digits.few c.parse-y.ensures.digits.few in (
-      wider _ _ _ c.larger-count.ensures.0.0 k c.parse-x.ensures.digits,
-      wider _ _ _ c.larger-count.ensures.0.1 k c.parse-y.ensures.digits,
+    let k = c.larger-count.ensures.by_index 260 c.parse-x.ensures.digits.few c.parse-y.ensures.digits.few in (
+      wider _ _ _ c.larger-count.ensures.lower_bound.0 k c.parse-x.ensures.digits,
+      wider _ _ _ c.larger-count.ensures.lower_bound.1 k c.parse-y.ensures.digits,
       omega (
         arith,
         is_more
@@ -71,9 +72,10 @@ returns-in-Less c =
     (cmp_of _ _
     (sym c.magnitude.ensures ∙ ap order_of
     c.in-Less.is)) in
-    held c.minus.result c.args.less c.minus.ensures.1.1 c.minus.ensures.0 (λ k. omega (arith, l, c.minus.ensures.1.0)) _
+    let h = held c.minus.result c.args.less c.minus.ensures.negative_value c.minus.ensures.digits (λ k. omega (arith, l, c.minus.ensures.b_value)) _
     (sum_second _ _ _ c.args.negative c.args.less (unlike _ _ c.if-negative-less.false)
-    (omega (arith, c.minus.ensures.1.0, c.parse-x.ensures.1.0, c.parse-y.ensures.1.0, nothing c.args.s.now (length c.args.s.now) (omega arith))))
+    (omega (arith, c.minus.ensures.b_value, c.parse-x.ensures.digits_value, c.parse-y.ensures.digits_value, nothing c.args.s.now (length c.args.s.now) (omega arith)))) in
+    record { tidy = h.0; same = h.1 }
 
 pub returns-in-Equal : goal.returns-in-Equal
 returns-in-Equal c =
@@ -81,9 +83,10 @@ returns-in-Equal c =
     let l = is_same
     (cmp_of _ _
     (sym c.magnitude.ensures ∙ ap order_of c.in-Equal.is)) in
-    held c.parse-in-Equal.result false c.parse-in-Equal.ensures.1.1 c.parse-in-Equal.ensures.0 (λ k. absurd (false≢true k)) _
+    let h = held c.parse-in-Equal.result false c.parse-in-Equal.ensures.negative_value c.parse-in-Equal.ensures.digits (λ k. absurd (false≢true k)) _
     (sum_nothing _ _ _ c.args.negative c.args.less (unlike _ _ c.if-negative-less.false)
-    (omega (arith, c.parse-in-Equal.ensures.1.0, n)) (omega (arith, l, c.parse-x.ensures.1.0, c.parse-y.ensures.1.0, n)))
+    (omega (arith, c.parse-in-Equal.ensures.digits_value, n)) (omega (arith, l, c.parse-x.ensures.digits_value, c.parse-y.ensures.digits_value, n))) in
+    record { tidy = h.0; same = h.1 }
 
 pub returns-in-Greater : goal.returns-in-Greater
 returns-in-Greater c =
@@ -91,6 +94,7 @@ returns-in-Greater c =
     (cmp_of _ _
     (sym c.magnitude.ensures ∙ ap order_of
     c.in-Greater.is)) in
-    held c.minus-in-Greater.result c.args.negative c.minus-in-Greater.ensures.1.1 c.minus-in-Greater.ensures.0 (λ k. omega (arith, l, c.minus-in-Greater.ensures.1.0)) _
+    let h = held c.minus-in-Greater.result c.args.negative c.minus-in-Greater.ensures.negative_value c.minus-in-Greater.ensures.digits (λ k. omega (arith, l, c.minus-in-Greater.ensures.b_value)) _
     (sum_first _ _ _ c.args.negative c.args.less (unlike _ _ c.if-negative-less.false)
-    (omega (arith, c.minus-in-Greater.ensures.1.0, c.parse-x.ensures.1.0, c.parse-y.ensures.1.0, nothing c.args.s.now (length c.args.s.now) (omega arith))))
+    (omega (arith, c.minus-in-Greater.ensures.b_value, c.parse-x.ensures.digits_value, c.parse-y.ensures.digits_value, nothing c.args.s.now (length c.args.s.now) (omega arith)))) in
+    record { tidy = h.0; same = h.1 }

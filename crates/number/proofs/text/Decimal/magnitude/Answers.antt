@@ -1,6 +1,5 @@
 -- `Decimal::magnitude` meets its contract: by the places, then by the digits.
 -- Assumes nothing.
-use borrow.Author.Rules.{rules}
 use mathlib.Core.Path.{ap, sym, ◌∙◌}
 use Rattle.number.specs.Compared.{order_of}
 use Rattle.number.proofs.Steps.{places_less, places_more, places_same}

@@ -1,6 +1,5 @@
 -- `Decimal::order_places` meets its contract: without exponents by the crossed sums of lengths, else by the digits of the places.
 -- Assumes nothing.
-use borrow.Author.Rules.{rules}
 use mathlib.Core.Path.{◌∙◌}
 use Rattle.number.proofs.Columns.{wider}
 use Rattle.number.proofs.Signs.{same_order}
@@ -15,8 +14,12 @@ returns-then-other-right c =
 
 pub order-requires : goal.order-requires
 order-requires c =
-    let k = c.larger-count.ensures.1 260 c.places-x.ensures.tidy.digits.few c.places-y.ensures.tidy.digits.few in
-    ((wider _ _ _ c.larger-count.ensures.0.0 k c.places-x.ensures.tidy.digits, wider _ _ _ c.larger-count.ensures.0.1 k c.places-y.ensures.tidy.digits), (c.places-x.ensures.tidy.sign, c.places-y.ensures.tidy.sign))
+    let k = c.larger-count.ensures.by_index 260 c.places-x.ensures.tidy.digits.few c.places-y.ensures.tidy.digits.few in
+    record {
+      digits = (wider _ _ _ c.larger-count.ensures.lower_bound.0 k c.places-x.ensures.tidy.digits, wider _ _ _ c.larger-count.ensures.lower_bound.1 k c.places-y.ensures.tidy.digits);
+      a_nonzero = c.places-x.ensures.tidy.sign;
+      b_nonzero = c.places-y.ensures.tidy.sign;
+    }
 
 pub returns : goal.returns
 returns c =

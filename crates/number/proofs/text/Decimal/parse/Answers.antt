@@ -1,6 +1,5 @@
 -- `Decimal::parse` meets its contract.
 -- Assumes nothing.
-use borrow.Author.Rules.{rules}
 use mathlib.Core.Path.{sym, ◌∙◌}
 use native.Mathlib.Omega.{arith}
 use Rattle.number.proofs.Parts.{parsed_fraction, parsed_whole}

@@ -1,6 +1,5 @@
 -- `Decimal::places` meets its contract: the exponent, the whole's length and the leading zeros are summed.
 -- Assumes nothing.
-use borrow.Author.Rules.{rules}
 use native.Mathlib.Omega.{arith}
 use mathlib.Core.Bool.{false≢true}
 use Rattle.number.proofs.Steps.{place_above, place_below}
