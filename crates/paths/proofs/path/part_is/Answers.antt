@@ -5,7 +5,7 @@ use mathlib.Core.Path.{sym, ◌∙◌}
 use Prim.Native.Nat.{◌-◌}
 use native.Mathlib.Omega.{arith}
 use lib.ListN.{length}
-use borrow.Author.Tests.{eqb-false, ne_eqb}
+use borrow.Author.Tests.{ne_eqb}
 use Rattle.paths.proofs.Matching.{Alongside, alongside, alongside_apart, alongside_dot, alongside_dots, alongside_end, alongside_in_name, alongside_in_path, alongside_on}
 use Rattle.paths.proofs.path.part_is.Goals as goal
 
@@ -35,13 +35,13 @@ returns-then-c-eq92 c = c.part_decoded.ensures ∙ sym c.loop-name.invariant.sam
 pub returns-then-c-eq46 : goal.returns-then-c-eq46
 returns-then-c-eq46 c =
     alongside_dot c.loop-name.invariant c.if-c-eq46.true
-    (eqb-false _ 92 c.if-d-eq92.false)
+    c.if-d-eq92.false
 
 pub returns-else-c-eq46 : goal.returns-else-c-eq46
 returns-else-c-eq46 c =
     ne_eqb _ 46 c.if-c-eq46.false ∙ alongside_apart
     c.loop-name.invariant c.if-c-d.true
-    c.if-c-eq92.false (eqb-false _ 92 c.if-d-eq92.false) c.if-c-eq46.false
+    c.if-c-eq92.false c.if-d-eq92.false c.if-c-eq46.false
 
 pub overflow_add-name-then-c-eq92-2 : goal.overflow_add-name-then-c-eq92-2
 overflow_add-name-then-c-eq92-2 c = omega (arith, alongside_in_name c.loop-name.invariant)

@@ -2,10 +2,7 @@
 -- Assumes nothing.
 use mathlib.Core.Logic.{⊎_elim}
 use mathlib.Core.Path.{sym, ◌∙◌}
-use Prim.Native.Nat.{◌-◌}
 use native.Mathlib.Omega.{arith}
-use lib.ListN.{length}
-use borrow.Author.Tests.{eqb-false, eqb-true}
 use Rattle.paths.proofs.Matching.{Spelled, spelled, spelled_apart, spelled_dot, spelled_end, spelled_in, spelled_longer, spelled_on}
 use Rattle.paths.proofs.path.part_is_word.Goals as goal
 
@@ -24,19 +21,18 @@ returns-then-c-eq92 c = c.word_decoded.ensures ∙ sym c.loop-n.invariant.same
 
 pub returns-then-c-eq34 : goal.returns-then-c-eq34
 returns-then-c-eq34 c =
-    ⊎_elim (λ e. spelled_end c.loop-n.invariant e.taken) (λ e. spelled_dot c.loop-n.invariant (eqb-true _ 46 e.1.taken))
-    c.then-c-eq34.branch
+    ⊎_elim (λ e. spelled_end c.loop-n.invariant e) (λ e. spelled_dot c.loop-n.invariant e.1) c.then-c-eq34.either
 
 pub returns-then-word-n : goal.returns-then-word-n
 returns-then-word-n c =
     spelled_longer c.loop-n.invariant
     c.if-c-eq92.false c.if-c-eq34.false
-    (eqb-false _ 46 c.if-c-eq46.false) c.if-word-n.true
+    c.if-c-eq46.false c.if-word-n.true
 
 pub returns-then-c-word : goal.returns-then-c-word
 returns-then-c-word c =
     spelled_apart c.loop-n.invariant c.if-c-eq92.false
-    c.if-c-eq34.false (eqb-false _ 46 c.if-c-eq46.false) (omega arith) c.if-c-word.true
+    c.if-c-eq34.false c.if-c-eq46.false (omega arith) c.if-c-word.true
 
 pub overflow_add-n : goal.overflow_add-n
 overflow_add-n c = omega (arith, spelled_in c.loop-n.invariant)
@@ -47,4 +43,4 @@ loop-n-smaller c = omega (arith, spelled_in c.loop-n.invariant)
 pub loop-n-preserved : goal.loop-n-preserved
 loop-n-preserved c =
     spelled_on c.loop-n.invariant c.if-c-eq92.false
-    c.if-c-eq34.false (eqb-false _ 46 c.if-c-eq46.false) (omega arith) c.if-c-word.false
+    c.if-c-eq34.false c.if-c-eq46.false (omega arith) c.if-c-word.false

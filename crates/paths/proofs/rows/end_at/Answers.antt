@@ -6,8 +6,5 @@ use Rattle.paths.proofs.Words.{row_word}
 use native.Mathlib.Omega.{arith}
 use Rattle.paths.proofs.rows.end_at.Goals as goal
 
-pub overflow_cast-result : goal.overflow_cast-result
-overflow_cast-result c = omega (arith, c.shared_slice_known-1.given (3 * c.args.node + 1))
-
 pub returns : goal.returns
 returns c = row_word c.args.work.now (3 * c.args.node + 1) (omega arith)

@@ -7,5 +7,5 @@ use Rattle.paths.proofs.Words.{row_word}
 use native.Mathlib.Omega.{arith}
 use Rattle.paths.proofs.rows.kind_at.Goals as goal
 
-returns : tie.Need-returns
-returns c = ap (λ (x : ℕ). x % 8) (row_word c.before.args.work.now (3 * c.before.args.node) (omega arith))
+pub returns : goal.returns
+returns c = ap (λ (x : ℕ). x % 8) (row_word c.args.work.now (3 * c.args.node) (omega arith))

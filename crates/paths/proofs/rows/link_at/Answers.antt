@@ -7,8 +7,5 @@ use Rattle.paths.proofs.Words.{link_word}
 use native.Mathlib.Omega.{arith}
 use Rattle.paths.proofs.rows.link_at.Goals as goal
 
-pub overflow_cast-result : goal.overflow_cast-result
-overflow_cast-result c = omega (arith, c.shared_slice_known-1.given (12288 + c.args.node))
-
 pub returns : goal.returns
 returns c = sym (link_word c.args.work.now c.args.node c.requires.node)

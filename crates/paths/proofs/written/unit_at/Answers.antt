@@ -13,9 +13,6 @@ unfolding UnitTold
 returns-then-b-eq34 c =
     unit_end c.args.s.now c.args.at c.requires c.if-b-eq34.true
 
-pub overflow_cast-result : goal.overflow_cast-result
-overflow_cast-result c = omega (arith, c.shared_slice_known-2-1.given c.args.at)
-
 pub returns-then-b-ne92 : goal.returns-then-b-ne92
 unfolding UnitTold
 returns-then-b-ne92 c =
