@@ -3,7 +3,6 @@
 use Rattle.members.proofs.Wanted.{allows_found, allows_nothing, found_node}
 use Rattle.members.specs.Outcome.{an_effect}
 use Rattle.members.specs.Verdicts.{is_ok}
-use borrow.Author.Rules.{rules}
 use Rattle.sheet.proofs.outcome.allows_effect.Goals as goal
 
 pub is_effect-requires : goal.is_effect-requires

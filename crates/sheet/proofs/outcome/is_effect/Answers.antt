@@ -1,12 +1,10 @@
 -- `sheet::outcome::is_effect` meets its contract: one of three words, or an object whose only member is a move.
 -- Assumes nothing.
 use mathlib.Core.Path.{sym, ◌∙◌}
-use borrow.Author.Tests.{not-false, not-true}
 use Rattle.sheet.proofs.Rules.{a_word, effect_further, effect_moves, effect_nowhere, no_word, not_effect, object_members, on_text_lem}
 use Rattle.members.proofs.Walks.{room}
 use Rattle.members.proofs.Wanted.{found_node}
 use Rattle.members.specs.Words.{words_from}
-use borrow.Author.Rules.{rules}
 use Rattle.sheet.proofs.outcome.is_effect.Goals as goal
 
 pub kind_at-kind-requires : goal.kind_at-kind-requires
@@ -55,7 +53,7 @@ returns-then-not-only c =
     effect_further c.requires _
     c.kind_at-kind.ensures c.if-kind-ne-OBJECT.false _
     c.after_at-end.ensures
-    (sym (not-true _ c.if-not-only.true) ∙ c.only.ensures)
+    (sym c.if-not-only.true ∙ c.only.ensures)
 
 pub named-requires : goal.named-requires
 named-requires c =
@@ -74,7 +72,7 @@ returns-in-Nothing-named c =
     effect_nowhere c.requires _
     c.kind_at-kind.ensures c.if-kind-ne-OBJECT.false _
     c.after_at-end.ensures
-    (sym (not-false _ c.if-not-only.false) ∙ c.only.ensures) _
+    (sym c.if-not-only.false ∙ c.only.ensures) _
     c.named.ensures.told.answers c.in-Nothing-named.is
 
 pub returns-in-At-named : goal.returns-in-At-named
@@ -83,6 +81,6 @@ returns-in-At-named c =
     effect_moves c.requires _
     c.kind_at-kind.ensures c.if-kind-ne-OBJECT.false _
     c.after_at-end.ensures
-    (sym (not-false _ c.if-not-only.false) ∙ c.only.ensures) _
+    (sym c.if-not-only.false ∙ c.only.ensures) _
     c.named.ensures.told.answers c.in-At-named.n _ c.in-At-named.is
     c.is_move.ensures

@@ -3,7 +3,6 @@
 use Rattle.sheet.proofs.Rules.{is_move, not_move, object_members}
 use Rattle.members.proofs.Walks.{room}
 use Rattle.members.specs.Words.{words_from}
-use borrow.Author.Rules.{rules}
 use Rattle.sheet.proofs.outcome.is_move.Goals as goal
 
 pub kind_at-requires : goal.kind_at-requires

@@ -3,7 +3,6 @@
 use Rattle.sheet.proofs.Rules.{is_rule, not_rule, object_members}
 use Rattle.members.proofs.Walks.{room}
 use Rattle.members.specs.Words.{words_from}
-use borrow.Author.Rules.{rules}
 use Rattle.sheet.proofs.rule.is_rule.Goals as goal
 
 pub kind_at-requires : goal.kind_at-requires

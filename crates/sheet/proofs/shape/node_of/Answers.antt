@@ -2,7 +2,6 @@
 -- Assumes nothing.
 use mathlib.Core.Path.{ap, sym}
 use Rattle.sheet.specs.Accepted.{node_of}
-use borrow.Author.Rules.{rules}
 use Rattle.sheet.proofs.shape.node_of.Goals as goal
 
 pub returns-in-Nothing : goal.returns-in-Nothing

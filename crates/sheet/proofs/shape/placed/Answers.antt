@@ -1,7 +1,6 @@
 -- `sheet::shape::placed` meets its contract: each required member by its node.
 -- Assumes nothing.
 use Rattle.sheet.proofs.Accepted.{same_members}
-use borrow.Author.Rules.{rules}
 use Rattle.sheet.proofs.shape.placed.Goals as goal
 
 pub returns : goal.returns

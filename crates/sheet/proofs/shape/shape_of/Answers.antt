@@ -1,14 +1,12 @@
 -- `sheet::shape::shape_of` meets its contract: 9 by the members, 10 and 11 by the first fault, and else the sheet, member by member.
 -- Assumes nothing.
 use mathlib.Core.Path.{ap, ◌∙◌}
-use borrow.Author.Tests.{not-false, not-true}
 use Rattle.json_text.specs.Refusal.{not_carried, wrong_shape}
 use Rattle.sheet.proofs.Accepted.{accepted_at, shape_fault, shape_is, shape_no_object, shape_wrong}
 use Rattle.sheet.proofs.Rules.{object_members}
 use Rattle.members.proofs.Walks.{room}
 use Rattle.sheet.specs.Accepted.{Shaped}
 use Rattle.members.specs.Answers.{fault_is}
-use borrow.Author.Rules.{rules}
 use Rattle.sheet.proofs.shape.shape_of.Goals as goal
 
 pub kind_at-requires : goal.kind_at-requires
@@ -37,7 +35,7 @@ pub returns-then-not-are_sheet : goal.returns-then-not-are_sheet
 returns-then-not-are_sheet c =
     shape_wrong c.requires _ c.kind_at.ensures
     c.if-kind_at-ne-OBJECT.false _ c.after_at-end.ensures _ c.are_sheet.ensures
-    (not-true _ c.if-not-are_sheet.true)
+    c.if-not-are_sheet.true
 
 pub first_fault-requires : goal.first_fault-requires
 first_fault-requires c =
@@ -50,7 +48,7 @@ returns-in-Shape c =
     shape_fault c.requires _
     c.kind_at.ensures c.if-kind_at-ne-OBJECT.false _
     c.after_at-end.ensures _ c.are_sheet.ensures wrong_shape
-    (not-false _ c.if-not-are_sheet.false)
+    c.if-not-are_sheet.false
     (c.first_fault.ensures ∙ ap fault_is c.in-Shape.is)
 
 pub returns-in-NotCarried : goal.returns-in-NotCarried
@@ -59,7 +57,7 @@ returns-in-NotCarried c =
     shape_fault c.requires _
     c.kind_at.ensures c.if-kind_at-ne-OBJECT.false _
     c.after_at-end.ensures _ c.are_sheet.ensures not_carried
-    (not-false _ c.if-not-are_sheet.false)
+    c.if-not-are_sheet.false
     (c.first_fault.ensures ∙ ap fault_is c.in-NotCarried.is)
 
 pub returns-in-Sound : goal.returns-in-Sound
@@ -68,6 +66,6 @@ returns-in-Sound c =
     accepted_at _ _ c.placed-members.ensures
     (shape_is c.requires _ c.kind_at.ensures
     c.if-kind_at-ne-OBJECT.false _ c.after_at-end.ensures _
-    c.are_sheet.ensures (not-false _ c.if-not-are_sheet.false)
+    c.are_sheet.ensures c.if-not-are_sheet.false
     (c.first_fault.ensures ∙ ap fault_is c.in-Sound.is) _
     c.members-m.ensures)

@@ -3,11 +3,8 @@
 use native.Mathlib.Omega.{arith}
 use mathlib.Core.Path.{refl, sym, ◌∙◌}
 use Prim.Native.Nat.{◌-◌}
-use borrow.Author.Tests.{not-false, not-true}
-use Rattle.json_text.specs.Table.{values_at}
 use Rattle.members.proofs.Elements.{right_here, wrong_here}
-use Rattle.members.proofs.Walks.{OverNodes, element_falls, element_node, no_element, room}
-use Rattle.members.specs.Verdicts.{all_of}
+use Rattle.members.proofs.Walks.{element_falls, element_node, no_element, room}
 use Rattle.members.specs.Wants.{element_ok}
 use Rattle.sheet.proofs.sheet.are_elements.Goals as goal
 
@@ -21,7 +18,7 @@ pub returns-then-not-is_element : goal.returns-then-not-is_element
 returns-then-not-is_element c =
     wrong_here (element_ok c.args.element)
     c.loop-k.invariant c.loop-k-test.true
-    (sym (not-true _ c.if-not-is_element.true) ∙ c.is_element.ensures)
+    (sym c.if-not-is_element.true ∙ c.is_element.ensures)
 
 pub after_at-k-requires : goal.after_at-k-requires
 after_at-k-requires c =
@@ -39,7 +36,7 @@ pub loop-k-preserved : goal.loop-k-preserved
 loop-k-preserved c =
     right_here (element_ok c.args.element)
     c.loop-k.invariant c.loop-k-test.true
-    (sym (not-false _ c.if-not-is_element.false) ∙ c.is_element.ensures) _
+    (sym c.if-not-is_element.false ∙ c.is_element.ensures) _
     c.after_at-k.ensures
 
 pub returns : goal.returns

@@ -1,7 +1,6 @@
 -- `sheet::sheet::is_element` meets its contract: from what `is_rule` and `is_outcome` say.
 -- Assumes nothing.
 use Rattle.sheet.proofs.Sheets.{element_outcome, element_rule}
-use borrow.Author.Rules.{rules}
 use Rattle.sheet.proofs.sheet.is_element.Goals as goal
 
 pub returns-in-Rule : goal.returns-in-Rule

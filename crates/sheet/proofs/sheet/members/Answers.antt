@@ -1,6 +1,5 @@
 -- `sheet::sheet::members` meets its contract: each member is found by its name.
 -- Assumes nothing.
-use borrow.Author.Rules.{rules}
 use Rattle.sheet.proofs.sheet.members.Goals as goal
 
 pub named-requires : goal.named-requires

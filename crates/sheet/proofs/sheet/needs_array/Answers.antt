@@ -5,7 +5,6 @@ use Rattle.sheet.proofs.Sheets.{is_array, not_array}
 use Rattle.members.proofs.Walks.{room}
 use Rattle.members.proofs.Wanted.{array_nodes, found_node, needs_found, needs_nothing}
 use Rattle.members.specs.Wants.{array_ok}
-use borrow.Author.Rules.{rules}
 use Rattle.sheet.proofs.sheet.needs_array.Goals as goal
 
 pub kind_at-requires : goal.kind_at-requires
@@ -16,8 +15,8 @@ kind_at-requires c =
 
 pub returns-then-kind_at-ne-ARRAY : goal.returns-then-kind_at-ne-ARRAY
 returns-then-kind_at-ne-ARRAY c =
-    needs_found c.args.s.now c.args.work.now (array_ok c.args.element) _ c.in-At.given.0.0 _ c.in-At.given.1
-    (not_array (found_node c.in-At.given.0.0 c.in-At.given.1 c.requires) _
+    needs_found c.args.s.now c.args.work.now (array_ok c.args.element) _ c.in-At.n _ c.in-At.is
+    (not_array (found_node c.in-At.n c.in-At.is c.requires) _
     c.kind_at.ensures c.args.element c.if-kind_at-ne-ARRAY.true)
 
 pub overflow_add-n : goal.overflow_add-n

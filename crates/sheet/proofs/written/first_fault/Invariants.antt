@@ -1,14 +1,9 @@
 -- `sheet::written::first_fault` meets its contract: the loop says that the first fault from here on is the first of all.
 -- Assumes nothing.
-use native.Mathlib.Omega.{arith}
-use borrow.Author.Rules.{rules}
-use mathlib.Core.Path.{ap, refl}
 use Prim.Native.Nat.{◌-◌}
-use Rattle.json_text.specs.Refusal.{not_carried, wrong_shape}
 use Rattle.json_text.specs.Table.{members_at}
-use Rattle.members.proofs.Soundness.{all_sound, held_fault, held_on, soundness_of}
-use Rattle.members.proofs.Walks.{OverMembers, falls, name_room, on_name, value_node, value_room}
-use Rattle.members.specs.Answers.{fault_is}
+use Rattle.members.proofs.Soundness.{soundness_of}
+use Rattle.members.proofs.Walks.{OverMembers}
 use Rattle.sheet.proofs.written.first_fault.Given as goal
 
 abbrev pub invariant-loop-k : goal.invariant-loop-k

@@ -1,7 +1,6 @@
 -- `held` meets its contract: by the name's tests in turn.
 -- Assumes nothing.
 use mathlib.Core.Path.{refl, sym, ◌∙◌}
-use borrow.Author.Rules.{rules}
 use Rattle.members.proofs.Soundness.{held_first, held_itself, held-nothing, held_second, held-third}
 use Rattle.members.specs.Answers.{fault_is}
 use Rattle.sheet.proofs.written.held.Goals as goal

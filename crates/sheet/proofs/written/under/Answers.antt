@@ -5,7 +5,6 @@ use Rattle.members.proofs.Soundness.{under_found, under_missing, under_none}
 use Rattle.members.proofs.Walks.{room}
 use Rattle.members.proofs.Wanted.{found_node}
 use Rattle.members.specs.Answers.{fault_is}
-use borrow.Author.Rules.{rules}
 use Rattle.sheet.proofs.written.under.Goals as goal
 
 pub kind_at-requires : goal.kind_at-requires

@@ -1,15 +1,10 @@
 -- `sheet::written::under_each` meets its contract: the loop says that the first fault from here on is the first of all.
 -- Assumes nothing.
-use native.Mathlib.Omega.{arith}
-use borrow.Author.Rules.{rules}
-use mathlib.Core.Path.{ap}
 use Prim.Native.Nat.{◌-◌}
 use Rattle.json_text.specs.Json.{elements}
-use Rattle.json_text.specs.Refusal.{not_carried, wrong_shape}
 use Rattle.json_text.specs.Table.{value_at}
-use Rattle.members.proofs.Soundness.{each_fault, each_none, each_on, each_sound, over_each, soundness}
-use Rattle.members.proofs.Walks.{OverNodes, element_falls, element_node, room}
-use Rattle.members.specs.Answers.{fault_is}
+use Rattle.members.proofs.Soundness.{soundness}
+use Rattle.members.proofs.Walks.{OverNodes}
 use Rattle.members.specs.Sheet.{in_array, member_of_each}
 use Rattle.sheet.proofs.written.under_each.Given as goal
 
