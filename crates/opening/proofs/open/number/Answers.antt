@@ -3,7 +3,6 @@
 use mathlib.Core.Path.{refl}
 use Rattle.answers.specs.Line.{refusal_number}
 use Rattle.opening.proofs.Opening.{numbered}
-use borrow.Author.Rules.{rules}
 use Rattle.opening.proofs.open.number.Goals as goal
 
 pub returns-in-WorkTooSmall : goal.returns-in-WorkTooSmall

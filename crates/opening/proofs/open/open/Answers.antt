@@ -6,13 +6,12 @@ use Rattle.json_text.specs.Refusal.{not_carried, wrong_shape, wrong_sheet}
 use Rattle.sheet.specs.Accepted.{Shaped}
 use Rattle.sheet.specs.declared.shape.Shape.TheVariants as shapes
 use Rattle.opening.proofs.Opening.{opened_sheet, stopped_reading, stopped_shape, stored, unordered}
-use borrow.Author.Rules.{rules}
 use Rattle.opening.proofs.open.open.Goals as goal
 
 pub order-requires : goal.order-requires
 order-requires c =
     unordered c.read.ensures c.in-Table.field-0 c.in-Table.is
-    c.read.auto.1.0
+    c.read.auto.work
 
 pub shape_of-requires-in-Table : goal.shape_of-requires-in-Table
 shape_of-requires-in-Table c =

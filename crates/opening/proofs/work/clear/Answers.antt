@@ -1,7 +1,6 @@
 -- `decision::work::clear` meets its contract: a smaller table is left, and zeros are written over the others.
 -- Assumes nothing.
 use Rattle.opening.proofs.Clearing.{cleared_table, small_table}
-use borrow.Author.Rules.{rules}
 use Rattle.opening.proofs.work.clear.Goals as goal
 
 pub returns-then-work-lt16384 : goal.returns-then-work-lt16384

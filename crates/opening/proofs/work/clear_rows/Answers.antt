@@ -3,7 +3,6 @@
 use Prim.Native.Nat.{◌*◌, ◌-◌}
 use native.Mathlib.Omega.{arith}
 use Rattle.opening.proofs.Clearing.{cleared_rows}
-use borrow.Author.Rules.{rules}
 use Rattle.opening.proofs.work.clear_rows.Goals as goal
 
 pub returns : goal.returns

@@ -1,10 +1,10 @@
 -- `decision::work::zero` meets its contract: the loop says that a run of zeros was written.
 -- Assumes nothing.
-use mathlib.Core.Path.{ap, ◌∙◌, ◌≡◌}
-use Prim.Native.Nat.{◌-◌, ◌≤◌}
+use mathlib.Core.Path.{ap, ◌∙◌}
+use Prim.Native.Nat.{◌-◌}
 use native.Mathlib.Omega.{arith}
 use lib.ListN.{length}
-use lib.Seq.{length-sets, sets}
+use lib.Seq.{length-sets}
 use Rattle.answers.specs.Entry.{zeros}
 use Rattle.opening.proofs.Clearing.{no_zeros, zeros_on, zeros_upto}
 use Rattle.opening.proofs.work.zero.Goals as goal

@@ -1,12 +1,9 @@
 -- `decision::work::zero` meets its contract: the loop says that a run of zeros was written.
 -- Assumes nothing.
-use mathlib.Core.Path.{ap, ◌∙◌, ◌≡◌}
+use mathlib.Core.Path.{◌≡◌}
 use Prim.Native.Nat.{◌-◌, ◌≤◌}
-use native.Mathlib.Omega.{arith}
-use lib.ListN.{length}
-use lib.Seq.{length-sets, sets}
+use lib.Seq.{sets}
 use Rattle.answers.specs.Entry.{zeros}
-use Rattle.opening.proofs.Clearing.{no_zeros, zeros_on, zeros_upto}
 use Rattle.opening.proofs.work.zero.Given as goal
 
 abbrev pub invariant-loop-i : goal.invariant-loop-i
