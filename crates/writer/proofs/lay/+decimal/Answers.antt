@@ -9,7 +9,7 @@ use Prim.Native.Nat.{ℕ, ◌<◌}
 use Rattle.writer.proofs.lay.+decimal.Goals as goal
 
 pub byte-requires : goal.byte-requires
-byte-requires t c = c.requires.1
+byte-requires t c = c.requires
 
 pub returns-then-n-lt10 : goal.returns-then-n-lt10
 returns-then-n-lt10 t c =
@@ -19,7 +19,7 @@ returns-then-n-lt10 t c =
     c.if-n-lt10.true)) c.byte.ensures
 
 pub decimal-here-requires : goal.decimal-here-requires
-decimal-here-requires t c = (omega arith, c.requires.1)
+decimal-here-requires t c = (omega arith, c.requires)
 
 pub byte-requires-2 : goal.byte-requires-2
 byte-requires-2 t c = c.decimal-here.ensures.room

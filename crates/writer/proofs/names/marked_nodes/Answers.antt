@@ -1,10 +1,10 @@
 -- `line::names::marked_nodes` meets its contract: what was found and the nodes from k on are all.
 -- Assumes nothing.
-use mathlib.Core.Logic.{⊎_elim}
 use native.Mathlib.Omega.{arith}
 use Rattle.writer.proofs.Gathered.{Gathering, gather, gathered, note, pass}
 use Prim.Native.Nat.{◌-◌}
 use Rattle.writer.proofs.names.marked_nodes.Goals as goal
+use Rattle.writer.proofs.names.marked_nodes.Goals.{then-work-k-eq1, else-work-k-eq1}
 
 pub loop-k-init : goal.loop-k-init
 loop-k-init c = gather c.args.work.now c.args.nodes.now c.requires.1
@@ -45,8 +45,10 @@ loop-k-smaller c = omega (arith, c.loop-k-test.true)
 
 pub loop-k-preserved : goal.loop-k-preserved
 loop-k-preserved c =
-    ⊎_elim (λ a. rw (a.1, a.2) (note c.loop-k.invariant c.loop-k-test.true a.0.taken)) (λ b. rw (b.1, b.2) (pass c.loop-k.invariant c.loop-k-test.true b.0.left))
-    c.if-work-k-eq1.branch
+    elim c.if-work-k-eq1.branch [
+      | then-work-k-eq1 w ↦ rw (w.nodes-is, w.count-is) (note c.loop-k.invariant c.loop-k-test.true w.if-work-k-eq1.true)
+      | else-work-k-eq1 w ↦ rw (w.nodes-is, w.count-is) (pass c.loop-k.invariant c.loop-k-test.true w.if-work-k-eq1.false)
+    ]
 
 pub shape_of-nodes : goal.shape_of-nodes
 shape_of-nodes c = c.loop-k.invariant.long

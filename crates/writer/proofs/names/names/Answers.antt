@@ -32,20 +32,20 @@ pub slice_bounds-nodes-end-2 : goal.slice_bounds-nodes-end-2
 slice_bounds-nodes-end-2 c =
     sorted_fits c.marked_nodes-count.ensures
     c.requires.1
-    c.sort.ensures c.sort.auto.1.1.0 _
+    c.sort.ensures c.sort.auto.nodes _
 
 pub slice_bounds-each_once-end : goal.slice_bounds-each_once-end
 slice_bounds-each_once-end c =
     sorted_long c.marked_nodes-count.ensures
     c.requires.1
-    c.sort.ensures c.sort.auto.1.1.0 _
+    c.sort.ensures c.sort.auto.nodes _
 
 pub each_once-there-requires : goal.each_once-there-requires
 each_once-there-requires c = (
   c.bytes-here.ensures.room,
   omega (arith, c.requires.1.size),
   sorted_texts c.marked_nodes-count.ensures c.requires.1
-      c.sort.ensures c.sort.auto.1.1.0 _,
+      c.sort.ensures c.sort.auto.nodes _,
 )
 
 pub returns : goal.returns
@@ -56,6 +56,6 @@ returns c =
     (told
     (ap elements
     (sorted_once c.marked_nodes-count.ensures c.requires.1
-    c.sort.ensures c.sort.kept.1.1.0 _))
+    c.sort.ensures c.sort.auto.nodes _))
     c.each_once-there.ensures)
     c.byte.ensures))
