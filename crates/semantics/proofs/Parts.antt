@@ -49,7 +49,7 @@ use Rattle.members.specs.Condition.{
 use Rattle.members.specs.Kinds.{a_bool, a_text, a_version, an_array_of, an_object, each_of, is_version, only, optional, required}
 use Rattle.members.specs.Outcome.{Outcome, an_effect, an_outcome}
 use Rattle.members.specs.Rule.{Rule, a_rule}
-use Rattle.members.specs.Sheet.{Sheet, a_sheet}
+use Rattle.members.specs.Sheet.{Sheet, a_sheet, sheet_names}
 
 -- ---- of each in a list, and of each entry of a table
 abbrev pub All : {A : Type 0} → (A → Type 0) → List A → Type 0
@@ -268,7 +268,7 @@ module _ (P : Value → Type 0) (parts : Hereditary P) where
   unfolding a_rule
   rule_has v r h e =
       bind_with (an_object v) _ e λ ms q e₁.
-      bind_with (only _ (keys ms)) _ e₁ λ _ _ e₂.
+      bind_with (only (ascii "assert" ∷ ascii "name" ∷ ascii "message" ∷ []) (keys ms)) _ e₁ λ _ _ e₂.
       bind_with (required condition (ascii "assert") ms) _ e₂ λ c p e₃.
       bind_with (optional a_text (ascii "name") ms) _ e₃ λ _ _ e₄.
       bind_with (optional a_text (ascii "message") ms) _ e₄ λ _ _ e₅.
@@ -282,7 +282,7 @@ module _ (P : Value → Type 0) (parts : Hereditary P) where
   unfolding an_outcome
   outcome_has v o h e c g =
       bind_with (an_object v) _ e λ ms q e₁.
-      bind_with (only _ (keys ms)) _ e₁ λ _ _ e₂.
+      bind_with (only (ascii "name" ∷ ascii "when" ∷ ascii "in_state" ∷ ascii "wrong_state" ∷ ascii "effect" ∷ []) (keys ms)) _ e₁ λ _ _ e₂.
       bind_with (required a_text (ascii "name") ms) _ e₂ λ _ _ e₃.
       bind_with (optional condition (ascii "when") ms) _ e₃ λ x p e₄.
       bind_with (optional a_text (ascii "in_state") ms) _ e₄ λ _ _ e₅.
@@ -302,7 +302,7 @@ module _ (P : Value → Type 0) (parts : Hereditary P) where
   unfolding a_sheet
   sheet_has v sheet h e =
       bind_with (an_object v) _ e λ ms q e₀.
-      bind_with (only _ (keys ms)) _ e₀ λ _ _ e₁.
+      bind_with (only sheet_names (keys ms)) _ e₀ λ _ _ e₁.
       bind_with (optional a_text (ascii "id") ms) _ e₁ λ _ _ e₂.
       bind_with (required a_text (ascii "entity") ms) _ e₂ λ _ _ e₃.
       bind_with (required a_version (ascii "version") ms) _ e₃ λ n p₀ e₄.

@@ -2,7 +2,6 @@
 -- `from_state`, a written null counted as missing. (Exponents as machine integers: `numbers_exact` of the crate number.)
 -- Assumes nothing.
 use mathlib.Core.Bool.{Bool, false, ◌||◌}
-use mathlib.Core.List.{[]}
 use mathlib.Core.Logic.{inl, inr, ◌⊎◌}
 use mathlib.Core.Option.{Option, none, some}
 use mathlib.Core.Path.{refl, ◌∙◌, ◌≡◌}
