@@ -274,9 +274,9 @@ module _ {s : Bytes} {val : Placer Node} {at : ℕ} {whole : Result (Placed Node
           fresh = rw (l.named (text_at s (here + 1)) ∙ is_new, new_name)
 
           module _ (is_colon : get_or s (skip_at s e) 0 ≡ 58) where
-            pub value-refused : (r : Refusal) → val (n + 1) (skip_at s (skip_at s e + 1)) ≡ refused r → whole ≡ refused r
+            pub value_refused : (r : Refusal) → val (n + 1) (skip_at s (skip_at s e + 1)) ≡ refused r → whole ≡ refused r
             unfolding fields_at closes_of
-            value-refused r q =
+            value_refused r q =
                 by (refused r) inside λ m. bind_ok _ (byte_is 34 s here is_quote) ∙
                 bind_ok _ counted ∙
                 bind_ok _ is_text ∙
@@ -309,7 +309,7 @@ module _ {s : Bytes} {val : Placer Node} {at : ℕ} {whole : Result (Placed Node
                   bind_ok _ is_v ∙
                   ap (AfterOf m) q
 
-              pub member-ends : get_or s (skip_at s v.place) 0 ≡ 125 → whole ≡
+              pub member_ends : get_or s (skip_at s v.place) 0 ≡ 125 → whole ≡
                   ok
                   (record {
                     tree = obj at (skip_at s v.place + 1) (joined_of fs (field (here + 1) (e - 1) v.tree no_field));
@@ -317,19 +317,19 @@ module _ {s : Bytes} {val : Placer Node} {at : ℕ} {whole : Result (Placed Node
                     count = v.count;
                   })
               unfolding AfterOf closes_of
-              member-ends q =
+              member_ends q =
                   by (ok (record { tree = field (here + 1) (e - 1) v.tree no_field; place = skip_at s v.place + 1; count = v.count }))
                   inside λ m. turned m ends (sep_end 125 _ q (λ z. omega arith))
 
-              pub member-fails : (get_or s (skip_at s v.place) 0 ≡ 44 → ⊥) → (get_or s (skip_at s v.place) 0 ≡ 125 → ⊥) → whole ≡ refused not_json
+              pub member_fails : (get_or s (skip_at s v.place) 0 ≡ 44 → ⊥) → (get_or s (skip_at s v.place) 0 ≡ 125 → ⊥) → whole ≡ refused not_json
               unfolding AfterOf closes_of
-              member-fails f g = by (refused not_json) inside λ m. turned m neither (sep_none 125 _ f g)
+              member_fails f g = by (refused not_json) inside λ m. turned m neither (sep_none 125 _ f g)
 
-              pub member-on : get_or s (skip_at s v.place) 0 ≡ 44 → here < skip_at s (skip_at s v.place + 1) →
+              pub member_on : get_or s (skip_at s v.place) 0 ≡ 44 → here < skip_at s (skip_at s v.place + 1) →
                   Naming s val at whole (joined_of fs (field (here + 1) (e - 1) v.tree no_field)) (skip_at s (skip_at s v.place + 1))
                   v.count
               unfolding AfterOf closes_of
-              member-on q past = go l.fuel l.enough l.rest
+              member_on q past = go l.fuel l.enough l.rest
                 where
                   more : (x : Result (Placed Fields)) → closes_of at fs
                       (x >>= λ us. ok

@@ -52,9 +52,9 @@ module _ (s : Bytes) (names : List Bytes) (n at : ℕ) where
           unfolding new_name
           fresh = rw (is_new, new_name)
 
-          pub no-colon : (get_or s (skip_at s e) 0 ≡ 58 → ⊥) → name_at s names n at ≡ refused not_json
+          pub no_colon : (get_or s (skip_at s e) 0 ≡ 58 → ⊥) → name_at s names n at ≡ refused not_json
           unfolding name_at
-          no-colon f = bind_ok _ (byte_is 34 s at is_quote) ∙ bind_ok _ counted ∙ bind_ok _ is_text ∙ bind_ok _ fresh ∙ bind_refused _ (byte_not 58 s (skip_at s e) f)
+          no_colon f = bind_ok _ (byte_is 34 s at is_quote) ∙ bind_ok _ counted ∙ bind_ok _ is_text ∙ bind_ok _ fresh ∙ bind_refused _ (byte_not 58 s (skip_at s e) f)
 
           pub spelt : get_or s (skip_at s e) 0 ≡ 58 → name_at s names n at ≡ ok (record { stop = e - 1; value = skip_at s (skip_at s e + 1) })
           unfolding name_at

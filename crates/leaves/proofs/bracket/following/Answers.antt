@@ -4,7 +4,6 @@ use Rattle.leaves.proofs.Values.{continues_not, continues_on, continues_shut}
 use Rattle.leaves.proofs.MemberName.{byte_inside}
 use mathlib.Core.Path.{sym, ◌∙◌}
 use native.Mathlib.Omega.{arith}
-use borrow.Author.Rules.{rules}
 use Rattle.leaves.proofs.bracket.following.Goals as goal
 
 pub overflow_add-here : goal.overflow_add-here

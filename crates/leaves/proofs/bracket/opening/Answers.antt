@@ -4,7 +4,6 @@ use Rattle.leaves.proofs.Values.{opens_on, opens_shut}
 use Rattle.leaves.proofs.MemberName.{byte_inside}
 use mathlib.Core.Path.{sym, ◌∙◌}
 use native.Mathlib.Omega.{arith}
-use borrow.Author.Rules.{rules}
 use Rattle.leaves.proofs.bracket.opening.Goals as goal
 
 pub overflow_add-result : goal.overflow_add-result

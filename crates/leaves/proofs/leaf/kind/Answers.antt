@@ -2,7 +2,6 @@
 -- Assumes nothing.
 use Rattle.leaves.proofs.Values.{starts_digit, starts_none}
 use native.Mathlib.Omega.{arith}
-use borrow.Author.Rules.{rules}
 use Rattle.leaves.proofs.leaf.kind.Goals as goal
 
 pub returns-in-48-to-57 : goal.returns-in-48-to-57
@@ -10,14 +9,14 @@ returns-in-48-to-57 c = (starts_digit c.args.c (omega arith) (omega arith), omeg
 
 pub returns-in_default : goal.returns-in_default
 returns-in_default c = (
-  starts_none c.args.c c.in_default-1.rest.0.0.0.0.0.0.1 c.in_default-1.rest.0.0.0.0.0.1
-      (λ p q. omega arith) c.in_default-1.rest.0.0.0.0.1 c.in_default-1.rest.0.0.0.1 c.in_default-1.rest.0.0.1 c.in_default-1.rest.0.1 c.in_default-1.rest.1,
+  starts_none c.args.c (λ e. omega arith) (λ e. omega arith)
+      (λ p q. omega arith) (λ e. omega arith) (λ e. omega arith) (λ e. omega arith) (λ e. omega arith) (λ e. omega arith),
   omega arith,
 )
 
 pub returns-in_default-2 : goal.returns-in_default-2
 returns-in_default-2 c = (
-  starts_none c.args.c c.in_default-1.rest.0.0.0.0.0.0.1 c.in_default-1.rest.0.0.0.0.0.1
-      (λ p q. omega arith) c.in_default-1.rest.0.0.0.0.1 c.in_default-1.rest.0.0.0.1 c.in_default-1.rest.0.0.1 c.in_default-1.rest.0.1 c.in_default-1.rest.1,
+  starts_none c.args.c (λ e. omega arith) (λ e. omega arith)
+      (λ p q. omega arith) (λ e. omega arith) (λ e. omega arith) (λ e. omega arith) (λ e. omega arith) (λ e. omega arith),
   omega arith,
 )

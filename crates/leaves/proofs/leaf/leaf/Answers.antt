@@ -6,44 +6,39 @@ use Rattle.strings.specs.declared.answer.Refusal.TheVariants as whys
 use Rattle.json_text.specs.Spans.{leaf}
 use Rattle.json_text.specs.Refusal.{ok}
 use Rattle.json_text.specs.Placing.{read_at}
-use Rattle.leaves.specs.Laid.{plain_by, scan_by, start_by}
+use Rattle.leaves.specs.Laid.{plain_by, start_by}
 use Rattle.strings.specs.Answers.{scan_of}
 use Prim.Native.Nat.{◌+◌, ◌-◌}
 use mathlib.Core.Path.{ap, refl, ◌∙◌, ◌≡◌}
 use native.Mathlib.Omega.{arith}
-use borrow.Author.Rules.{rules}
+use Rattle.leaves.proofs.leaf.leaf.Goals.{Then-k-eq4, Else-k-eq4}
 use Rattle.leaves.proofs.leaf.leaf.Goals as goal
 
--- PLACE In-End
-scanned : (c : In-End) → scan_by (plain_by c.kind-k.result) c.args.s.now c.args.at ≡ ok c.in-End.e
+-- a text was scanned
+is_text_lem : (c : Then-k-eq4) → read_at 0 c.args.s.now c.args.node c.args.at ≡ ok (record {
+  tree = leaf
+      (plain_by c.kind-k.result)
+      (c.args.at + 1) (c.in-End.e - 1);
+  place = c.in-End.e;
+  count = c.args.node + 1;
+})
 unfolding scan_of
-scanned (goal.at.scanned c).In-End = c.scan.ensures ∙ ap scan_of c.in-End.is
-
--- PLACE Then-k-eq4
-is_text_lem : (c : Then-k-eq4) → read_at 0 c.args.s.now c.args.node c.args.at ≡ ok (record { tree = leaf
-          (plain_by c.kind-k.result)
-          (c.args.at + 1) (c.in-End.e - 1);
-      place = c.in-End.e;
-      count = c.args.node + 1;
-    })
-is_text_lem (goal.at.is_text_lem c).Then-k-eq4 =
-    
-    
+is_text_lem c =
     leaf_text c.args.s.now c.args.node c.args.at c.kind-k.result c.kind-k.ensures.0 (omega arith)
-    (omega arith) c.in-End.e c.if-k-eq4.true (scanned (goal.at.is_text_lem c).In-End
+    (omega arith) c.in-End.e c.if-k-eq4.true (c.scan.ensures ∙ ap scan_of c.in-End.is)
 
--- PLACE Else-k-eq4
-is-other : (c : Else-k-eq4) → read_at 0 c.args.s.now c.args.node c.args.at ≡ ok (record { tree = leaf
-          (plain_by c.kind-k.result)
-          c.args.at c.in-End.e;
-      place = c.in-End.e;
-      count = c.args.node + 1;
-    })
-is-other (goal.at.is-other c).Else-k-eq4 =
-    
-    
+-- another value was scanned
+is_other : (c : Else-k-eq4) → read_at 0 c.args.s.now c.args.node c.args.at ≡ ok (record {
+  tree = leaf
+      (plain_by c.kind-k.result)
+      c.args.at c.in-End.e;
+  place = c.in-End.e;
+  count = c.args.node + 1;
+})
+unfolding scan_of
+is_other c =
     leaf_is c.args.s.now c.args.node c.args.at c.kind-k.result c.kind-k.ensures.0 (omega arith)
-    (omega arith) c.in-End.e c.if-k-eq4.false (scanned (goal.at.is-other c).In-End
+    (omega arith) c.in-End.e c.if-k-eq4.false (c.scan.ensures ∙ ap scan_of c.in-End.is)
 
 pub returns-then-s-at : goal.returns-then-s-at
 returns-then-s-at c =
@@ -71,12 +66,12 @@ pub overflow_sub-e : goal.overflow_sub-e
 overflow_sub-e c =
     omega (
       arith,
-      (read_places 0 c.args.s.now c.args.node c.args.at _ c.requires.upto (is_text_lem (goal.at.overflow_sub-e c).Then-k-eq4).0,
+      (read_places 0 c.args.s.now c.args.node c.args.at _ c.requires.upto (is_text_lem (goal.at.overflow_sub-e c).Then-k-eq4)).0,
     )
 
 pub lay-requires : goal.lay-requires
 lay-requires c =
-    let f = read_places 0 c.args.s.now c.args.node c.args.at _ c.requires.upto (is_text_lem (goal.at.lay-requires c).Then-k-eq4 in
+    let f = read_places 0 c.args.s.now c.args.node c.args.at _ c.requires.upto (is_text_lem (goal.at.lay-requires c).Then-k-eq4) in
     record {
       long = c.requires.long;
       room = c.if-node-ge4096.false;
@@ -92,11 +87,11 @@ returns-then-k-eq4 c =
     (omega (
       arith,
       c.if-k-gt4.false,
-    )) (is_text_lem (goal.at.returns-then-k-eq4 c).Then-k-eq4 c.lay.ensures
+    )) (is_text_lem (goal.at.returns-then-k-eq4 c).Then-k-eq4) c.lay.ensures
 
 pub lay-requires-in-End : goal.lay-requires-in-End
 lay-requires-in-End c =
-    let f = read_places 0 c.args.s.now c.args.node c.args.at _ c.requires.upto (is-other (goal.at.lay-requires-in-End c).Else-k-eq4 in
+    let f = read_places 0 c.args.s.now c.args.node c.args.at _ c.requires.upto (is_other (goal.at.lay-requires-in-End c).Else-k-eq4) in
     record {
       long = c.requires.long;
       room = c.if-node-ge4096.false;
@@ -120,4 +115,4 @@ returns-else-k-eq4 c =
     (omega (
       arith,
       c.if-k-gt4.false,
-    )) (is-other (goal.at.returns-else-k-eq4 c).Else-k-eq4 c.lay-in-End.ensures
+    )) (is_other (goal.at.returns-else-k-eq4 c).Else-k-eq4) c.lay-in-End.ensures

@@ -1,9 +1,9 @@
 -- `reader::leaf::scan` meets its contract: by the kind.
 -- Assumes nothing.
+use native.Mathlib.Omega.{arith}
 use Rattle.leaves.proofs.Values.{last}
 use Rattle.leaves.specs.Laid.{scan_by}
 use mathlib.Core.Path.{◌≡◌}
-use borrow.Author.Rules.{rules}
 use Rattle.leaves.proofs.leaf.scan.Goals as goal
 
 pub returns-in-0 : goal.returns-in-0
@@ -25,6 +25,6 @@ returns-in-3 c = rw c.in-3.is c.number.ensures
 pub returns-in_default : goal.returns-in_default
 unfolding scan_by
 returns-in_default c =
-    let k : c.args.kind ≡ 4 = last c.args.kind c.requires.1 c.in_default.rest.0.0.0.1 c.in_default.rest.0.0.1
-    c.in_default.rest.0.1 c.in_default.rest.1 in
+    let k : c.args.kind ≡ 4 = last c.args.kind c.requires.1 (λ e. omega arith) (λ e. omega arith)
+    (λ e. omega arith) (λ e. omega arith) in
     rw k c.string.ensures

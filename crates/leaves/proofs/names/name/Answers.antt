@@ -1,6 +1,6 @@
 -- `reader::names::name` meets its contract: step by step as `name_at`.
 -- Assumes nothing.
-use Rattle.leaves.proofs.MemberName.{Quoted, again, bad_text, byte_inside, marks_grow, no-colon, no_quote, no_room, on_text_lem, quoted, spelt}
+use Rattle.leaves.proofs.MemberName.{Quoted, again, bad_text, byte_inside, marks_grow, no_colon, no_quote, no_room, on_text_lem, quoted, spelt}
 use Rattle.leaves.proofs.Marks.{unmarked}
 use Rattle.json_text.specs.Spans.{text_at}
 use Rattle.json_text.specs.Refusal.{Result, ok}
@@ -14,44 +14,40 @@ use Prim.Native.Nat.{ℕ, ◌+◌, ◌-◌, ◌<◌}
 use mathlib.Core.Bool.{false, true}
 use mathlib.Core.Path.{ap, refl, sym, ◌∙◌, ◌≡◌}
 use native.Mathlib.Omega.{arith}
-use borrow.Author.Rules.{rules}
+use Rattle.leaves.proofs.names.name.Goals.{In-End, Else-byte_at-ne58}
 use Rattle.leaves.proofs.names.name.Goals as goal
 
--- PLACE In-End
+-- the text was scanned
 scanned : (c : In-End) → Quoted c.args.s.now c.args.at c.args.count c.in-End.e
 unfolding scan_of
-scanned (goal.at.scanned c).In-End =
-    
-    
+scanned c =
     quoted c.args.s.now c.args.at c.args.count c.in-End.e
     (sym c.byte_at.ensures ∙ c.if-byte_at-ne34.false) c.if-count-ge4096.false
     (c.string.ensures ∙ ap scan_of c.in-End.is)
 
--- PLACE Else-byte_at-ne58
+-- a colon stands behind it
 colon : (c : Else-byte_at-ne58) → c.skip-colon.result < length c.args.s.now
-colon (goal.at.colon c).Else-byte_at-ne58 =
+colon c =
     byte_inside
     c.args.s.now c.skip-colon.result 58
     (sym c.byte_at-in-End.ensures ∙ c.if-byte_at-ne58.false) (omega arith)
 
 pub returns-then-byte_at-ne34 : goal.returns-then-byte_at-ne34
 unfolding NameTold
-returns-then-byte_at-ne34 c =
-    (
-      no_quote c.args.s.now _ c.args.count c.args.at (λ q. c.if-byte_at-ne34.true (c.byte_at.ensures ∙ q)),
-      refl,
-      refl,
-    )
+returns-then-byte_at-ne34 c = (
+  no_quote c.args.s.now _ c.args.count c.args.at (λ q. c.if-byte_at-ne34.true (c.byte_at.ensures ∙ q)),
+  refl,
+  refl,
+)
 
 pub returns-then-count-ge4096 : goal.returns-then-count-ge4096
 unfolding NameTold
-returns-then-count-ge4096 c =
-    (
-      no_room c.args.s.now _ c.args.count c.args.at
-          (sym c.byte_at.ensures ∙ c.if-byte_at-ne34.false) c.if-count-ge4096.true,
-      refl,
-      refl,
-    )
+returns-then-count-ge4096 c = (
+  no_room c.args.s.now _ c.args.count c.args.at
+      (sym c.byte_at.ensures ∙ c.if-byte_at-ne34.false) c.if-count-ge4096.true,
+  refl,
+  refl,
+)
 
 pub string-requires : goal.string-requires
 string-requires c =
@@ -74,7 +70,7 @@ pub repeated-requires : goal.repeated-requires
 repeated-requires c =
     record {
       members = c.requires.members;
-      text = on_text_lem (scanned (goal.at.repeated-requires c).In-End;
+      text = on_text_lem (scanned (goal.at.repeated-requires c).In-End);
       sure = λ z. unmarked c.args.seen.now c.args.object
           (earlier c.args.s.now c.args.work.now c.args.object c.args.count) (text_at c.args.s.now (c.args.at + 1))
           c.requires.noted
@@ -92,13 +88,13 @@ returns-then-repeated c =
     )
 
 pub skip-colon-requires : goal.skip-colon-requires
-skip-colon-requires c = (scanned (goal.at.skip-colon-requires c).In-End.upto
+skip-colon-requires c = (scanned (goal.at.skip-colon-requires c).In-End).upto
 
 pub returns-then-byte_at-ne58 : goal.returns-then-byte_at-ne58
 unfolding NameTold
 returns-then-byte_at-ne58 c =
     let q = scanned (goal.at.returns-then-byte_at-ne58 c).In-End in (
-      no-colon c.args.s.now (earlier c.args.s.now c.args.work.now c.args.object c.args.count) c.args.count c.args.at
+      no_colon c.args.s.now (earlier c.args.s.now c.args.work.now c.args.object c.args.count) c.args.count c.args.at
           q.is_quote q.room _ q.is_text (sym c.repeated.ensures ∙ c.if-repeated.false)
           (λ z. c.if-byte_at-ne58.true
           (c.byte_at-in-End.ensures ∙ ap (λ (i : ℕ). get_or c.args.s.now i 0)
@@ -109,7 +105,7 @@ returns-then-byte_at-ne58 c =
 
 pub overflow_sub-e : goal.overflow_sub-e
 overflow_sub-e c =
-    omega (arith, (scanned (goal.at.overflow_sub-e c).In-End.order)
+    omega (arith, (scanned (goal.at.overflow_sub-e c).In-End).order)
 
 pub put_row-requires : goal.put_row-requires
 put_row-requires c =
@@ -128,25 +124,24 @@ overflow_sub-result c =
     omega (
       arith,
       (scanned
-          (goal.at.overflow_sub-result c).In-End.order,
+          (goal.at.overflow_sub-result c).In-End).order,
     )
 
 pub overflow_add-colon : goal.overflow_add-colon
-overflow_add-colon c = omega (arith, colon (goal.at.overflow_add-colon c).Else-byte_at-ne58
+overflow_add-colon c = omega (arith, colon (goal.at.overflow_add-colon c).Else-byte_at-ne58)
 
 pub skip-requires : goal.skip-requires
-skip-requires c = omega (arith, colon (goal.at.skip-requires c).Else-byte_at-ne58
+skip-requires c = omega (arith, colon (goal.at.skip-requires c).Else-byte_at-ne58)
 
 pub returns-in-Bad : goal.returns-in-Bad
 unfolding NameTold scan_of
-returns-in-Bad c =
-    (
-      bad_text c.args.s.now (earlier c.args.s.now c.args.work.now c.args.object c.args.count) c.args.count c.args.at
-          (sym c.byte_at.ensures ∙ c.if-byte_at-ne34.false) c.if-count-ge4096.false _
-          (c.string.ensures ∙ ap scan_of c.in-Bad.is),
-      refl,
-      refl,
-    )
+returns-in-Bad c = (
+  bad_text c.args.s.now (earlier c.args.s.now c.args.work.now c.args.object c.args.count) c.args.count c.args.at
+      (sym c.byte_at.ensures ∙ c.if-byte_at-ne34.false) c.if-count-ge4096.false _
+      (c.string.ensures ∙ ap scan_of c.in-Bad.is),
+  refl,
+  refl,
+)
 
 pub returns-else-byte_at-ne58 : goal.returns-else-byte_at-ne58
 unfolding NameTold

@@ -3,16 +3,14 @@
 use Rattle.leaves.proofs.Marks.{found_none, found_some}
 use Rattle.leaves.specs.Laid.{earlier}
 use Rattle.strings.specs.Answers.{found_of}
-use borrow.Author.Tests.{not-true}
 use Prim.Native.Nat.{◌+◌}
 use Rattle.json_text.specs.Spans.{text_at}
 use Rattle.json_text.specs.Table.{members_at}
 use mathlib.Core.Path.{ap, sym, ◌∙◌}
-use borrow.Author.Rules.{rules}
 use Rattle.leaves.proofs.names.repeated.Goals as goal
 
 pub returns-then-not-marked : goal.returns-then-not-marked
-returns-then-not-marked c = sym (c.requires.sure (not-true _ c.if-not-marked.true))
+returns-then-not-marked c = sym (c.requires.sure c.if-not-marked.true)
 
 pub find-requires : goal.find-requires
 find-requires c = (c.requires.members, c.requires.text)

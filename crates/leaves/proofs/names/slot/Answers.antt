@@ -1,9 +1,7 @@
 -- `reader::names::slot` meets its contract: the loop says that the rest of the text from this number on decides the whole.
 -- Assumes nothing.
-use Rattle.leaves.proofs.Marks.{Hashing, hashed_all, hashed_on, hashing}
+use Rattle.leaves.proofs.Marks.{hashed_all, hashed_on, hashing}
 use Rattle.strings.proofs.Leaves.{was_byte, was_end}
-use Rattle.json_text.specs.Cursor.{weight}
-use borrow.Author.Rules.{rules}
 use native.Mathlib.Omega.{arith}
 use Rattle.leaves.proofs.names.slot.Goals as goal
 
@@ -24,7 +22,7 @@ returns-in-End c = (
 )
 
 pub overflow_add-h : goal.overflow_add-h
-overflow_add-h c = omega (arith, c.wide.type-inv)
+overflow_add-h c = omega (arith, c.wide.type_inv)
 
 pub loop-t-smaller : goal.loop-t-smaller
 loop-t-smaller c =

@@ -1,10 +1,7 @@
 -- `reader::names::slot` meets its contract: the loop says that the rest of the text from this number on decides the whole.
 -- Assumes nothing.
-use Rattle.leaves.proofs.Marks.{Hashing, hashed_all, hashed_on, hashing}
-use Rattle.strings.proofs.Leaves.{was_byte, was_end}
+use Rattle.leaves.proofs.Marks.{Hashing}
 use Rattle.json_text.specs.Cursor.{weight}
-use borrow.Author.Rules.{rules}
-use native.Mathlib.Omega.{arith}
 use Rattle.leaves.proofs.names.slot.Given as goal
 
 abbrev pub invariant-loop-t : goal.invariant-loop-t
