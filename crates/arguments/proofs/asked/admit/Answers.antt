@@ -3,7 +3,6 @@
 use mathlib.Core.Path.{sym, ◌∙◌}
 use borrow.Author.Tests.{le-ltb, lt-ltb}
 use Rattle.arguments.specs.Asked.{admits, admits_at}
-use borrow.Author.Rules.{rules}
 use Rattle.arguments.proofs.asked.admit.Goals as goal
 
 pub returns-then-count-lt2 : goal.returns-then-count-lt2

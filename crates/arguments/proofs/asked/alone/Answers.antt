@@ -2,7 +2,6 @@
 -- Assumes nothing.
 use borrow.Author.Tests.{le-ltb, lt-ltb}
 use Rattle.arguments.specs.Asked.{alone}
-use borrow.Author.Rules.{rules}
 use Rattle.arguments.proofs.asked.alone.Goals as goal
 
 pub returns-then-count-gt1 : goal.returns-then-count-gt1

@@ -1,7 +1,6 @@
 -- `arguments::asked::by_word` meets its contract: by the word.
 -- Assumes nothing.
 use Rattle.arguments.specs.Asked.{asks}
-use borrow.Author.Rules.{rules}
 use Rattle.arguments.proofs.asked.by_word.Goals as goal
 
 pub returns-in-Evaluate : goal.returns-in-Evaluate

@@ -2,7 +2,6 @@
 -- Assumes nothing.
 use borrow.Author.Tests.{eq-eqb, ne_eqb}
 use Rattle.arguments.specs.Asked.{asks_for}
-use borrow.Author.Rules.{rules}
 use Rattle.arguments.proofs.asked.read.Goals as goal
 
 pub returns-then-count-eq0 : goal.returns-then-count-eq0

@@ -2,7 +2,6 @@
 -- Assumes nothing.
 use borrow.Author.Tests.{eq-eqb, le-leb, lt-leb, ne_eqb}
 use Rattle.arguments.specs.Asked.{with_file}
-use borrow.Author.Rules.{rules}
 use Rattle.arguments.proofs.asked.with_file.Goals as goal
 
 pub returns-then-count-passed : goal.returns-then-count-passed

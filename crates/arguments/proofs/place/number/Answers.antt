@@ -2,10 +2,8 @@
 -- Assumes nothing.
 use Prim.Native.Nat.{◌-◌}
 use native.Mathlib.Omega.{arith}
-use lib.ListN.{length}
 use Rattle.members.proofs.Digits.{a_digit, above_digits, below_digits}
-use Rattle.arguments.proofs.Digits.{Spelling, no_digit, one_more, spelling, spelt, too_many}
-use borrow.Author.Rules.{rules}
+use Rattle.arguments.proofs.Digits.{no_digit, one_more, spelling, spelt, too_many}
 use Rattle.arguments.proofs.place.number.Goals as goal
 
 pub loop-i-init : goal.loop-i-init

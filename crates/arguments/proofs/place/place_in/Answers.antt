@@ -3,7 +3,6 @@
 use mathlib.Core.Path.{◌∙◌}
 use native.Mathlib.Omega.{arith}
 use Rattle.arguments.proofs.First.{no_place, no_zero_in_front, one_byte, zero_in_front}
-use borrow.Author.Rules.{rules}
 use Rattle.arguments.proofs.place.place_in.Goals as goal
 
 pub returns-then-text-eq0 : goal.returns-then-text-eq0

@@ -4,7 +4,6 @@ use mathlib.Core.Path.{sym, ◌∙◌}
 use native.Mathlib.Omega.{arith}
 use Rattle.arguments.proofs.First.{dash, no_dash, other_byte}
 use Rattle.arguments.specs.Words.{option_of}
-use borrow.Author.Rules.{rules}
 use Rattle.arguments.proofs.word.option.Goals as goal
 
 pub returns-then-same : goal.returns-then-same

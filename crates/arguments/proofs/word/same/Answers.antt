@@ -1,9 +1,7 @@
 -- `arguments::word::same` meets its contract: what was passed is equal, so the rests decide.
 -- Assumes nothing.
 use Prim.Native.Nat.{◌-◌}
-use lib.ListN.{length}
-use Rattle.arguments.proofs.Same.{Matching, alike, apart, longer, matched, matching}
-use borrow.Author.Rules.{rules}
+use Rattle.arguments.proofs.Same.{alike, apart, longer, matched, matching}
 use Rattle.arguments.proofs.word.same.Goals as goal
 
 pub loop-i-init : goal.loop-i-init

@@ -2,8 +2,7 @@
 -- Assumes nothing.
 use Prim.Native.Nat.{◌-◌}
 use lib.ListN.{length}
-use Rattle.arguments.proofs.Same.{Matching, alike, apart, longer, matched, matching}
-use borrow.Author.Rules.{rules}
+use Rattle.arguments.proofs.Same.{Matching}
 use Rattle.arguments.proofs.word.same.Given as goal
 
 abbrev pub invariant-loop-i : goal.invariant-loop-i

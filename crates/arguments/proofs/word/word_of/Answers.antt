@@ -3,7 +3,6 @@
 use mathlib.Core.Path.{sym, ◌∙◌}
 use Rattle.json_text.specs.Bytes.{find}
 use Rattle.arguments.specs.Words.{option_of, word_of}
-use borrow.Author.Rules.{rules}
 use Rattle.arguments.proofs.word.word_of.Goals as goal
 
 pub returns-then-same : goal.returns-then-same
