@@ -2,11 +2,7 @@
 -- Assumes nothing.
 use mathlib.Core.Path.{ap}
 use native.Mathlib.Omega.{arith}
-use borrow.Author.Rules.{rules}
-use Prim.Native.Nat.{ℕ, ◌*◌, ◌+◌, ◌-◌, ◌<◌}
 use Rattle.json_text.specs.Refusal.{not_carried, wrong_shape}
-use Rattle.json_text.specs.Table.{value_at}
-use Rattle.members.proofs.Conditions.{faults_in}
 use Rattle.syntax.proofs.Faults.{
   array_left,
   cond_boolean,
@@ -39,42 +35,40 @@ use Rattle.syntax.proofs.Faults.{
   quant-no-that,
   quant-several,
 }
-use Rattle.members.proofs.Walks.{OverNodes, element_falls, element_node, full, room}
+use Rattle.members.proofs.Walks.{element_falls, element_node, full, room}
 use Rattle.members.proofs.Wanted.{found_node}
 use Rattle.members.specs.Answers.{fault_is}
-use Rattle.members.specs.Condition.{condition_array}
-use Rattle.members.specs.Verdicts.{fault_of}
 use Rattle.syntax.proofs.condition.+condition_conditions_quantifier.Goals as goal
 
 pub condition-kind_at-kind-requires : goal.condition-kind_at-kind-requires
-condition-kind_at-kind-requires t c = room c.requires.1
+condition-kind_at-kind-requires t c = room c.requires
 
 pub condition-returns-then-kind : goal.condition-returns-then-kind
 unfolding fault_is
 condition-returns-then-kind t c =
-    cond_boolean c.requires.1 _ c.kind_at-kind.ensures c.if-kind.true
+    cond_boolean c.requires _ c.kind_at-kind.ensures c.if-kind.true
 
 pub condition-returns-then-kind-ne-OBJECT : goal.condition-returns-then-kind-ne-OBJECT
 unfolding fault_is
 condition-returns-then-kind-ne-OBJECT t c =
-    cond_neither c.requires.1 _ c.kind_at-kind.ensures
+    cond_neither c.requires _ c.kind_at-kind.ensures
     c.if-kind.false c.if-kind-ne-OBJECT.true
 
 pub condition-overflow_add-from : goal.condition-overflow_add-from
-condition-overflow_add-from t c = omega (arith, (room c.requires.1).1)
+condition-overflow_add-from t c = omega (arith, (room c.requires).1)
 
 pub condition-after_at-end-requires : goal.condition-after_at-end-requires
-condition-after_at-end-requires t c = room c.requires.1
+condition-after_at-end-requires t c = room c.requires
 
 pub condition-count_members-requires : goal.condition-count_members-requires
 condition-count_members-requires t c =
-    members_full c.requires.1 _
+    members_full c.requires _
     c.kind_at-kind.ensures c.if-kind-ne-OBJECT.false _ c.after_at-end.ensures
 
 pub condition-returns-then-count_members-ne1 : goal.condition-returns-then-count_members-ne1
 unfolding fault_is
 condition-returns-then-count_members-ne1 t c =
-    cond-several c.requires.1 _
+    cond-several c.requires _
     c.kind_at-kind.ensures c.if-kind-ne-OBJECT.false _ c.after_at-end.ensures _
     c.count_members.ensures c.if-count_members-ne1.true
 
@@ -82,54 +76,52 @@ pub condition-overflow_add-inner : goal.condition-overflow_add-inner
 condition-overflow_add-inner t c =
     omega (
       arith,
-      (name-place c.requires.1 _
+      (name-place c.requires _
           c.kind_at-kind.ensures c.if-kind-ne-OBJECT.false _ c.after_at-end.ensures
           _ c.count_members.ensures c.if-count_members-ne1.false).1,
     )
 
 pub condition-start_at-requires : goal.condition-start_at-requires
 condition-start_at-requires t c =
-    name-place c.requires.1 _
+    name-place c.requires _
     c.kind_at-kind.ensures c.if-kind-ne-OBJECT.false _ c.after_at-end.ensures _
     c.count_members.ensures c.if-count_members-ne1.false
 
 pub condition-operator_at-requires : goal.condition-operator_at-requires
 condition-operator_at-requires t c =
-    inner_name c.requires.1 _
+    inner_name c.requires _
     c.kind_at-kind.ensures c.if-kind-ne-OBJECT.false _
     c.after_at-end.ensures _ c.count_members.ensures
     c.if-count_members-ne1.false _ c.start_at.ensures
 
 pub condition-overflow_sub-left : goal.condition-overflow_sub-left
 condition-overflow_sub-left t c =
-    object_left c.requires.1 _
+    object_left c.requires _
     c.kind_at-kind.ensures c.if-kind-ne-OBJECT.false
 
 pub condition-conditions-requires : goal.condition-conditions-requires
 condition-conditions-requires t c = (
   omega (
     arith,
-    c.requires.0,
-    object_left c.requires.1 _ c.kind_at-kind.ensures c.if-kind-ne-OBJECT.false,
+    object_left c.requires _ c.kind_at-kind.ensures c.if-kind-ne-OBJECT.false,
   ),
-  inner_node c.requires.1 _ c.kind_at-kind.ensures c.if-kind-ne-OBJECT.false _
+  inner_node c.requires _ c.kind_at-kind.ensures c.if-kind-ne-OBJECT.false _
       c.after_at-end.ensures _ c.count_members.ensures
       c.if-count_members-ne1.false,
 )
 
 pub condition-overflow_sub-left-in-Negation : goal.condition-overflow_sub-left-in-Negation
 condition-overflow_sub-left-in-Negation t c =
-    object_left c.requires.1 _
+    object_left c.requires _
     c.kind_at-kind.ensures c.if-kind-ne-OBJECT.false
 
 pub condition-condition-requires : goal.condition-condition-requires
 condition-condition-requires t c = (
   omega (
     arith,
-    c.requires.0,
-    object_left c.requires.1 _ c.kind_at-kind.ensures c.if-kind-ne-OBJECT.false,
+    object_left c.requires _ c.kind_at-kind.ensures c.if-kind-ne-OBJECT.false,
   ),
-  inner_node c.requires.1 _ c.kind_at-kind.ensures c.if-kind-ne-OBJECT.false _
+  inner_node c.requires _ c.kind_at-kind.ensures c.if-kind-ne-OBJECT.false _
       c.after_at-end.ensures _ c.count_members.ensures
       c.if-count_members-ne1.false,
 )
@@ -139,7 +131,7 @@ condition-pair_fault-requires t c =
     full
     (record {
       left = _;
-      is_node = inner_node c.requires.1 _
+      is_node = inner_node c.requires _
           c.kind_at-kind.ensures c.if-kind-ne-OBJECT.false _
           c.after_at-end.ensures _ c.count_members.ensures
           c.if-count_members-ne1.false;
@@ -147,24 +139,23 @@ condition-pair_fault-requires t c =
 
 pub condition-overflow_sub-left-in-Quantified : goal.condition-overflow_sub-left-in-Quantified
 condition-overflow_sub-left-in-Quantified t c =
-    object_left c.requires.1 _
+    object_left c.requires _
     c.kind_at-kind.ensures c.if-kind-ne-OBJECT.false
 
 pub condition-quantifier-requires : goal.condition-quantifier-requires
 condition-quantifier-requires t c = (
   omega (
     arith,
-    c.requires.0,
-    object_left c.requires.1 _ c.kind_at-kind.ensures c.if-kind-ne-OBJECT.false,
+    object_left c.requires _ c.kind_at-kind.ensures c.if-kind-ne-OBJECT.false,
   ),
-  inner_node c.requires.1 _ c.kind_at-kind.ensures c.if-kind-ne-OBJECT.false _
+  inner_node c.requires _ c.kind_at-kind.ensures c.if-kind-ne-OBJECT.false _
       c.after_at-end.ensures _ c.count_members.ensures
       c.if-count_members-ne1.false,
 )
 
 pub condition-returns-in-Junction : goal.condition-returns-in-Junction
 condition-returns-in-Junction t c =
-    cond-junction c.requires.1 _
+    cond-junction c.requires _
     c.kind_at-kind.ensures c.if-kind-ne-OBJECT.false _
     c.after_at-end.ensures _ c.count_members.ensures c.if-count_members-ne1.false
     _ c.start_at.ensures _ c.operator_at.ensures _
@@ -172,7 +163,7 @@ condition-returns-in-Junction t c =
 
 pub condition-returns-in-Negation : goal.condition-returns-in-Negation
 condition-returns-in-Negation t c =
-    cond-negation c.requires.1 _
+    cond-negation c.requires _
     c.kind_at-kind.ensures c.if-kind-ne-OBJECT.false _
     c.after_at-end.ensures _ c.count_members.ensures c.if-count_members-ne1.false
     _ c.start_at.ensures _
@@ -181,7 +172,7 @@ condition-returns-in-Negation t c =
 pub condition-returns-in-Exists : goal.condition-returns-in-Exists
 unfolding fault_is
 condition-returns-in-Exists t c =
-    cond-exists c.requires.1 _
+    cond-exists c.requires _
     c.kind_at-kind.ensures c.if-kind-ne-OBJECT.false _
     c.after_at-end.ensures _ c.count_members.ensures c.if-count_members-ne1.false
     _ c.start_at.ensures _ c.operator_at.ensures
@@ -189,7 +180,7 @@ condition-returns-in-Exists t c =
 
 pub condition-returns-in-Pair : goal.condition-returns-in-Pair
 condition-returns-in-Pair t c =
-    cond-pair c.requires.1 _
+    cond-pair c.requires _
     c.kind_at-kind.ensures c.if-kind-ne-OBJECT.false _
     c.after_at-end.ensures _ c.count_members.ensures c.if-count_members-ne1.false
     _ c.start_at.ensures _ c.operator_at.ensures _
@@ -197,7 +188,7 @@ condition-returns-in-Pair t c =
 
 pub condition-returns-in-Quantified : goal.condition-returns-in-Quantified
 condition-returns-in-Quantified t c =
-    cond-quantified c.requires.1 _
+    cond-quantified c.requires _
     c.kind_at-kind.ensures c.if-kind-ne-OBJECT.false _
     c.after_at-end.ensures _ c.count_members.ensures c.if-count_members-ne1.false
     _ c.start_at.ensures _ c.operator_at.ensures _
@@ -206,7 +197,7 @@ condition-returns-in-Quantified t c =
 pub condition-returns-in-NotCarried : goal.condition-returns-in-NotCarried
 unfolding fault_is
 condition-returns-in-NotCarried t c =
-    cond-not-carried c.requires.1 _
+    cond-not-carried c.requires _
     c.kind_at-kind.ensures c.if-kind-ne-OBJECT.false _
     c.after_at-end.ensures _ c.count_members.ensures c.if-count_members-ne1.false
     _ c.start_at.ensures _ c.operator_at.ensures
@@ -215,42 +206,41 @@ condition-returns-in-NotCarried t c =
 pub condition-returns-in-Unknown : goal.condition-returns-in-Unknown
 unfolding fault_is
 condition-returns-in-Unknown t c =
-    cond-unknown c.requires.1 _
+    cond-unknown c.requires _
     c.kind_at-kind.ensures c.if-kind-ne-OBJECT.false _
     c.after_at-end.ensures _ c.count_members.ensures c.if-count_members-ne1.false
     _ c.start_at.ensures _ c.operator_at.ensures
     c.in-Unknown.is
 
 pub conditions-kind_at-requires : goal.conditions-kind_at-requires
-conditions-kind_at-requires t c = room c.requires.1
+conditions-kind_at-requires t c = room c.requires
 
 pub conditions-returns-then-kind_at-ne-ARRAY : goal.conditions-returns-then-kind_at-ne-ARRAY
 unfolding fault_is
 conditions-returns-then-kind_at-ne-ARRAY t c =
-    not_conditions c.requires.1 _ c.kind_at.ensures c.if-kind_at-ne-ARRAY.true
+    not_conditions c.requires _ c.kind_at.ensures c.if-kind_at-ne-ARRAY.true
 
 pub conditions-after_at-end-requires : goal.conditions-after_at-end-requires
-conditions-after_at-end-requires t c = room c.requires.1
+conditions-after_at-end-requires t c = room c.requires
 
 pub conditions-overflow_add-k : goal.conditions-overflow_add-k
-conditions-overflow_add-k t c = omega (arith, (room c.requires.1).1)
+conditions-overflow_add-k t c = omega (arith, (room c.requires).1)
 
 pub conditions-loop-k-init : goal.conditions-loop-k-init
 conditions-loop-k-init t c =
-    over_conditions c.requires.1 _
+    over_conditions c.requires _
     c.kind_at.ensures c.if-kind_at-ne-ARRAY.false _ c.after_at-end.ensures
 
 pub conditions-overflow_sub-left : goal.conditions-overflow_sub-left
 conditions-overflow_sub-left t c =
-    array_left c.requires.1 _ c.kind_at.ensures
+    array_left c.requires _ c.kind_at.ensures
     c.if-kind_at-ne-ARRAY.false _ c.after_at-end.ensures
 
 pub conditions-condition-requires : goal.conditions-condition-requires
 conditions-condition-requires t c = (
   omega (
     arith,
-    c.requires.0,
-    array_left c.requires.1 _ c.kind_at.ensures c.if-kind_at-ne-ARRAY.false _
+    array_left c.requires _ c.kind_at.ensures c.if-kind_at-ne-ARRAY.false _
         c.after_at-end.ensures,
   ),
   element_node c.loop-k.invariant c.loop-k-test.true,
@@ -296,54 +286,54 @@ unfolding fault_is
 conditions-returns t c = conditions_sound c.loop-k.invariant c.loop-k-test.false
 
 pub quantifier-kind_at-requires : goal.quantifier-kind_at-requires
-quantifier-kind_at-requires t c = room c.requires.1
+quantifier-kind_at-requires t c = room c.requires
 
 pub quantifier-returns-then-kind_at-ne-OBJECT : goal.quantifier-returns-then-kind_at-ne-OBJECT
 unfolding fault_is
 quantifier-returns-then-kind_at-ne-OBJECT t c =
-    not_quantifier c.requires.1 _ c.kind_at.ensures c.if-kind_at-ne-OBJECT.true
+    not_quantifier c.requires _ c.kind_at.ensures c.if-kind_at-ne-OBJECT.true
 
 pub quantifier-overflow_add-from : goal.quantifier-overflow_add-from
-quantifier-overflow_add-from t c = omega (arith, (room c.requires.1).1)
+quantifier-overflow_add-from t c = omega (arith, (room c.requires).1)
 
 pub quantifier-after_at-end-requires : goal.quantifier-after_at-end-requires
-quantifier-after_at-end-requires t c = room c.requires.1
+quantifier-after_at-end-requires t c = room c.requires
 
 pub quantifier-count_members-requires : goal.quantifier-count_members-requires
 quantifier-count_members-requires t c =
-    members_full c.requires.1 _ c.kind_at.ensures
+    members_full c.requires _ c.kind_at.ensures
     c.if-kind_at-ne-OBJECT.false _ c.after_at-end.ensures
 
 pub quantifier-returns-then-count_members-ne3 : goal.quantifier-returns-then-count_members-ne3
 unfolding fault_is
 quantifier-returns-then-count_members-ne3 t c =
-    quant-several c.requires.1 _ c.kind_at.ensures
+    quant-several c.requires _ c.kind_at.ensures
     c.if-kind_at-ne-OBJECT.false _ c.after_at-end.ensures _ c.count_members.ensures
     c.if-count_members-ne3.true
 
 pub quantifier-named-requires : goal.quantifier-named-requires
 quantifier-named-requires t c =
-    members_full c.requires.1 _ c.kind_at.ensures
+    members_full c.requires _ c.kind_at.ensures
     c.if-kind_at-ne-OBJECT.false _ c.after_at-end.ensures
 
 pub quantifier-returns-in_default : goal.quantifier-returns-in_default
 unfolding fault_is
 quantifier-returns-in_default t c =
-    quant-no-in c.requires.1 _ c.kind_at.ensures
+    quant-no-in c.requires _ c.kind_at.ensures
     c.if-kind_at-ne-OBJECT.false _ c.after_at-end.ensures _
     c.count_members.ensures c.if-count_members-ne3.false _
     c.named.ensures.told.answers c.in_default.is
 
 pub quantifier-named-requires-2 : goal.quantifier-named-requires-2
 quantifier-named-requires-2 t c =
-    members_full c.requires.1 _
+    members_full c.requires _
     c.kind_at.ensures c.if-kind_at-ne-OBJECT.false _
     c.after_at-end.ensures
 
 pub quantifier-returns-in_default-named : goal.quantifier-returns-in_default-named
 unfolding fault_is
 quantifier-returns-in_default-named t c =
-    quant-no-as c.requires.1 _ c.kind_at.ensures
+    quant-no-as c.requires _ c.kind_at.ensures
     c.if-kind_at-ne-OBJECT.false _ c.after_at-end.ensures _
     c.count_members.ensures c.if-count_members-ne3.false _
     c.named.ensures.told.answers c.in-At._over
@@ -351,14 +341,14 @@ quantifier-returns-in_default-named t c =
 
 pub quantifier-named-requires-3 : goal.quantifier-named-requires-3
 quantifier-named-requires-3 t c =
-    members_full c.requires.1 _
-    c.kind_at.ensures c.if-kind_at-ne-OBJECT.left _
+    members_full c.requires _
+    c.kind_at.ensures c.if-kind_at-ne-OBJECT.false _
     c.after_at-end.ensures
 
 pub quantifier-returns-in_default-named-2 : goal.quantifier-returns-in_default-named-2
 unfolding fault_is
 quantifier-returns-in_default-named-2 t c =
-    quant-no-that c.requires.1 _ c.kind_at.ensures
+    quant-no-that c.requires _ c.kind_at.ensures
     c.if-kind_at-ne-OBJECT.false _ c.after_at-end.ensures _
     c.count_members.ensures c.if-count_members-ne3.false _
     c.named.ensures.told.answers c.in-At._over
@@ -375,7 +365,7 @@ quantifier-kind_at-requires-2 t c =
 pub quantifier-returns-then-kind_at-ne-TEXT : goal.quantifier-returns-then-kind_at-ne-TEXT
 unfolding fault_is
 quantifier-returns-then-kind_at-ne-TEXT t c =
-    quant-no-name c.requires.1 _ c.kind_at.ensures
+    quant-no-name c.requires _ c.kind_at.ensures
     c.if-kind_at-ne-OBJECT.false _ c.after_at-end.ensures _
     c.count_members.ensures c.if-count_members-ne3.false _
     c.named.ensures.told.answers c.in-At._over
@@ -387,21 +377,21 @@ quantifier-returns-then-kind_at-ne-TEXT t c =
 
 pub quantifier-overflow_sub-left : goal.quantifier-overflow_sub-left
 quantifier-overflow_sub-left t c =
-    object_left c.requires.1 _ c.kind_at.ensures
-    c.if-kind_at-ne-OBJECT.left
+    object_left c.requires _ c.kind_at.ensures
+    c.if-kind_at-ne-OBJECT.false
 
 pub quantifier-condition-requires : goal.quantifier-condition-requires
 quantifier-condition-requires t c = (
-  omega (arith, c.requires.0, object_left c.requires.1 _ c.kind_at.ensures c.if-kind_at-ne-OBJECT.left),
+  omega (arith, object_left c.requires _ c.kind_at.ensures c.if-kind_at-ne-OBJECT.false),
   found_left c.in-At-named-2.body c.named-3.ensures
       c.in-At-named-2.is
-      (members_left c.requires.1 _ c.kind_at.ensures c.if-kind_at-ne-OBJECT.left _
+      (members_left c.requires _ c.kind_at.ensures c.if-kind_at-ne-OBJECT.false _
       c.after_at-end.ensures),
 )
 
 pub quantifier-returns : goal.quantifier-returns
 quantifier-returns t c =
-    quant-body c.requires.1 _ c.kind_at.ensures
+    quant-body c.requires _ c.kind_at.ensures
     c.if-kind_at-ne-OBJECT.false _ c.after_at-end.ensures _
     c.count_members.ensures c.if-count_members-ne3.false _
     c.named.ensures.told.answers c.in-At._over

@@ -1,12 +1,10 @@
 -- `sheet::condition::count_elements` meets its contract: so many so far, and those from here on.
 -- Assumes nothing.
-use native.Mathlib.Omega.{arith}
 use Prim.Native.Nat.{◌-◌}
 use lib.ListN.{length}
 use Rattle.json_text.specs.Json.{elements}
 use Rattle.json_text.specs.Table.{values_at}
-use Rattle.syntax.proofs.Counts.{ElementsCounted, element_counted, elements_all, elements_counted}
-use Rattle.members.proofs.Walks.{element_falls, element_node, room}
+use Rattle.syntax.proofs.Counts.{ElementsCounted}
 use Rattle.syntax.proofs.condition.count_elements.Given as goal
 
 abbrev pub invariant-loop-k : goal.invariant-loop-k

@@ -1,12 +1,10 @@
 -- `sheet::condition::count_members` meets its contract: so many so far, and those from here on.
 -- Assumes nothing.
-use native.Mathlib.Omega.{arith}
 use Prim.Native.Nat.{◌-◌}
 use lib.ListN.{length}
 use Rattle.json_text.specs.Json.{entries}
 use Rattle.json_text.specs.Table.{members_at}
-use Rattle.syntax.proofs.Counts.{MembersCounted, member_counted, members_all, members_counted}
-use Rattle.members.proofs.Walks.{falls, name_room, value_room}
+use Rattle.syntax.proofs.Counts.{MembersCounted}
 use Rattle.syntax.proofs.condition.count_members.Given as goal
 
 abbrev pub invariant-loop-k : goal.invariant-loop-k

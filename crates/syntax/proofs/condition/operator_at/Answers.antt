@@ -3,7 +3,6 @@
 use mathlib.Core.Bool.{Bool, true}
 use mathlib.Core.Option.{Option, some}
 use mathlib.Core.Path.{ap, refl, sym, ◌∙◌, ◌≡◌}
-use borrow.Author.Rules.{rules}
 use Rattle.json_text.proofs.Laws.{same_bytes_true}
 use Rattle.json_text.specs.Bytes.{Bytes, ascii, find, same_bytes}
 use Rattle.members.specs.Answers.{form_of, mode_of, operator_of}

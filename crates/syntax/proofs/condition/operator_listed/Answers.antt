@@ -1,10 +1,9 @@
 -- `operator_listed` meets its contract: by the place of the name among the operators.
 -- Assumes nothing.
 use native.Mathlib.Omega.{arith}
-use Rattle.members.proofs.Operators.{known_only, no_operator, operator_at, past}
+use Rattle.members.proofs.Operators.{known_only, no_operator, operator_at}
 use Rattle.members.specs.Answers.{form_of, mode_of, operator_of}
 use Rattle.members.specs.Words.{words_from}
-use borrow.Author.Rules.{rules}
 use Rattle.syntax.proofs.condition.operator_listed.Goals as goal
 
 pub returns-in_default : goal.returns-in_default
@@ -109,29 +108,4 @@ returns-in-15 c =
 
 pub returns-in_default-n : goal.returns-in_default-n
 unfolding words_from operator_of
-returns-in_default-n c =
-    known_only _ _ c.which.ensures _ c.in-At.is
-    (past 15
-    (past 14
-    (past 13
-    (past 12
-    (past 11
-    (past 10
-    (past 9
-    (past 8
-    (past 7
-    (past 6
-    (past 5
-    (past 4
-    (past 3
-    (past 2
-    (past 1
-    (past 0 (omega arith)
-    c.in_default-n.rest.0.0.0.0.0.0.0.0.0.0.0.0.0.0.0.1)
-    c.in_default-n.rest.0.0.0.0.0.0.0.0.0.0.0.0.0.0.1)
-    c.in_default-n.rest.0.0.0.0.0.0.0.0.0.0.0.0.0.1)
-    c.in_default-n.rest.0.0.0.0.0.0.0.0.0.0.0.0.1)
-    c.in_default-n.rest.0.0.0.0.0.0.0.0.0.0.0.1) c.in_default-n.rest.0.0.0.0.0.0.0.0.0.0.1)
-    c.in_default-n.rest.0.0.0.0.0.0.0.0.0.1) c.in_default-n.rest.0.0.0.0.0.0.0.0.1)
-    c.in_default-n.rest.0.0.0.0.0.0.0.1) c.in_default-n.rest.0.0.0.0.0.0.1) c.in_default-n.rest.0.0.0.0.0.1)
-    c.in_default-n.rest.0.0.0.0.1) c.in_default-n.rest.0.0.0.1) c.in_default-n.rest.0.0.1) c.in_default-n.rest.0.1) c.in_default-n.rest.1)
+returns-in_default-n c = known_only _ _ c.which.ensures _ c.in-At.is (omega arith)

@@ -4,7 +4,6 @@ use Rattle.syntax.proofs.Faults.{pair_no_array, pair_other, pair_two}
 use Rattle.members.proofs.Walks.{room}
 use Rattle.members.proofs.Wanted.{array_nodes}
 use Rattle.members.specs.Answers.{fault_is}
-use borrow.Author.Rules.{rules}
 use Rattle.syntax.proofs.condition.pair_fault.Goals as goal
 
 pub kind_at-requires : goal.kind_at-requires
