@@ -1,6 +1,6 @@
 -- A sheet (the paper's "Sheet" and "Numbers by call"): its members, 9, then 10 and 11 for the condition at fault that begins first.
 -- Assumes nothing.
-use Rattle.std.specs.Prelude.{Bool, true, List, [], ◌++◌, ◌∷◌, ◌+◌}
+use Rattle.std.specs.Prelude.{Bool, true, List, [], ◌++◌, ◌∷◌}
 use Rattle.std.proofs.Math.Option.{Option, none, some}
 use Rattle.json_text.specs.Bytes.{Bytes, ascii, find}
 use Rattle.json_text.specs.Json.{Members, Value, as_array, as_object, elements, empty, entries, keys}

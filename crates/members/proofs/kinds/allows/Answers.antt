@@ -2,7 +2,6 @@
 -- Assumes nothing.
 use Rattle.members.proofs.Wanted.{allows_found, allows_nothing, found_node}
 use Rattle.members.specs.Wants.{meets}
-use borrow.Author.Rules.{rules}
 use Rattle.members.proofs.kinds.allows.Goals as goal
 
 pub fits-requires : goal.fits-requires

@@ -2,12 +2,9 @@
 -- Assumes nothing.
 use native.Mathlib.Omega.{arith}
 use mathlib.Core.Path.{refl, sym}
-use Prim.Native.Nat.{◌-◌}
-use Rattle.json_text.specs.Table.{values_at}
 use Rattle.members.proofs.Elements.{right_here, wrong_here}
 use Rattle.members.proofs.Shapes.{is_text_lem, no_text}
-use Rattle.members.proofs.Walks.{OverNodes, element_falls, element_node, no_element, room}
-use Rattle.members.specs.Verdicts.{all_of}
+use Rattle.members.proofs.Walks.{element_falls, element_node, no_element, room}
 use Rattle.members.specs.Wants.{meets}
 use Rattle.members.specs.declared.kinds.Want.TheVariants as wants
 use Rattle.members.proofs.kinds.are_texts.Goals as goal

@@ -1,12 +1,8 @@
 -- `sheet::kinds::are_texts` meets its contract: the loop says that the elements from here on decide.
 -- Assumes nothing.
-use native.Mathlib.Omega.{arith}
-use mathlib.Core.Path.{refl, sym}
 use Prim.Native.Nat.{◌-◌}
 use Rattle.json_text.specs.Table.{values_at}
-use Rattle.members.proofs.Elements.{right_here, wrong_here}
-use Rattle.members.proofs.Shapes.{is_text_lem, no_text}
-use Rattle.members.proofs.Walks.{OverNodes, element_falls, element_node, no_element, room}
+use Rattle.members.proofs.Walks.{OverNodes}
 use Rattle.members.specs.Verdicts.{all_of}
 use Rattle.members.specs.Wants.{meets}
 use Rattle.members.specs.declared.kinds.Want.TheVariants as wants

@@ -16,7 +16,6 @@ use Rattle.members.proofs.Wanted.{
   fits_version,
   version_places,
 }
-use borrow.Author.Rules.{rules}
 use Rattle.members.proofs.kinds.fits.Goals as goal
 
 pub kind_at-kind-requires : goal.kind_at-kind-requires

@@ -2,7 +2,6 @@
 -- Assumes nothing.
 use Rattle.members.proofs.Wanted.{found_node, needs_found, needs_nothing}
 use Rattle.members.specs.Wants.{meets}
-use borrow.Author.Rules.{rules}
 use Rattle.members.proofs.kinds.needs.Goals as goal
 
 pub fits-requires : goal.fits-requires

@@ -1,13 +1,10 @@
 -- `sheet::member::named` meets its contract: the loop says that the search from here on is the whole search.
 -- Assumes nothing.
-use native.Mathlib.Omega.{arith}
 use Prim.Native.Nat.{◌-◌}
-use Rattle.members.proofs.Walks.{falls, name_room, on_name, value_room}
 use Rattle.json_text.specs.Table.{members_at}
-use mathlib.Core.Path.{sym, ◌∙◌}
 use Rattle.json_text.specs.Bytes.{find}
 use Rattle.json_text.specs.Json.{entries}
-use Rattle.members.proofs.Names.{Sought, seek, sought_here, sought_nowhere, sought_on}
+use Rattle.members.proofs.Names.{Sought}
 use Rattle.members.proofs.member.named.Given as goal
 
 abbrev pub invariant-loop-k : goal.invariant-loop-k

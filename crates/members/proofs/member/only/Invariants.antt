@@ -1,12 +1,8 @@
 -- `sheet::member::only` meets its contract: the loop says that all names are known where those from here on are.
 -- Assumes nothing.
-use native.Mathlib.Omega.{arith}
-use borrow.Author.Rules.{rules}
 use Prim.Native.Nat.{◌-◌}
-use Rattle.members.proofs.Walks.{falls, name_room, no_member, on_name, value_room}
 use Rattle.json_text.specs.Table.{members_at}
-use mathlib.Core.Path.{refl, sym}
-use Rattle.members.proofs.Names.{Knowing, all_known, known_name, unknown_name}
+use Rattle.members.proofs.Names.{Knowing, all_known}
 use Rattle.members.specs.Words.{words}
 use Rattle.members.proofs.member.only.Given as goal
 

@@ -1,6 +1,5 @@
 -- `sheet::word::head` meets its contract: a fresh cursor has the whole text before it.
 -- Assumes nothing.
-use borrow.Author.Rules.{rules}
 use Rattle.strings.proofs.Leaves.{was_byte, was_end}
 use Rattle.members.proofs.Words.{head_none, head_some}
 use Rattle.members.proofs.word.head.Goals as goal

@@ -1,7 +1,6 @@
 -- `is_word` meets its contract: a text that begins with another byte, and with no escape, is another word.
 -- Assumes nothing.
 use native.Mathlib.Omega.{arith}
-use borrow.Author.Rules.{rules}
 use Rattle.members.proofs.Words.{other_start}
 use Rattle.members.proofs.word.is_word.Goals as goal
 

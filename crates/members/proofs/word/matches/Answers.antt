@@ -1,9 +1,7 @@
 -- `matches` meets its contract: up to the first escape a byte of the text is one of the sheet, and from there on `spells` answers.
 -- Assumes nothing.
-use Prim.Native.Nat.{◌+◌, ◌-◌}
 use native.Mathlib.Omega.{arith}
-use lib.ListN.{length}
-use Rattle.members.proofs.Words.{Spelling, fresh, plain_ended, plain_escape, plain_in, plain_like, plain_long, plain_unlike, plainly}
+use Rattle.members.proofs.Words.{plain_ended, plain_escape, plain_in, plain_like, plain_long, plain_unlike, plainly}
 use Rattle.members.proofs.word.matches.Goals as goal
 
 pub loop-at-init : goal.loop-at-init

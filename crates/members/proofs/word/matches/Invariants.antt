@@ -1,9 +1,8 @@
 -- `matches` meets its contract: up to the first escape a byte of the text is one of the sheet, and from there on `spells` answers.
 -- Assumes nothing.
 use Prim.Native.Nat.{◌+◌, ◌-◌}
-use native.Mathlib.Omega.{arith}
 use lib.ListN.{length}
-use Rattle.members.proofs.Words.{Spelling, fresh, plain_ended, plain_escape, plain_in, plain_like, plain_long, plain_unlike, plainly}
+use Rattle.members.proofs.Words.{Spelling, fresh}
 use Rattle.members.proofs.word.matches.Given as goal
 
 abbrev pub invariant-loop-at : goal.invariant-loop-at

@@ -1,10 +1,8 @@
 -- `sheet::word::spells` meets its contract: the loop says that what the cursor has before it is compared with the rest of the word.
 -- Assumes nothing.
 use native.Mathlib.Omega.{arith}
-use borrow.Author.Rules.{rules}
 use Rattle.strings.proofs.Leaves.{was_byte, was_end}
-use Rattle.json_text.specs.Cursor.{weight}
-use Rattle.members.proofs.Words.{Spelling, like, spelling, text_ended, unlike, word_ended}
+use Rattle.members.proofs.Words.{like, spelling, text_ended, unlike, word_ended}
 use Rattle.members.proofs.word.spells.Goals as goal
 
 pub loop-t-init : goal.loop-t-init

@@ -1,11 +1,9 @@
 -- `sheet::word::which` meets its contract: the loop says that the place among all words is the place among those from here on.
 -- Assumes nothing.
 use native.Mathlib.Omega.{arith}
-use Prim.Native.Nat.{◌-◌}
-use lib.ListN.{length}
 use mathlib.Core.Path.{sym, ◌∙◌}
 use Rattle.json_text.specs.Spans.{text_at}
-use Rattle.members.proofs.Words.{Listing, list_ended, listed, listing, listing_at, next_word, other_word, same_word}
+use Rattle.members.proofs.Words.{list_ended, listed, listing, listing_at, next_word, other_word, same_word}
 use Rattle.members.specs.Answers.{place_of}
 use Rattle.members.proofs.word.which.Goals.{else-names-from, else-names-i-eq44, then-names-from+else-is_word, then-names-i-eq44}
 use Rattle.members.proofs.word.which.Goals as goal

@@ -1,13 +1,9 @@
 -- `sheet::word::which` meets its contract: the loop says that the place among all words is the place among those from here on.
 -- Assumes nothing.
-use native.Mathlib.Omega.{arith}
 use Prim.Native.Nat.{◌-◌}
 use lib.ListN.{length}
-use mathlib.Core.Logic.{⊎_elim}
-use mathlib.Core.Path.{sym, ◌∙◌}
 use Rattle.json_text.specs.Spans.{text_at}
-use Rattle.members.proofs.Words.{Listing, list_ended, listed, listing, listing_at, next_word, other_word, same_word}
-use Rattle.members.specs.Answers.{place_of}
+use Rattle.members.proofs.Words.{Listing}
 use Rattle.members.proofs.word.which.Given as goal
 
 abbrev pub invariant-loop-i : goal.invariant-loop-i
