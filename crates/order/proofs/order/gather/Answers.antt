@@ -1,10 +1,9 @@
 -- `order::order::gather` meets its contract: the nodes gathered and those still to be are all.
 -- Assumes nothing.
 use native.Mathlib.Omega.{arith}
-use mathlib.Core.Path.{refl, ◌≡◌, ◌∙◌}
-use Prim.Native.Nat.{◌-◌}
-use lib.ListN.{length, length-set}
-use Rattle.order.proofs.Gathering.{Gathering, gathered_all, gathered_one, gathering, turn}
+use mathlib.Core.Path.{refl, ◌∙◌}
+use lib.ListN.{length-set}
+use Rattle.order.proofs.Gathering.{gathered_all, gathered_one, gathering, turn}
 use Rattle.order.proofs.order.gather.Goals as goal
 
 pub loop-k-init : goal.loop-k-init

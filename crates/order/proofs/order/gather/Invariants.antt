@@ -1,10 +1,9 @@
 -- `order::order::gather` meets its contract: the nodes gathered and those still to be are all.
 -- Assumes nothing.
-use native.Mathlib.Omega.{arith}
-use mathlib.Core.Path.{refl, ◌≡◌, ◌∙◌}
+use mathlib.Core.Path.{◌≡◌}
 use Prim.Native.Nat.{◌-◌}
-use lib.ListN.{length, length-set}
-use Rattle.order.proofs.Gathering.{Gathering, gathered_all, gathered_one, gathering, turn}
+use lib.ListN.{length}
+use Rattle.order.proofs.Gathering.{Gathering}
 use Rattle.order.proofs.order.gather.Given as goal
 
 abbrev pub invariant-loop-k : goal.invariant-loop-k

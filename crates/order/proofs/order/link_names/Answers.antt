@@ -1,6 +1,5 @@
 -- `order::order::link_names` meets its contract: what is chained is what the sort left.
 -- Assumes nothing.
-use borrow.Author.Rules.{rules}
 use mathlib.Core.List.{List}
 use mathlib.Core.Path.{ap, subst, sym, ◌∙◌}
 use Prim.Native.Nat.{ℕ}

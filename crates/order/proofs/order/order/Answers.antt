@@ -1,6 +1,5 @@
 -- `order::order::order` meets its contract: the tree's objects are linked, and behind it there is none.
 -- Assumes nothing.
-use borrow.Author.Rules.{rules}
 use mathlib.Core.Path.{◌≡◌}
 use native.Mathlib.Omega.{arith}
 use lib.ListN.{length}

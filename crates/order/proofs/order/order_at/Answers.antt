@@ -1,6 +1,5 @@
 -- `order::order::order_at` meets its contract: what is linked are the names that were gathered.
 -- Assumes nothing.
-use borrow.Author.Rules.{rules}
 use mathlib.Core.List.{List}
 use mathlib.Core.Path.{ap, subst, sym, ◌∙◌}
 use Prim.Native.Nat.{ℕ, ◌+◌}

@@ -1,7 +1,7 @@
 -- `order::order::order_rows` meets its contract: the objects passed are linked.
 -- Assumes nothing.
-use mathlib.Core.Path.{ap, refl, subst, ◌∙◌, ◌≡◌}
-use Prim.Native.Nat.{ℕ, ◌-◌, ◌<◌, ◌≤◌}
+use mathlib.Core.Path.{ap, refl, subst, ◌∙◌}
+use Prim.Native.Nat.{ℕ, ◌<◌}
 use native.Mathlib.Omega.{arith}
 use lib.ListN.{length}
 use Rattle.order.proofs.Ordering.{row_within, its_members, linked_none, linked_one, passed}

@@ -1,12 +1,8 @@
 -- `order::order::order_rows` meets its contract: the objects passed are linked.
 -- Assumes nothing.
-use mathlib.Core.Logic.{⊎_elim}
-use mathlib.Core.Path.{ap, refl, subst, ◌∙◌, ◌≡◌}
-use Prim.Native.Nat.{ℕ, ◌-◌, ◌<◌, ◌≤◌}
-use native.Mathlib.Omega.{arith}
+use mathlib.Core.Path.{◌≡◌}
+use Prim.Native.Nat.{◌-◌, ◌≤◌}
 use lib.ListN.{length}
-use Rattle.order.proofs.Ordering.{row_within, its_members, linked_none, linked_one, passed}
-use Rattle.json_text.specs.Table.{after_at}
 use Rattle.order.specs.Ordered.{LinkedUpto}
 use Rattle.order.proofs.order.order_rows.Given as goal
 

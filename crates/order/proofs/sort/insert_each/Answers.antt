@@ -1,11 +1,10 @@
 -- `insert_each` meets its contract: the loop says that the nodes from here on are in order.
 -- Assumes nothing.
 use mathlib.Core.Path.{ap, ◌∙◌, ◌≡◌}
-use Prim.Native.Nat.{◌+◌, ◌-◌, ◌≤◌}
+use Prim.Native.Nat.{◌+◌, ◌-◌}
 use native.Mathlib.Omega.{arith}
-use borrow.Author.Rules.{rules}
 use lib.ListN.{length}
-use Rattle.order.proofs.Inserting.{can_merge, merged_in, none_sorted, sorted_long, sorted_from}
+use Rattle.order.proofs.Inserting.{can_merge, merged_in, none_sorted, sorted_long}
 use Rattle.order.proofs.sort.insert_each.Goals as goal
 
 pub loop-i-init : goal.loop-i-init

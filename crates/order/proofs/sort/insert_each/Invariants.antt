@@ -1,11 +1,9 @@
 -- `insert_each` meets its contract: the loop says that the nodes from here on are in order.
 -- Assumes nothing.
-use mathlib.Core.Path.{ap, ◌∙◌, ◌≡◌}
-use Prim.Native.Nat.{◌+◌, ◌-◌, ◌≤◌}
-use native.Mathlib.Omega.{arith}
-use borrow.Author.Rules.{rules}
+use mathlib.Core.Path.{◌≡◌}
+use Prim.Native.Nat.{◌≤◌}
 use lib.ListN.{length}
-use Rattle.order.proofs.Inserting.{can_merge, merged_in, none_sorted, sorted_long, sorted_from}
+use Rattle.order.proofs.Inserting.{sorted_from}
 use Rattle.order.proofs.sort.insert_each.Given as goal
 
 abbrev pub invariant-loop-i : goal.invariant-loop-i

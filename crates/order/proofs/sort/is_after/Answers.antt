@@ -8,7 +8,6 @@ use Rattle.strings.specs.Answers.{order_of}
 use Rattle.json_text.specs.Bytes.{Bytes, order_bytes}
 use Rattle.json_text.specs.Spans.{text_at}
 use Rattle.json_text.specs.Table.{start_at}
-use borrow.Author.Rules.{rules}
 use Rattle.order.proofs.sort.is_after.Goals as goal
 
 after : (s : Bytes) (w : List ℕ) (a b x y : ℕ) (o : Ordering) → x ≡ start_at w a → y ≡ start_at w b

@@ -6,7 +6,6 @@ use native.Mathlib.Omega.{arith}
 use lib.ListN.{length}
 use Rattle.order.proofs.ByText.{text_get_d}
 use Rattle.order.proofs.Joining.{copied, front, halves, in_order_lem, merged}
-use borrow.Author.Rules.{rules}
 use Rattle.order.proofs.sort.join.Goals as goal
 
 pub is_after-requires : goal.is_after-requires

@@ -1,9 +1,7 @@
 -- `order::sort::merge` meets its contract: a turn puts the least of what is left in its place.
 -- Assumes nothing.
-use Prim.Native.Nat.{◌-◌}
 use native.Mathlib.Omega.{arith}
-use lib.ListN.{length}
-use Rattle.order.proofs.InPlace.{Merging, begins, ended, some_right, turn_left, turn_right}
+use Rattle.order.proofs.InPlace.{begins, ended, some_right, turn_left, turn_right}
 use Rattle.order.proofs.sort.merge.Goals.{else-right_first, then-right_first}
 use Rattle.order.proofs.sort.merge.Goals as goal
 

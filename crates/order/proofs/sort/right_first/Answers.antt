@@ -5,7 +5,6 @@ use lib.ListN.{drop_of_length-le}
 use lib.Seq.{drop-cons}
 use Rattle.order.proofs.ByText.{text_get_d, text_next}
 use Rattle.order.specs.ByText.{is_above}
-use borrow.Author.Rules.{rules}
 use Rattle.order.proofs.sort.right_first.Goals as goal
 
 pub is_after-requires : goal.is_after-requires
