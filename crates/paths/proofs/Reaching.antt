@@ -6,9 +6,7 @@ use mathlib.Core.Option.{Option, none, some}
 use mathlib.Core.Path.{ap, refl, subst, sym, ◌∙◌, ◌≡◌}
 use Prim.Native.Nat.{suc, zero, ℕ, ◌-◌, ◌≤◌}
 use native.Mathlib.Omega.{arith}
-use denote.Enum.Declared.{tag_of}
 use lib.ListN.{length}
-use types.Run.{OneOf, miss}
 use Rattle.json_text.proofs.Laws.{same_bytes_true}
 use Rattle.json_text.specs.Bytes.{Bytes, find, same_bytes}
 use Rattle.json_text.specs.Held.{HasNode}
@@ -39,7 +37,6 @@ use Rattle.paths.proofs.Stands.{impossible}
 use Rattle.paths.proofs.Trees.{Layer, a_false, a_null, a_number, a_text, a_true, an_array, an_object, layer, operand_at, text_row}
 use Rattle.paths.proofs.Unbound.{base_whole, root_whole}
 use Rattle.paths.proofs.Units.{parts_by, parts_after}
-use Rattle.paths.specs.contracts.operand.Kind as KindT
 
 pub null_at : {r : Looked} {o : Operand} → r ≡ lookeds.At o → NullTold r o
 unfolding or_null looked_of LookedFits
@@ -77,9 +74,6 @@ looked_as s t e bounds.Nothing f = record { means = refl; fits = tt }
 
 pub bound_looked : {s : Bytes} {t : List ℕ} {b : Bound} {m : Option lazy.Operand} → BoundAs s t b m → {r : Looked} (e : Bytes) → r ≡ found_as b → LookedAs s t e r (ok m)
 bound_looked {s} {t} {b} h e q = rw (q, ← h.means) (looked_as s t e b h.fits)
-
-abbrev pub scalars : List ℕ
-scalars = 0 ∷ 1 ∷ 2 ∷ 3 ∷ 4 ∷ 5 ∷ 6 ∷ 8 ∷ []
 
 -- the parts of a path, by its first dot
 pub parts_last : (e : Bytes) → further e ≡ none → parts e ≡ part e ∷ []
@@ -268,21 +262,21 @@ module _ (sheet : Sheet Condition) (touched : lazy.Frames → Value → lazy.Ope
   unfolding step_from meant bound_of BoundFits map_some
   named_some q h z m = record { means = rw (meant_as s t o kinds.Named q, (member_is h z).0, m.means); fits = m.fits }
 
-  pub other_none : OneOf scalars (tag_of KindT.the_type o.kind) → BoundAs s t bounds.Nothing (step_from sheet touched fs k (operand_of s t o))
+  pub other_none : (o.kind ≡ kinds.Object → ⊥) → (o.kind ≡ kinds.Named → ⊥) → BoundAs s t bounds.Nothing (step_from sheet touched fs k (operand_of s t o))
   unfolding bound_of BoundFits step_from meant
-  other_none h = record { means = go o.kind h; fits = tt }
+  other_none h g = record { means = go o.kind h g; fits = tt }
     where
-      go : (x : Kind) → OneOf scalars (tag_of KindT.the_type x) → none ≡ step_from sheet touched fs k (meant s t o.node o.depth x)
-      go kinds.Null z = refl
-      go kinds.False z = refl
-      go kinds.True z = refl
-      go kinds.Number z = refl
-      go kinds.Text z = refl
-      go kinds.Less z = refl
-      go kinds.Array z = refl
-      go kinds.Object z = absurd (miss scalars 7 tt z)
-      go kinds.Listed z = refl
-      go kinds.Named z = absurd (miss scalars 9 tt z)
+      go : (x : Kind) → (x ≡ kinds.Object → ⊥) → (x ≡ kinds.Named → ⊥) → none ≡ step_from sheet touched fs k (meant s t o.node o.depth x)
+      go kinds.Null y z = refl
+      go kinds.False y z = refl
+      go kinds.True y z = refl
+      go kinds.Number y z = refl
+      go kinds.Text y z = refl
+      go kinds.Less y z = refl
+      go kinds.Array y z = refl
+      go kinds.Object y z = absurd (y refl)
+      go kinds.Listed y z = refl
+      go kinds.Named y z = absurd (z refl)
 
 -- touching a node, by its row
 once_more : (sheet : Sheet Condition) (fs : lazy.Frames) (left : ℕ) (v : Value) → (left ≡ 0 → ⊥) → touch sheet left fs v ≡ read_part sheet (touch sheet (left - 1)) fs v

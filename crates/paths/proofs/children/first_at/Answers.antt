@@ -1,6 +1,5 @@
 -- `operands::children::first_at` meets its contract: by whether names are walked.
 -- Assumes nothing.
-use borrow.Author.Rules.{rules}
 use Rattle.paths.proofs.children.first_at.Goals as goal
 
 pub returns-then-named : goal.returns-then-named

@@ -1,6 +1,5 @@
 -- `operands::member::chosen` meets its contract: by whether the name is the part.
 -- Assumes nothing.
-use borrow.Author.Rules.{rules}
 use mathlib.Core.Path.{sym, ◌∙◌}
 use Rattle.paths.proofs.member.chosen.Goals as goal
 

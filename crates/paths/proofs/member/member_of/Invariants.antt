@@ -1,12 +1,10 @@
 -- `operands::member::member_of_lem` meets its contract: what is found further on, or else what was found before, is the member.
 -- Assumes nothing.
 use Prim.Native.Nat.{◌-◌}
-use Rattle.paths.proofs.Lookup.{Picking, name_there, pick_falls, pick_on, picked, picking, room_there}
+use Rattle.paths.proofs.Lookup.{Picking}
 use Rattle.paths.specs.Path.{part}
 use Rattle.paths.specs.Stored.{table}
 use Rattle.json_text.specs.Spans.{text_at}
-use borrow.Author.Rules.{rules}
-use native.Mathlib.Omega.{arith}
 use Rattle.paths.proofs.member.member_of.Given as goal
 
 abbrev pub invariant-loop-k : goal.invariant-loop-k

@@ -1,6 +1,5 @@
 -- `operands::operand::as_looked` meets its contract: by what was found.
 -- Assumes nothing.
-use borrow.Author.Rules.{rules}
 use mathlib.Core.Path.{ap, sym}
 use Rattle.paths.specs.Reached.{found_as}
 use Rattle.paths.proofs.operand.as_looked.Goals as goal

@@ -1,6 +1,5 @@
 -- `operands::operand::or_null` meets its contract: by what was found.
 -- Assumes nothing.
-use borrow.Author.Rules.{rules}
 use mathlib.Core.Path.{refl}
 use Rattle.paths.proofs.Reaching.{null_at, null_none}
 use Rattle.paths.specs.Lazy.{or_null}

@@ -1,6 +1,5 @@
 -- `operands::operand::value_at` meets its contract: the row's kind says how its value is read.
 -- Assumes nothing.
-use borrow.Author.Rules.{rules}
 use Rattle.paths.proofs.Trees.{value_means}
 use Rattle.paths.specs.Stored.{table}
 use Rattle.paths.proofs.operand.value_at.Goals as goal

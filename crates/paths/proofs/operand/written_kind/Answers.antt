@@ -1,6 +1,5 @@
 -- `operands::operand::written_kind` meets its contract: by the code.
 -- Assumes nothing.
-use borrow.Author.Rules.{rules}
 use borrow.Author.Tests.{ne_eqb}
 use mathlib.Core.Path.{◌∙◌}
 use Rattle.json_text.specs.Bytes.{choose}

@@ -1,14 +1,10 @@
 -- `operands::path::part_decoded` meets its contract: the rest of the part and the rest of the text compare as the whole.
 -- Assumes nothing.
-use mathlib.Core.Path.{◌≡◌, sym, ◌∙◌}
-use Rattle.paths.proofs.Matching.{part_apart, part_dot, part_ended, part_longer, part_on}
-use Rattle.paths.proofs.Searching.{start_before, start_on}
+use mathlib.Core.Path.{◌≡◌}
 use Rattle.paths.specs.Path.{part}
-use Rattle.strings.proofs.Leaves.{was_byte, was_end}
 use Rattle.json_text.specs.Bytes.{same_bytes}
 use Rattle.json_text.specs.Cursor.{OnText, before, weight}
 use Rattle.json_text.specs.Spans.{text_at}
-use borrow.Author.Rules.{rules}
 use Rattle.paths.proofs.path.part_decoded.Given as goal
 
 abbrev pub invariant-loop-p : goal.invariant-loop-p

@@ -2,11 +2,9 @@
 -- the same.
 -- Assumes nothing.
 use mathlib.Core.Path.{sym, ◌∙◌}
-use Prim.Native.Nat.{◌-◌}
 use native.Mathlib.Omega.{arith}
-use lib.ListN.{length}
 use borrow.Author.Tests.{ne_eqb}
-use Rattle.paths.proofs.Matching.{Alongside, alongside, alongside_apart, alongside_dot, alongside_dots, alongside_end, alongside_in_name, alongside_in_path, alongside_on}
+use Rattle.paths.proofs.Matching.{alongside, alongside_apart, alongside_dot, alongside_dots, alongside_end, alongside_in_name, alongside_in_path, alongside_on}
 use Rattle.paths.proofs.path.part_is.Goals as goal
 
 pub loop-name-init : goal.loop-name-init

@@ -3,7 +3,7 @@
 use mathlib.Core.Logic.{⊎_elim}
 use mathlib.Core.Path.{sym, ◌∙◌}
 use native.Mathlib.Omega.{arith}
-use Rattle.paths.proofs.Matching.{Spelled, spelled, spelled_apart, spelled_dot, spelled_end, spelled_in, spelled_longer, spelled_on}
+use Rattle.paths.proofs.Matching.{spelled, spelled_apart, spelled_dot, spelled_end, spelled_in, spelled_longer, spelled_on}
 use Rattle.paths.proofs.path.part_is_word.Goals as goal
 
 pub loop-n-init : goal.loop-n-init

@@ -1,15 +1,11 @@
 -- `operands::path::rest_at` meets its contract: no dot stands before the place, so the text from it on goes on as the whole does.
 -- Assumes nothing.
-use mathlib.Core.Path.{◌≡◌, refl, ◌∙◌}
+use mathlib.Core.Path.{◌≡◌}
 use Prim.Native.Nat.{◌-◌}
 use lib.ListN.{length}
-use Rattle.paths.proofs.Units.{dot_further, dot_here, unit_ended, unit_was}
 use Rattle.paths.specs.Path.{further}
-use Rattle.paths.specs.Told.{RestTold}
 use Rattle.json_text.specs.Cursor.{OnText}
 use Rattle.json_text.specs.Spans.{text_at}
-use borrow.Author.Rules.{rules}
-use native.Mathlib.Omega.{arith}
 use Rattle.paths.proofs.path.rest_at.Given as goal
 
 abbrev pub invariant-loop-x : goal.invariant-loop-x

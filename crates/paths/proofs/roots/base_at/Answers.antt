@@ -1,6 +1,5 @@
 -- `operands::roots::base_at` meets its contract: by the root.
 -- Assumes nothing.
-use borrow.Author.Rules.{rules}
 use Rattle.paths.proofs.Unbound.{base_args, base_fields, base_none, base_old}
 use Rattle.paths.proofs.roots.base_at.Goals as goal
 

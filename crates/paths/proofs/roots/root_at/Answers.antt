@@ -1,6 +1,5 @@
 -- `operands::roots::root_at` meets its contract: by the root.
 -- Assumes nothing.
-use borrow.Author.Rules.{rules}
 use Rattle.paths.proofs.Unbound.{told_args, told_entity, told_fields, told_from, told_id, told_no_from, told_no_id, told_old, told_to, told_unknown, told_version}
 use Rattle.paths.proofs.roots.root_at.Goals as goal
 

@@ -1,6 +1,5 @@
 -- `operands::roots::root_named` meets its contract: the first word that is the path's first part.
 -- Assumes nothing.
-use borrow.Author.Rules.{rules}
 use mathlib.Core.Path.{sym, ◌∙◌}
 use Rattle.paths.specs.Rooted.{root_of}
 use Rattle.json_text.specs.Bytes.{find}

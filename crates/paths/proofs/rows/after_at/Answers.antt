@@ -1,6 +1,5 @@
 -- `operands::rows::after_at` meets its contract: the word is one of the rows.
 -- Assumes nothing.
-use borrow.Author.Rules.{rules}
 use mathlib.Core.Path.{◌∙◌}
 use Prim.Native.Nat.{◌*◌, ◌+◌}
 use Rattle.paths.proofs.Words.{row_word}

@@ -1,6 +1,5 @@
 -- `operands::rows::end_at` meets its contract: the word is one of the rows.
 -- Assumes nothing.
-use borrow.Author.Rules.{rules}
 use Prim.Native.Nat.{◌*◌, ◌+◌}
 use Rattle.paths.proofs.Words.{row_word}
 use native.Mathlib.Omega.{arith}

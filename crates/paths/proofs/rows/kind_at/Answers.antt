@@ -1,6 +1,5 @@
 -- `operands::rows::kind_at` meets its contract: the word is one of the rows.
 -- Assumes nothing.
-use borrow.Author.Rules.{rules}
 use mathlib.Core.Path.{ap}
 use Prim.Native.Nat.{ℕ, ◌%◌, ◌*◌}
 use Rattle.paths.proofs.Words.{row_word}

@@ -1,6 +1,5 @@
 -- `operands::written::classify` meets its contract: by the first two units of the text.
 -- Assumes nothing.
-use borrow.Author.Rules.{rules}
 use Rattle.paths.proofs.Units.{alone, behind_dollar, not_dollar, once, twice, unit_ended, unit_was}
 use Rattle.paths.specs.Told.{WrittenTold}
 use Rattle.paths.proofs.written.classify.Goals as goal

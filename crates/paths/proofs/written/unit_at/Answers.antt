@@ -1,11 +1,9 @@
 -- `operands::written::unit_at` meets its contract: by the byte at the place, a law for each.
 -- Assumes nothing.
-use borrow.Author.Rules.{rules}
 use Rattle.paths.proofs.Units.{unit_bad, unit_end, unit_escape, unit_raw}
 use Rattle.paths.specs.Told.{UnitTold}
 use Rattle.strings.proofs.Leaves.{escape_was, escape_was_bad}
 use Rattle.json_text.specs.Refusal.{not_json}
-use native.Mathlib.Omega.{arith}
 use Rattle.paths.proofs.written.unit_at.Goals as goal
 
 pub returns-then-b-eq34 : goal.returns-then-b-eq34

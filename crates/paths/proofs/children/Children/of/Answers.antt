@@ -1,6 +1,5 @@
 -- `operands::children::Children::of` starts a walk.
 -- Assumes nothing.
-use borrow.Author.Rules.{rules}
 use native.Mathlib.Omega.{arith}
 use Rattle.paths.proofs.children.Children.of.Goals as goal
 

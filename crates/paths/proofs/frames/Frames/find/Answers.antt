@@ -1,12 +1,8 @@
 -- `operands::frames::Frames::find` meets its contract: what is found among the frames left is the answer.
 -- Assumes nothing.
-use borrow.Author.Rules.{rules}
-use mathlib.Core.Path.{◌≡◌, refl, sym, ◌∙◌}
-use Prim.Native.Nat.{◌-◌, ◌≤◌}
+use mathlib.Core.Path.{refl, sym, ◌∙◌}
+use Prim.Native.Nat.{◌-◌}
 use Rattle.paths.proofs.Stack.{bound_here, bound_none, bound_on, name_at}
-use Rattle.paths.specs.Path.{part}
-use Rattle.paths.specs.Stack.{bound_in, top}
-use Rattle.json_text.specs.Spans.{text_at}
 use native.Mathlib.Omega.{arith}
 use Rattle.paths.proofs.frames.Frames.find.Goals as goal
 
