@@ -102,12 +102,12 @@ module _ (s : Bytes) (at a : ℕ) (room : at + 4 ≤ length s) (is_a : hex_digit
         three : hex 4 0 (drop at s) ≡ hex 1 (((0 * 16 + a) * 16 + b) * 16 + c) (drop (at + 3) s)
         three = let q : at + 2 + 1 ≡ at + 3 = omega arith in two ∙ hex_step 1 ((0 * 16 + a) * 16 + b) s (at + 2) c (omega arith) is_c ok_c ∙ rw q
 
-        pub fourth-bad : 16 ≤ d → HexTold s at hexes.Bad
-        fourth-bad h = told_bad (three ∙ hex_stop 0 (((0 * 16 + a) * 16 + b) * 16 + c) s (at + 3) d (omega arith) is_d h)
+        pub fourth_bad : 16 ≤ d → HexTold s at hexes.Bad
+        fourth_bad h = told_bad (three ∙ hex_stop 0 (((0 * 16 + a) * 16 + b) * 16 + c) s (at + 3) d (omega arith) is_d h)
 
-        pub all-four : d < 16 → HexTold s at (hexes.Unit (((a * 16 + b) * 16 + c) * 16 + d))
+        pub all_four : d < 16 → HexTold s at (hexes.Unit (((a * 16 + b) * 16 + c) * 16 + d))
         unfolding hex hex_of HexIn
-        all-four h =
+        all_four h =
             record {
               answers = let q : at + 3 + 1 ≡ at + 4 = omega arith in three ∙ hex_step 0 (((0 * 16 + a) * 16 + b) * 16 + c) s (at + 3) d (omega arith) is_d h ∙ rw (q, zero-add a);
               bounds = (omega arith, room);
@@ -198,25 +198,25 @@ module _ (s : Bytes) (at : ℕ) where
       escape_other f = rw (first_byte s at h, none_simple, escaped, ne_eqb (get_or s at 0) 117 f)
 
       module _ (is_u : get_or s at 0 ≡ 117) where
-        escape-u : escaped (drop at s) ≡ (hex 4 0 (drop (at + 1) s) >>= unit_scalar)
+        escape_u : escaped (drop at s) ≡ (hex 4 0 (drop (at + 1) s) >>= unit_scalar)
         unfolding escaped
-        escape-u = rw (first_byte s at h, none_simple, escaped, eq-eqb (get_or s at 0) 117 is_u)
+        escape_u = rw (first_byte s at h, none_simple, escaped, eq-eqb (get_or s at 0) 117 is_u)
 
-        pub no-unit : hex 4 0 (drop (at + 1) s) ≡ refused not_json → escaped (drop at s) ≡ refused not_json
-        no-unit e = escape-u ∙ rw e
+        pub no_unit : hex 4 0 (drop (at + 1) s) ≡ refused not_json → escaped (drop at s) ≡ refused not_json
+        no_unit e = escape_u ∙ rw e
 
         module _ (u : ℕ) (r : Bytes) (e : hex 4 0 (drop (at + 1) s) ≡ ok (record { got = u; rest = r })) where
           pub plain_unit_lem : (55296 ≤ u → u ≤ 57343 → ⊥) → escaped (drop at s) ≡ ok (record { got = u; rest = r })
           unfolding unit_scalar
-          plain_unit_lem f = escape-u ∙ rw (e, between_out 55296 56319 u (λ a b. f a (omega arith)), between_out 56320 57343 u (λ a b. f (omega arith) b), unit_scalar)
+          plain_unit_lem f = escape_u ∙ rw (e, between_out 55296 56319 u (λ a b. f a (omega arith)), between_out 56320 57343 u (λ a b. f (omega arith) b), unit_scalar)
 
           pub low_unit_lem : 56320 ≤ u → u ≤ 57343 → escaped (drop at s) ≡ refused not_json
           unfolding unit_scalar
-          low_unit_lem p q = escape-u ∙ rw (e, between_out 55296 56319 u (λ a b. omega arith), between_of 56320 57343 u p q, unit_scalar)
+          low_unit_lem p q = escape_u ∙ rw (e, between_out 55296 56319 u (λ a b. omega arith), between_of 56320 57343 u p q, unit_scalar)
 
           pub high_unit_lem : 55296 ≤ u → u < 56320 → escaped (drop at s) ≡ high_scalar u r
           unfolding unit_scalar
-          high_unit_lem p q = escape-u ∙ rw (e, between_of 55296 56319 u p (omega arith), unit_scalar)
+          high_unit_lem p q = escape_u ∙ rw (e, between_of 55296 56319 u p (omega arith), unit_scalar)
 
 -- an answer for a later place is one for an earlier
 pub later : {s : Bytes} {at b : ℕ} {x y : Result (Read ℕ)} {r : Escaped} → x ≡ y → at ≤ b → EscapedTold s b y r → EscapedTold s at x r

@@ -2,7 +2,7 @@
 -- Assumes nothing.
 use native.Mathlib.Omega.{arith}
 use Prim.Native.Nat.{◌+◌}
-use Rattle.strings.proofs.Leaves.{escape_bad, escape_is, escape_none, escape_simple, escape_other, no-unit, plain_unit_lem, low_unit_lem, high_unit_lem, later, hex_was, hex_was_bad}
+use Rattle.strings.proofs.Leaves.{escape_bad, escape_is, escape_none, escape_simple, escape_other, no_unit, plain_unit_lem, low_unit_lem, high_unit_lem, later, hex_was, hex_was_bad}
 use Rattle.strings.proofs.escape.escape.Goals as goal
 
 pub returns-then-s-at : goal.returns-then-s-at
@@ -59,7 +59,7 @@ low_half-requires c =
 pub returns-in-Bad : goal.returns-in-Bad
 returns-in-Bad c =
     escape_bad
-    (no-unit c.args.s.now c.args.at (omega arith) _ c.simple-d.ensures.c_value
+    (no_unit c.args.s.now c.args.at (omega arith) _ c.simple-d.ensures.c_value
     c.if-d-ne0.false c.if-c-ne117.false
     (hex_was_bad c.hex4.ensures c.in-Bad.is))
 
