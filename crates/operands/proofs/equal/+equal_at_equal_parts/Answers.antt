@@ -1,7 +1,8 @@
 -- Equality and the walk over parts meet their contracts: classes first, then part by part. What falls is the number of layers left.
 -- Assumes nothing.
 use Prim.Native.Nat.{ℕ, ◌<◌}
-use mathlib.Core.Path.{sym, ◌∙◌}
+use mathlib.Core.Path.{ap, sym, ◌∙◌}
+use mathlib.Core.Bool.{not}
 use Prim.Native.Nat.{ℕ, ◌<◌, ◌+◌, ◌*◌, ◌-◌}
 use Rattle.paths.specs.Comparing.{alike}
 use Rattle.paths.specs.Layered.{alike_nodes, kids, part_at}
@@ -46,9 +47,9 @@ equal_at-returns-then-class-class_of t c =
 
 pub equal_at-same_leaf-requires : goal.equal_at-same_leaf-requires
 equal_at-same_leaf-requires t c = (
-  record { rows = c.requires.1.0.rows; node = omega arith },
-  c.requires.1.1,
-  c.requires.1.2,
+  record { rows = c.requires.0.rows; node = omega arith },
+  c.requires.1,
+  c.requires.2,
   c.if-class-lt5.true,
   sym c.class_of-class.ensures,
   sym c.class_of.ensures ∙ sym c.if-class-class_of.false,
@@ -67,13 +68,13 @@ equal_at-overflow_sub-left t c =
 
 pub equal_at-equal_parts-requires : goal.equal_at-equal_parts-requires
 equal_at-equal_parts-requires t c = (
-  layer_falls c.args.left c.requires.0 c.if-left-eq0.false,
+  layer_falls c.args.left c.decreases c.if-left-eq0.false,
   (
-    c.requires.1.0,
+    c.requires.0,
     equal-paired (sheet_in c.args.s.now) c.args.s.now (table c.args.work.now)
         (frames_of c.args.s.now (table c.args.work.now) c.args.frames) c.args.a c.args.b c.args.left c.if-left-eq0.false
         c.class_of-class.ensures c.class_of.ensures
-        c.if-class-class_of.false (λ h. omega (arith, h, c.if-class-lt5.false)) c.requires.1.1 c.requires.1.2,
+        c.if-class-class_of.false (λ h. omega (arith, h, c.if-class-lt5.false)) c.requires.1 c.requires.2,
   ),
 )
 
@@ -87,28 +88,28 @@ equal_at-returns t c =
 
 pub equal_parts-of-x-requires : goal.equal_parts-of-x-requires
 equal_parts-of-x-requires t c =
-    begin_room c.args.s.now c.args.work.now c.args.named c.requires.1.0.rows
-    c.requires.1.1.first
+    begin_room c.args.s.now c.args.work.now c.args.named c.requires.0.rows
+    c.requires.1.first
 
 pub equal_parts-of-y-requires : goal.equal_parts-of-y-requires
 equal_parts-of-y-requires t c =
-    begin_room c.args.s.now c.args.work.now c.args.named c.requires.1.0.rows
-    c.requires.1.1.second
+    begin_room c.args.s.now c.args.work.now c.args.named c.requires.0.rows
+    c.requires.1.second
 
 pub equal_parts-loop-p-init : goal.equal_parts-loop-p-init
 equal_parts-loop-p-init t c =
-    compare_begins c.requires.1.1 c.requires.1.0.linked c.of-x.ensures c.of-y.ensures
+    compare_begins c.requires.1 c.requires.0.linked c.of-x.ensures c.of-y.ensures
 
 pub equal_parts-next-requires : goal.equal_parts-next-requires
 equal_parts-next-requires t c = (
-  record { rows = c.requires.1.0.rows; node = omega arith },
+  record { rows = c.requires.0.rows; node = omega arith },
   c.loop-p.invariant.first.within,
 )
 
 pub equal_parts-next-requires-in_default : goal.equal_parts-next-requires-in_default
 equal_parts-next-requires-in_default t c = (
   record {
-    rows = c.requires.1.0.rows;
+    rows = c.requires.0.rows;
     node = omega arith;
   },
   c.loop-p.invariant.second.within,
@@ -134,7 +135,7 @@ equal_parts-returns-in-Is-next t c =
 pub equal_parts-next-requires-in-loop-p : goal.equal_parts-next-requires-in-loop-p
 equal_parts-next-requires-in-loop-p t c = (
   record {
-    rows = c.requires.1.0.rows;
+    rows = c.requires.0.rows;
     node = omega arith;
   },
   c.loop-p.invariant.second.within,
@@ -153,12 +154,12 @@ pub equal_parts-names_agree-requires : goal.equal_parts-names_agree-requires
 equal_parts-names_agree-requires t c =
     let frames = frames_of c.args.s.now (table c.args.work.now) c.args.frames in
     let child-given1 = child_given c.loop-p.invariant.second c.next-in-loop-p.ensures
-    c.in-Is-next-2.given.0.0 c.in-Is-next-2.given.1 in
+    c.in-Is-next-2.q c.in-Is-next-2.is in
     let child-given2 = child_given c.loop-p.invariant.first c.next.ensures c.in-Is.p
     c.in-Is.is in
     let part = part_at (sheet_in c.args.s.now) c.args.s.now (table c.args.work.now) frames c.args.a in
     let part1 = part_at (sheet_in c.args.s.now) c.args.s.now (table c.args.work.now) frames c.args.b in (
-      record { rows = c.requires.1.0.rows; node = omega arith },
+      record { rows = c.requires.0.rows; node = omega arith },
       first_child c.args.s.now (table c.args.work.now) (alike (sheet_in c.args.s.now) c.args.left frames) c.args.named part part1 _ c.loop-p.invariant child-given2
           child-given1,
       second_child c.args.s.now (table c.args.work.now) (alike (sheet_in c.args.s.now) c.args.left frames) c.args.named part part1 _ c.loop-p.invariant
@@ -173,7 +174,7 @@ equal_parts-returns-then-not-names_agree t c =
     (child_given c.loop-p.invariant.first c.next.ensures c.in-Is.p
     c.in-Is.is)
     (child_given c.loop-p.invariant.second c.next-in-loop-p.ensures c.in-Is-next-2.q
-    c.in-Is-next-2.is) c.names_agree.ensures c.if-not-names_agree.true
+    c.in-Is-next-2.is) c.names_agree.ensures (ap not c.if-not-names_agree.true)
 
 pub equal_parts-value_node-requires : goal.equal_parts-value_node-requires
 equal_parts-value_node-requires t c =
@@ -190,7 +191,7 @@ equal_parts-value_node-requires t c =
 pub equal_parts-part_of-u-requires : goal.equal_parts-part_of-u-requires
 equal_parts-part_of-u-requires t c =
     let frames = frames_of c.args.s.now (table c.args.work.now) c.args.frames in (
-      c.requires.1.0,
+      c.requires.0,
       rw c.value_node.ensures
           (value_there c.args.s.now (table c.args.work.now) c.args.named
           (first_child c.args.s.now (table c.args.work.now) (alike (sheet_in c.args.s.now) c.args.left frames) c.args.named
@@ -217,7 +218,7 @@ equal_parts-value_node-requires-in-loop-p t c =
 pub equal_parts-part_of-v-requires : goal.equal_parts-part_of-v-requires
 equal_parts-part_of-v-requires t c =
     let frames = frames_of c.args.s.now (table c.args.work.now) c.args.frames in (
-      c.requires.1.0,
+      c.requires.0,
       rw c.value_node-in-loop-p.ensures
           (value_there c.args.s.now (table c.args.work.now) c.args.named
           (second_child c.args.s.now (table c.args.work.now) (alike (sheet_in c.args.s.now) c.args.left frames) c.args.named
@@ -231,8 +232,8 @@ equal_parts-part_of-v-requires t c =
 
 pub equal_parts-equal_at-requires : goal.equal_parts-equal_at-requires
 equal_parts-equal_at-requires t c = (
-  part_falls c.args.left c.requires.0,
-  (c.requires.1.0, c.part_of-u.ensures.fits, c.part_of-v.ensures.fits),
+  part_falls c.args.left c.decreases,
+  (c.requires.0, c.part_of-u.ensures.fits, c.part_of-v.ensures.fits),
 )
 
 pub equal_parts-returns-then-not-equal_at : goal.equal_parts-returns-then-not-equal_at
@@ -243,15 +244,15 @@ equal_parts-returns-then-not-equal_at t c =
     (child_given c.loop-p.invariant.first c.next.ensures c.in-Is.p
     c.in-Is.is)
     (child_given c.loop-p.invariant.second c.next-in-loop-p.ensures c.in-Is-next-2.q
-    c.in-Is-next-2.is) c.names_agree.ensures c.if-not-names_agree.false
+    c.in-Is-next-2.is) c.names_agree.ensures (ap not c.if-not-names_agree.false)
     c.equal_at.ensures
     (rw c.value_node.ensures at c.part_of-u.ensures.means)
     (rw c.value_node-in-loop-p.ensures at c.part_of-v.ensures.means)
-    c.if-not-equal_at.true
+    (ap not c.if-not-equal_at.true)
 
 pub equal_parts-loop-p-smaller : goal.equal_parts-loop-p-smaller
 equal_parts-loop-p-smaller t c =
-    (child_given c.loop-p.inv.first c.next.ensures
+    (child_given c.loop-p.invariant.first c.next.ensures
     c.in-Is.p c.in-Is.is).falls
 
 pub equal_parts-loop-p-preserved : goal.equal_parts-loop-p-preserved
@@ -262,8 +263,8 @@ equal_parts-loop-p-preserved t c =
     (child_given c.loop-p.invariant.first c.next.ensures c.in-Is.p
     c.in-Is.is)
     (child_given c.loop-p.invariant.second c.next-in-loop-p.ensures c.in-Is-next-2.q
-    c.in-Is-next-2.is) c.names_agree.ensures c.if-not-names_agree.false
+    c.in-Is-next-2.is) c.names_agree.ensures (ap not c.if-not-names_agree.false)
     c.equal_at.ensures
     (rw c.value_node.ensures at c.part_of-u.ensures.means)
     (rw c.value_node-in-loop-p.ensures at
-    c.part_of-v.ensures.means) c.if-not-equal_at.false
+    c.part_of-v.ensures.means) (ap not c.if-not-equal_at.false)
