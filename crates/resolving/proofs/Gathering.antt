@@ -7,9 +7,7 @@ use mathlib.Core.Option.{some}
 use mathlib.Core.Path.{ap, refl, subst, ◌∙◌, ◌≡◌}
 use Prim.Native.Nat.{ℕ, ◌-◌, ◌<◌, ◌≤◌}
 use native.Mathlib.Omega.{arith}
-use denote.Enum.Declared.{tag_of}
 use lib.ListN.{length}
-use types.Run.{OneOf, miss}
 use Rattle.json_text.specs.Bytes.{Bytes}
 use Rattle.json_text.specs.Held.{HasNode}
 use Rattle.json_text.specs.Json.{text}
@@ -37,7 +35,6 @@ use Rattle.paths.specs.declared.operand.Resolved.TheVariants as answers
 use Rattle.resolving.proofs.Marking.{left_missed, left_none}
 use Rattle.paths.proofs.Stands.{impossible}
 use Rattle.paths.proofs.Trees.{Layer, a_false, a_null, a_number, a_text, a_true, an_array, an_object, layer, operand_at, text_row}
-use Rattle.paths.specs.contracts.operand.Kind as KindT
 
 -- an operand that is present leaves no mark
 pub present_as :
@@ -63,9 +60,6 @@ plain_value quiet sheet fs {s} {w} {n} {c} {x} h e u v z q = rw q (go (layer s (
     go (an_object k l i) = absurd (z (e ∙ k))
 
 -- a text
-abbrev pub not_null : List ℕ
-not_null = 1 ∷ 2 ∷ 3 ∷ 4 ∷ 5 ∷ 6 ∷ 7 ∷ 8 ∷ 9 ∷ []
-
 module _ (quiet : Bool) (sheet : Sheet Condition) (fs : lazy.Frames) (s : Bytes) (w : List ℕ) (n : ℕ) (row : HasKind s (table w) n 4) where
   opened : operand sheet fs (tree s (table w) n) ≡ operand_text sheet fs (text_at s (start_at (table w) n))
   unfolding operand
@@ -139,15 +133,3 @@ module _ (quiet : Bool) (sheet : Sheet Condition) (fs : lazy.Frames) (s : Bytes)
         seen kinds.Object u = refl
         seen kinds.Listed u = refl
         seen kinds.Named u = refl
-
-pub is_not_null : (x : Kind) → OneOf not_null (tag_of KindT.the_type x) → x ≡ kinds.Null → ⊥
-is_not_null kinds.Null o = absurd (miss not_null 0 tt o)
-is_not_null kinds.False o = λ q. impossible (cc)
-is_not_null kinds.True o = λ q. impossible (cc)
-is_not_null kinds.Number o = λ q. impossible (cc)
-is_not_null kinds.Text o = λ q. impossible (cc)
-is_not_null kinds.Less o = λ q. impossible (cc)
-is_not_null kinds.Array o = λ q. impossible (cc)
-is_not_null kinds.Object o = λ q. impossible (cc)
-is_not_null kinds.Listed o = λ q. impossible (cc)
-is_not_null kinds.Named o = λ q. impossible (cc)

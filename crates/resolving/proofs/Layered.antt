@@ -6,11 +6,9 @@ use mathlib.Core.Path.{ap, refl, subst, sym, ◌∙◌, ◌≡◌}
 use Prim.Native.Nat.{Ordering, suc, zero, ℕ, ◌+◌, ◌-◌, ◌<◌, ◌≤◌}
 use native.Mathlib.Numerals.{add-one}
 use native.Mathlib.Omega.{arith}
-use denote.Enum.Declared.{tag_of}
 use lib.Dec.{leb}
 use lib.ListN.{drop, get_or, length, length-append, length-drop, take}
 use lib.Seq.{length-slice, slice}
-use types.Run.{OneOf, miss}
 use borrow.Author.Tests.{le-leb, leb-false, leb-true}
 use Rattle.number.specs.Compare.{number_order}
 use Rattle.number.specs.Compared.{compared}
@@ -40,7 +38,6 @@ use Rattle.paths.specs.declared.operand.Kind.TheVariants as kinds
 use Rattle.paths.specs.declared.operand.Operand.{Operand}
 use Rattle.paths.proofs.Stands.{impossible}
 use Rattle.paths.proofs.Trees.{fields_are, from_names, from_nodes, items_are, number_row, text_row}
-use Rattle.paths.specs.contracts.operand.Kind as KindT
 
 -- the layer that the definitions see
 module _ (sheet : Sheet Condition) (s : Bytes) (t : List ℕ) where
@@ -274,25 +271,22 @@ module _ (s : Bytes) (t : List ℕ) (n : ℕ) where
   object_kind kinds.Listed h e = absurd (omega arith)
   object_kind kinds.Named h e = h
 
-abbrev pub not_less : List ℕ
-not_less = 0 ∷ 1 ∷ 2 ∷ 3 ∷ 4 ∷ 6 ∷ 7 ∷ 8 ∷ 9 ∷ []
-
 -- the place of a text
 module _ (s : Bytes) (t : List ℕ) (o : Operand) (h : OperandAt s t o) (c : class_of o.kind ≡ 4) {a : ℕ} (q : a ≡ start_at t o.node) where
   pub at_start : OnText s a 0
   at_start = subst (λ (x : ℕ). OnText s x 0) (sym q) (text_row (text_kind s t o.node o.kind h.fits c)).on_text
 
-  pub place_whole : OneOf not_less (tag_of KindT.the_type o.kind) → TextPlace s t o a
+  pub place_whole : (o.kind ≡ kinds.Less → ⊥) → TextPlace s t o a
   unfolding words_of
   place_whole k = record { is = ap (text_at s) q ∙ go o.kind c k; on_text = at_start }
     where
-      go : (x : Kind) → class_of x ≡ 4 → OneOf not_less (tag_of KindT.the_type x) → text_at s (start_at t o.node) ≡ words_of s t o.node x
+      go : (x : Kind) → class_of x ≡ 4 → (x ≡ kinds.Less → ⊥) → text_at s (start_at t o.node) ≡ words_of s t o.node x
       go kinds.Null e z = absurd (omega arith)
       go kinds.False e z = absurd (omega arith)
       go kinds.True e z = absurd (omega arith)
       go kinds.Number e z = absurd (omega arith)
       go kinds.Text e z = refl
-      go kinds.Less e z = absurd (miss not_less 5 tt z)
+      go kinds.Less e z = absurd (z refl)
       go kinds.Array e z = absurd (omega arith)
       go kinds.Object e z = absurd (omega arith)
       go kinds.Listed e z = absurd (omega arith)
@@ -416,29 +410,26 @@ module _ (s : Bytes) (t : List ℕ) (a b : Operand) where
       go kinds.Listed y u v = absurd (omega arith)
       go kinds.Named y u v = absurd (omega arith)
 
-abbrev pub values : List ℕ
-values = 0 ∷ 1 ∷ 2 ∷ 3 ∷ 4 ∷ 5 ∷ 6 ∷ 7 ∷ []
-
 -- a part by its node
 touched_part : (sheet : Sheet Condition) (v : Value) {gs hs : lazy.Frames} {m : ℕ} → gs ≡ hs → m ≡ length gs + 1 → touch sheet m gs v ≡ part_of sheet hs v
 touched_part sheet v e q = rw (q, e, add-one)
 
 module _ (sheet : Sheet Condition) {s : Bytes} {t : List ℕ} (fs : lazy.Frames) (o : Operand) (k : ℕ) where
-  pub part_value : {r : Operand} → OneOf values (tag_of KindT.the_type o.kind) → Means s t r (given (tree s t k)) → Means s t r (part_at sheet s t fs o k)
+  pub part_value : {r : Operand} → (o.kind ≡ kinds.Listed → ⊥) → (o.kind ≡ kinds.Named → ⊥) → Means s t r (given (tree s t k)) → Means s t r (part_at sheet s t fs o k)
   unfolding part_by
-  part_value q m = record { means = m.means ∙ go o.kind q; fits = m.fits }
+  part_value l n m = record { means = m.means ∙ go o.kind l n; fits = m.fits }
     where
-      go : (x : Kind) → OneOf values (tag_of KindT.the_type x) → given (tree s t k) ≡ part_by sheet s t fs o.depth x k
-      go kinds.Null p = refl
-      go kinds.False p = refl
-      go kinds.True p = refl
-      go kinds.Number p = refl
-      go kinds.Text p = refl
-      go kinds.Less p = refl
-      go kinds.Array p = refl
-      go kinds.Object p = refl
-      go kinds.Listed p = absurd (miss values 8 tt p)
-      go kinds.Named p = absurd (miss values 9 tt p)
+      go : (x : Kind) → (x ≡ kinds.Listed → ⊥) → (x ≡ kinds.Named → ⊥) → given (tree s t k) ≡ part_by sheet s t fs o.depth x k
+      go kinds.Null p q = refl
+      go kinds.False p q = refl
+      go kinds.True p q = refl
+      go kinds.Number p q = refl
+      go kinds.Text p q = refl
+      go kinds.Less p q = refl
+      go kinds.Array p q = refl
+      go kinds.Object p q = refl
+      go kinds.Listed p q = absurd (p refl)
+      go kinds.Named p q = absurd (q refl)
 
   pub part_listed : {r : Operand} {gs : lazy.Frames} {m : ℕ} → o.kind ≡ kinds.Listed → gs ≡ outer o.depth fs → m ≡ length gs + 1 →
       Means s t r (touch sheet m gs (tree s t k)) → Means s t r (part_at sheet s t fs o k)

@@ -1,6 +1,5 @@
 -- `operands::layer::number_order` meets its contract: a number of the sheet is short enough to be compared.
 -- Assumes nothing.
-use borrow.Author.Rules.{rules}
 use mathlib.Core.Path.{◌∙◌}
 use Rattle.resolving.proofs.Layered.{digits_bounds, digits_short, digits_sliced, within_limit}
 use Rattle.paths.proofs.Ordered.{node_below}
@@ -43,8 +42,32 @@ slice_bounds-compare-count c =
     c.start_at-a.ensures c.end_at-b.ensures in
     omega (arith, b.0, b.1)
 
+pub slice_bounds-compare-start : goal.slice_bounds-compare-start
+slice_bounds-compare-start c =
+    let b = digits_bounds c.requires.1
+    c.start_at-a.ensures c.end_at-b.ensures in
+    omega (arith, b.0, b.1)
+
+pub slice_bounds-compare-end : goal.slice_bounds-compare-end
+slice_bounds-compare-end c =
+    let b = digits_bounds c.requires.1
+    c.start_at-a.ensures c.end_at-b.ensures in
+    omega (arith, b.0, b.1)
+
 pub slice_bounds-compare-count-2 : goal.slice_bounds-compare-count-2
 slice_bounds-compare-count-2 c =
+    let b = digits_bounds c.requires.2
+    c.start_at-c.ensures c.end_at-d.ensures in
+    omega (arith, b.0, b.1)
+
+pub slice_bounds-compare-start-2 : goal.slice_bounds-compare-start-2
+slice_bounds-compare-start-2 c =
+    let b = digits_bounds c.requires.2
+    c.start_at-c.ensures c.end_at-d.ensures in
+    omega (arith, b.0, b.1)
+
+pub slice_bounds-compare-end-2 : goal.slice_bounds-compare-end-2
+slice_bounds-compare-end-2 c =
     let b = digits_bounds c.requires.2
     c.start_at-c.ensures c.end_at-d.ensures in
     omega (arith, b.0, b.1)

@@ -1,6 +1,5 @@
 -- `operands::layer::part_of` meets its contract: by the kind of the whole.
 -- Assumes nothing.
-use borrow.Author.Rules.{rules}
 use mathlib.Core.Path.{ap, sym}
 use Prim.Native.Nat.{ℕ, ◌+◌}
 use Rattle.resolving.proofs.Layered.{part_listed, part_named, part_value}
@@ -73,5 +72,5 @@ returns-in-Named c =
 pub returns-in_default : goal.returns-in_default
 returns-in_default c =
     part_value (sheet_in c.args.s.now) (frames_of c.args.s.now (table c.args.work.now) c.args.frames) c.args.o
-    c.args.node c.in_default.keys3
+    c.args.node c.in_default.not-Listed c.in_default.not-Named
     (c.value_at.ensures c.args.s.now c.requires.1)

@@ -1,6 +1,5 @@
 -- `operands::layer::same_leaf` meets its contract: by the class.
 -- Assumes nothing.
-use borrow.Author.Rules.{rules}
 use mathlib.Core.Path.{ap, sym, ◌∙◌}
 use Rattle.resolving.proofs.Layered.{leaf_number, leaf_same, leaf_text, number_kind}
 use Rattle.semantics.specs.Semantics.{is_same}

@@ -1,6 +1,5 @@
 -- `operands::layer::text_place` meets its contract: less its first unit, or whole.
 -- Assumes nothing.
-use borrow.Author.Rules.{rules}
 use Rattle.resolving.proofs.Layered.{at_start, place_less, place_none, place_whole}
 use Rattle.paths.proofs.Units.{unit_ended, unit_was}
 use Rattle.paths.specs.Stored.{table}
@@ -30,4 +29,4 @@ returns-in-Is c =
 pub returns : goal.returns
 returns c =
     place_whole c.args.s.now (table c.args.work.now) c.args.o c.requires.1 c.requires.2
-    c.start_at-start.ensures c.in_default.keys2
+    c.start_at-start.ensures c.in_default.not-Less

@@ -1,6 +1,5 @@
 -- `operands::layer::value_node` meets its contract: by whether the child is a name.
 -- Assumes nothing.
-use borrow.Author.Rules.{rules}
 use Rattle.paths.specs.Layered.{value_node}
 use Rattle.resolving.proofs.layer.value_node.Goals as goal
 

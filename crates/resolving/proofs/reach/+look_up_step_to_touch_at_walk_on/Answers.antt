@@ -1,8 +1,8 @@
 -- The cycle of touching, looking up, stepping and walking on meets its contracts: each return is a law of the definition's own step. What falls is the
 -- number of expressions left, and within one the length of the path. Assumes nothing.
-use Prim.Native.Nat.{ℕ, ◌<◌}
+use Prim.Native.Nat.{ℕ}
 use mathlib.Core.Path.{sym, subst, ◌∙◌}
-use Prim.Native.Nat.{ℕ, ◌<◌, ◌+◌, ◌*◌, ◌-◌}
+use Prim.Native.Nat.{ℕ}
 use lib.ListN.{length}
 use Rattle.json_text.specs.Cursor.{OnText}
 use Rattle.json_text.specs.Spans.{text_at}
@@ -53,20 +53,19 @@ use Rattle.resolving.proofs.Slices.{
 }
 use Rattle.paths.proofs.Trees.{text_row}
 use Rattle.paths.proofs.Units.{rest_none, rest_was, was_escaped, was_expression, was_plain}
-use borrow.Author.Rules.{rules}
 use native.Mathlib.Omega.{arith}
 use Rattle.resolving.proofs.reach.+look_up_step_to_touch_at_walk_on.Goals as goal
 
 pub look_up-find-bound-requires : goal.look_up-find-bound-requires
 look_up-find-bound-requires t c =
-    (c.requires.1.0.bound.within, c.requires.1.0.bound.names, c.requires.1.1.on_text)
+    (c.requires.0.bound.within, c.requires.0.bound.names, c.requires.1.on_text)
 
 pub look_up-rest_at-requires : goal.look_up-rest_at-requires
-look_up-rest_at-requires t c = c.requires.1.1.on_text
+look_up-rest_at-requires t c = c.requires.1.on_text
 
 pub look_up-root_named-requires : goal.look_up-root_named-requires
 look_up-root_named-requires t c =
-    c.requires.1.1.on_text
+    c.requires.1.on_text
 
 pub look_up-slice_bounds-walk_on-count : goal.look_up-slice_bounds-walk_on-count
 look_up-slice_bounds-walk_on-count t c =
@@ -76,24 +75,32 @@ look_up-slice_bounds-walk_on-count t c =
           c.in-At.is).3,
     )
 
+pub look_up-slice_bounds-walk_on-start : goal.look_up-slice_bounds-walk_on-start
+look_up-slice_bounds-walk_on-start t c =
+    omega (
+      arith,
+      (rest_was c.in-At.next c.rest_at.ensures
+          c.in-At.is).3,
+    )
+
 pub look_up-walk_on-requires : goal.look_up-walk_on-requires
 look_up-walk_on-requires t c =
-    let rest-was1 = rest_was c.in-At.given.0.0 c.rest_at.ensures c.in-At.given.1 in (
-      path_falls c.args.left (length c.args.path.now) _ c.in-At.given.0.0 3 2 c.requires.0
-          (length_from c.args.path.now c.in-At.given.0.0) rest-was1.2 rest-was1.3 (omega arith),
+    let w = rest_was c.in-At.next c.rest_at.ensures c.in-At.is in (
+      path_falls c.args.left (length c.args.path.now) _ c.in-At.next 3 2 c.decreases
+          (length_from c.args.path.now c.in-At.next) w.2 w.3 (omega arith),
       (
-        c.requires.1.0,
-        path_from c.args.path.now c.in-At.given.0.0 rest-was1.1 rest-was1.3 c.requires.1.1.short,
+        c.requires.0,
+        path_from c.args.path.now c.in-At.next w.1 w.3 c.requires.1.short,
         bound_fits
             (binder_told c.args.s.now (table c.args.work.now) (part (text_at c.args.path.now 0)) (held c.args.frames)
-            c.requires.1.0.bound.operands c.find-bound.ensures) _
+            c.requires.0.bound.operands c.find-bound.ensures) _
             c.in-At-bound-2.is,
       ),
     )
 
 pub look_up-root_named-requires-in-Nothing-bound-2 : goal.look_up-root_named-requires-in-Nothing-bound-2
 look_up-root_named-requires-in-Nothing-bound-2 t c =
-    c.requires.1.1.on_text
+    c.requires.1.on_text
 
 pub look_up-slice_bounds-part_is_word-count : goal.look_up-slice_bounds-part_is_word-count
 look_up-slice_bounds-part_is_word-count t c =
@@ -103,25 +110,33 @@ look_up-slice_bounds-part_is_word-count t c =
           c.in-At.is).3,
     )
 
+pub look_up-slice_bounds-part_is_word-start : goal.look_up-slice_bounds-part_is_word-start
+look_up-slice_bounds-part_is_word-start t c =
+    omega (
+      arith,
+      (rest_was c.in-At.next c.rest_at.ensures
+          c.in-At.is).3,
+    )
+
 pub look_up-part_is_word-requires : goal.look_up-part_is_word-requires
 look_up-part_is_word-requires t c =
-    let rest-was1 = rest_was c.in-At.given.0.0 c.rest_at.ensures
-    c.in-At.given.1 in
-    (path_from c.args.path.now c.in-At.given.0.0 rest-was1.1 rest-was1.3
-    c.requires.1.1.short).on_text
+    let w = rest_was c.in-At.next c.rest_at.ensures
+    c.in-At.is in
+    (path_from c.args.path.now c.in-At.next w.1 w.3
+    c.requires.1.short).on_text
 
 pub look_up-returns-then-part_is_word : goal.look_up-returns-then-part_is_word
 look_up-returns-then-part_is_word t c =
     look-empty (sheet_in c.args.s.now) (touch (sheet_in c.args.s.now) c.args.left) (frames_of c.args.s.now (table c.args.work.now) c.args.frames)
     (text_at c.args.path.now 0)
     (binder_told c.args.s.now (table c.args.work.now) (part (text_at c.args.path.now 0)) (held c.args.frames)
-    c.requires.1.0.bound.operands c.find-bound.ensures)
+    c.requires.0.bound.operands c.find-bound.ensures)
     (text_at c.args.path.now c.in-At.next)
     (rest_was c.in-At.next c.rest_at.ensures
     c.in-At.is).0 c.in-Nothing-bound-2.is
     (rw c.root_named-in-Nothing-bound-2.ensures at
     (c.base_at.ensures (sheet_in c.args.s.now) c.args.s.now (table c.args.work.now)
-    c.requires.1.0.rooted)) _ c.in-At-base_at.is
+    c.requires.0.rooted)) _ c.in-At-base_at.is
     (sym c.if-part_is_word.true ∙ (rw text_from at c.part_is_word.ensures))
 
 pub look_up-slice_bounds-walk_on-count-in-At-base_at : goal.look_up-slice_bounds-walk_on-count-in-At-base_at
@@ -132,18 +147,26 @@ look_up-slice_bounds-walk_on-count-in-At-base_at t c =
           c.in-At.is).3,
     )
 
+pub look_up-slice_bounds-walk_on-start-in-At-base_at : goal.look_up-slice_bounds-walk_on-start-in-At-base_at
+look_up-slice_bounds-walk_on-start-in-At-base_at t c =
+    omega (
+      arith,
+      (rest_was c.in-At.next c.rest_at.ensures
+          c.in-At.is).3,
+    )
+
 pub look_up-walk_on-requires-in-At-base_at : goal.look_up-walk_on-requires-in-At-base_at
 look_up-walk_on-requires-in-At-base_at t c =
-    let rest-was1 = rest_was c.in-At.given.0.0 c.rest_at.ensures c.in-At.given.1 in (
-      path_falls c.args.left (length c.args.path.now) _ c.in-At.given.0.0 3 2 c.requires.0
-          (length_from c.args.path.now c.in-At.given.0.0) rest-was1.2 rest-was1.3 (omega arith),
+    let w = rest_was c.in-At.next c.rest_at.ensures c.in-At.is in (
+      path_falls c.args.left (length c.args.path.now) _ c.in-At.next 3 2 c.decreases
+          (length_from c.args.path.now c.in-At.next) w.2 w.3 (omega arith),
       (
-        c.requires.1.0,
-        path_from c.args.path.now c.in-At.given.0.0 rest-was1.1 rest-was1.3 c.requires.1.1.short,
+        c.requires.0,
+        path_from c.args.path.now c.in-At.next w.1 w.3 c.requires.1.short,
         bound_fits
             (rw c.root_named-in-Nothing-bound-2.ensures at
             (c.base_at.ensures (sheet_in c.args.s.now) c.args.s.now (table c.args.work.now)
-            c.requires.1.0.rooted)) _ c.in-At-base_at.is,
+            c.requires.0.rooted)) _ c.in-At-base_at.is,
       ),
     )
 
@@ -152,7 +175,7 @@ look_up-returns-in-At-bound t c =
     look_binder (sheet_in c.args.s.now) (touch (sheet_in c.args.s.now) c.args.left) (frames_of c.args.s.now (table c.args.work.now) c.args.frames)
     (text_at c.args.path.now 0)
     (binder_told c.args.s.now (table c.args.work.now) (part (text_at c.args.path.now 0)) (held c.args.frames)
-    c.requires.1.0.bound.operands c.find-bound.ensures) _ c.in-At-bound.is
+    c.requires.0.bound.operands c.find-bound.ensures) _ c.in-At-bound.is
     (rest_none c.args.path.now c.rest_at.ensures c.in-Nothing.is)
 
 pub look_up-returns-in-Nothing-bound : goal.look_up-returns-in-Nothing-bound
@@ -160,18 +183,18 @@ look_up-returns-in-Nothing-bound t c =
     look_root (sheet_in c.args.s.now) (touch (sheet_in c.args.s.now) c.args.left) (frames_of c.args.s.now (table c.args.work.now) c.args.frames)
     (text_at c.args.path.now 0)
     (binder_told c.args.s.now (table c.args.work.now) (part (text_at c.args.path.now 0)) (held c.args.frames)
-    c.requires.1.0.bound.operands c.find-bound.ensures)
+    c.requires.0.bound.operands c.find-bound.ensures)
     c.in-Nothing-bound.is
     (rest_none c.args.path.now c.rest_at.ensures c.in-Nothing.is)
     (rw c.root_named.ensures at
-    (c.root_at.ensures (sheet_in c.args.s.now) c.args.s.now (table c.args.work.now) (text_at c.args.path.now 0) c.requires.1.0.rooted))
+    (c.root_at.ensures (sheet_in c.args.s.now) c.args.s.now (table c.args.work.now) (text_at c.args.path.now 0) c.requires.0.rooted))
 
 pub look_up-returns-in-At-bound-2 : goal.look_up-returns-in-At-bound-2
 look_up-returns-in-At-bound-2 t c =
     look_walk (sheet_in c.args.s.now) (touch (sheet_in c.args.s.now) c.args.left) (frames_of c.args.s.now (table c.args.work.now) c.args.frames)
     (text_at c.args.path.now 0)
     (binder_told c.args.s.now (table c.args.work.now) (part (text_at c.args.path.now 0)) (held c.args.frames)
-    c.requires.1.0.bound.operands c.find-bound.ensures)
+    c.requires.0.bound.operands c.find-bound.ensures)
     (text_at c.args.path.now c.in-At.next)
     (rest_was c.in-At.next c.rest_at.ensures
     c.in-At.is).0 _ c.in-At-bound-2.is
@@ -182,12 +205,12 @@ look_up-returns-in-Nothing-base_at t c =
     look-unknown (sheet_in c.args.s.now) (touch (sheet_in c.args.s.now) c.args.left) (frames_of c.args.s.now (table c.args.work.now) c.args.frames)
     (text_at c.args.path.now 0)
     (binder_told c.args.s.now (table c.args.work.now) (part (text_at c.args.path.now 0)) (held c.args.frames)
-    c.requires.1.0.bound.operands c.find-bound.ensures)
+    c.requires.0.bound.operands c.find-bound.ensures)
     (text_at c.args.path.now c.in-At.next)
     (rest_was c.in-At.next c.rest_at.ensures
     c.in-At.is).0 c.in-Nothing-bound-2.is
     (rw c.root_named-in-Nothing-bound-2.ensures at
-    (c.base_at.ensures (sheet_in c.args.s.now) c.args.s.now (table c.args.work.now) c.requires.1.0.rooted))
+    (c.base_at.ensures (sheet_in c.args.s.now) c.args.s.now (table c.args.work.now) c.requires.0.rooted))
     c.in-Nothing-base_at.is
 
 pub look_up-returns-else-part_is_word : goal.look_up-returns-else-part_is_word
@@ -195,13 +218,13 @@ look_up-returns-else-part_is_word t c =
     look-base (sheet_in c.args.s.now) (touch (sheet_in c.args.s.now) c.args.left) (frames_of c.args.s.now (table c.args.work.now) c.args.frames)
     (text_at c.args.path.now 0)
     (binder_told c.args.s.now (table c.args.work.now) (part (text_at c.args.path.now 0)) (held c.args.frames)
-    c.requires.1.0.bound.operands c.find-bound.ensures)
+    c.requires.0.bound.operands c.find-bound.ensures)
     (text_at c.args.path.now c.in-At.next)
     (rest_was c.in-At.next c.rest_at.ensures
     c.in-At.is).0 c.in-Nothing-bound-2.is
     (rw c.root_named-in-Nothing-bound-2.ensures at
     (c.base_at.ensures (sheet_in c.args.s.now) c.args.s.now (table c.args.work.now)
-    c.requires.1.0.rooted)) _ c.in-At-base_at.is
+    c.requires.0.rooted)) _ c.in-At-base_at.is
     (sym c.if-part_is_word.false ∙ (rw text_from at c.part_is_word.ensures))
     (rw text_from at c.walk_on-in-At-base_at.ensures) c.as_looked-in-At-base_at.ensures
 
@@ -209,8 +232,8 @@ pub step_to-member_of-v-requires : goal.step_to-member_of-v-requires
 unfolding Fits
 step_to-member_of-v-requires t c =
     let k = fits_as c.args.s.now (table c.args.work.now) c.args.o kinds.Object c.in-Object.is
-    c.requires.1.2.fits in
-    (node_room c.requires.1.0 k.node, k, c.requires.1.1.on_text)
+    c.requires.2.fits in
+    (node_room c.requires.0 k.node, k, c.requires.1.on_text)
 
 pub step_to-returns-then-v-eq0 : goal.step_to-returns-then-v-eq0
 step_to-returns-then-v-eq0 t c =
@@ -220,15 +243,15 @@ step_to-returns-then-v-eq0 t c =
 
 pub step_to-value_at-requires : goal.step_to-value_at-requires
 step_to-value_at-requires t c =
-    node_room c.requires.1.0
+    node_room c.requires.0
     (member_is c.member_of-v.ensures c.if-v-eq0.false).1
 
 pub step_to-member_of-v-requires-in-Named : goal.step_to-member_of-v-requires-in-Named
 unfolding Fits
 step_to-member_of-v-requires-in-Named t c =
     let k = fits_as c.args.s.now (table c.args.work.now) c.args.o kinds.Named c.in-Named.is
-    c.requires.1.2.fits in
-    (node_room c.requires.1.0 k.node, k, c.requires.1.1.on_text)
+    c.requires.2.fits in
+    (node_room c.requires.0 k.node, k, c.requires.1.on_text)
 
 pub step_to-returns-then-v-eq0-2 : goal.step_to-returns-then-v-eq0-2
 step_to-returns-then-v-eq0-2 t c =
@@ -237,13 +260,13 @@ step_to-returns-then-v-eq0-2 t c =
     c.in-Named.is c.member_of-v-in-Named.ensures c.if-v-eq0-2.true
 
 pub step_to-outer-requires : goal.step_to-outer-requires
-step_to-outer-requires t c = c.requires.1.0.bound.within
+step_to-outer-requires t c = c.requires.0.bound.within
 
 pub step_to-touch_at-requires : goal.step_to-touch_at-requires
 step_to-touch_at-requires t c = (
-  touch_falls c.args.left c.requires.0,
+  touch_falls c.args.left c.decreases,
   (
-    ready_outer c.requires.1.0 c.args.o.depth c.outer.ensures.1
+    ready_outer c.requires.0 c.args.o.depth c.outer.ensures.1
         c.outer.ensures.2,
     (member_is c.member_of-v-in-Named.ensures c.if-v-eq0-2.false).1,
   ),
@@ -263,13 +286,13 @@ step_to-returns-else-v-eq0-2 t c =
     c.in-Named.is c.member_of-v-in-Named.ensures
     c.if-v-eq0-2.false
     (rw
-    (frames_outer c.requires.1.0 c.outer.result c.args.o.depth
+    (frames_outer c.requires.0 c.outer.result c.args.o.depth
     c.outer.ensures.2) at c.touch_at.ensures)
 
 pub step_to-returns-in_default : goal.step_to-returns-in_default
 step_to-returns-in_default t c =
     other_none (sheet_in c.args.s.now) (touch (sheet_in c.args.s.now) c.args.left)
-    (frames_of c.args.s.now (table c.args.work.now) c.args.frames) _ c.args.o c.in_default.keys3
+    (frames_of c.args.s.now (table c.args.work.now) c.args.frames) _ c.args.o c.in_default.not-Object c.in_default.not-Named
 
 pub touch_at-returns-then-left-eq0 : goal.touch_at-returns-then-left-eq0
 touch_at-returns-then-left-eq0 t c =
@@ -278,30 +301,38 @@ touch_at-returns-then-left-eq0 t c =
 
 pub touch_at-kind_at-code-requires : goal.touch_at-kind_at-code-requires
 touch_at-kind_at-code-requires t c =
-    node_room c.requires.1.0 c.requires.1.1
+    node_room c.requires.0 c.requires.1
 
 pub touch_at-returns-then-code-ne4 : goal.touch_at-returns-then-code-ne4
 touch_at-returns-then-code-ne4 t c =
     touch_written (sheet_in c.args.s.now) (frames_of c.args.s.now (table c.args.work.now) c.args.frames) c.args.node
-    c.args.left c.if-left-eq0.false c.requires.1.1 _
+    c.args.left c.if-left-eq0.false c.requires.1 _
     c.kind_at-code.ensures c.if-code-ne4.true c.written_kind.ensures
-    (sym (frames_length c.requires.1.0)) c.requires.1.0.bound.within
+    (sym (frames_length c.requires.0)) c.requires.0.bound.within
 
 pub touch_at-start_at-requires : goal.touch_at-start_at-requires
 touch_at-start_at-requires t c =
-    node_room c.requires.1.0 c.requires.1.1
+    node_room c.requires.0 c.requires.1
 
 pub touch_at-classify-requires : goal.touch_at-classify-requires
 touch_at-classify-requires t c =
     subst (λ (x : ℕ). OnText c.args.s.now x 0) (sym c.start_at.ensures)
     (text_row
     (record {
-      node = c.requires.1.1;
+      node = c.requires.1;
       kind = sym c.kind_at-code.ensures ∙ c.if-code-ne4.false;
     })).on_text
 
 pub touch_at-slice_bounds-look_up-count : goal.touch_at-slice_bounds-look_up-count
 touch_at-slice_bounds-look_up-count t c =
+    let x = was_expression
+    c.args.s.now
+    c.classify.ensures c.start_at.ensures _
+    c.in-Expression.is in
+    omega (arith, x.1.upto)
+
+pub touch_at-slice_bounds-look_up-start : goal.touch_at-slice_bounds-look_up-start
+touch_at-slice_bounds-look_up-start t c =
     let x = was_expression
     c.args.s.now
     c.classify.ensures c.start_at.ensures _
@@ -316,9 +347,9 @@ pub touch_at-look_up-requires : goal.touch_at-look_up-requires
 touch_at-look_up-requires t c =
     let x = was_expression c.args.s.now c.classify.ensures
     c.start_at.ensures _ c.in-Expression.is in (
-      look_falls c.args.left _ (length c.args.s.now) c.in-Expression.next c.requires.0 c.if-left-eq0.false
-          (length_from c.args.s.now c.in-Expression.next) c.requires.1.0.short,
-      (c.requires.1.0, path_from c.args.s.now c.in-Expression.next x.1.on_text x.1.upto c.requires.1.0.short),
+      look_falls c.args.left _ (length c.args.s.now) c.in-Expression.next c.decreases c.if-left-eq0.false
+          (length_from c.args.s.now c.in-Expression.next) c.requires.0.short,
+      (c.requires.0, path_from c.args.s.now c.in-Expression.next x.1.on_text x.1.upto c.requires.0.short),
     )
 
 pub touch_at-returns-in-Plain : goal.touch_at-returns-in-Plain
@@ -326,7 +357,7 @@ touch_at-returns-in-Plain t c =
     touch_plain (sheet_in c.args.s.now) (frames_of c.args.s.now (table c.args.work.now) c.args.frames) c.args.node
     c.args.left c.if-left-eq0.false
     (record {
-      node = c.requires.1.1;
+      node = c.requires.1;
       kind = sym c.kind_at-code.ensures ∙ c.if-code-ne4.false;
     })
     (was_plain c.args.s.now c.classify.ensures
@@ -339,7 +370,7 @@ touch_at-returns-in-Escaped t c =
     touch_less (sheet_in c.args.s.now) (frames_of c.args.s.now (table c.args.work.now) c.args.frames) c.args.node
     c.args.left c.if-left-eq0.false
     (record {
-      node = c.requires.1.1;
+      node = c.requires.1;
       kind = sym c.kind_at-code.ensures ∙ c.if-code-ne4.false;
     }) x.0 x.1
 
@@ -349,15 +380,15 @@ touch_at-returns-in-Expression t c =
     c.start_at.ensures _ c.in-Expression.is in
     touch_looked (sheet_in c.args.s.now) (frames_of c.args.s.now (table c.args.work.now) c.args.frames) c.args.node
     c.args.left c.if-left-eq0.false
-    (record { node = c.requires.1.1; kind = sym c.kind_at-code.ensures ∙ c.if-code-ne4.false })
+    (record { node = c.requires.1; kind = sym c.kind_at-code.ensures ∙ c.if-code-ne4.false })
     x.0 (rw text_from at c.look_up.ensures) c.or_null.ensures
 
 pub walk_on-step_to-found-requires : goal.walk_on-step_to-found-requires
 walk_on-step_to-found-requires t c =
-    (step_falls c.args.left (length c.args.path.now) c.requires.0, (c.requires.1.0, c.requires.1.1, c.requires.1.2))
+    (step_falls c.args.left (length c.args.path.now) c.decreases, (c.requires.0, c.requires.1, c.requires.2))
 
 pub walk_on-rest_at-requires : goal.walk_on-rest_at-requires
-walk_on-rest_at-requires t c = c.requires.1.1.on_text
+walk_on-rest_at-requires t c = c.requires.1.on_text
 
 pub walk_on-slice_bounds-walk_on-count : goal.walk_on-slice_bounds-walk_on-count
 walk_on-slice_bounds-walk_on-count t c =
@@ -367,14 +398,22 @@ walk_on-slice_bounds-walk_on-count t c =
           c.in-At-rest_at.is).3,
     )
 
+pub walk_on-slice_bounds-walk_on-start : goal.walk_on-slice_bounds-walk_on-start
+walk_on-slice_bounds-walk_on-start t c =
+    omega (
+      arith,
+      (rest_was c.in-At-rest_at.next c.rest_at.ensures
+          c.in-At-rest_at.is).3,
+    )
+
 pub walk_on-walk_on-requires : goal.walk_on-walk_on-requires
 walk_on-walk_on-requires t c =
-    let rest-was1 = rest_was c.in-At-rest_at.given.0.0 c.rest_at.ensures c.in-At-rest_at.given.1 in (
-      path_falls c.args.left (length c.args.path.now) _ c.in-At-rest_at.given.0.0 2 2 c.requires.0
-          (length_from c.args.path.now c.in-At-rest_at.given.0.0) rest-was1.2 rest-was1.3 (omega arith),
+    let w = rest_was c.in-At-rest_at.next c.rest_at.ensures c.in-At-rest_at.is in (
+      path_falls c.args.left (length c.args.path.now) _ c.in-At-rest_at.next 2 2 c.decreases
+          (length_from c.args.path.now c.in-At-rest_at.next) w.2 w.3 (omega arith),
       (
-        c.requires.1.0,
-        path_from c.args.path.now c.in-At-rest_at.given.0.0 rest-was1.1 rest-was1.3 c.requires.1.1.short,
+        c.requires.0,
+        path_from c.args.path.now c.in-At-rest_at.next w.1 w.3 c.requires.1.short,
         bound_fits c.step_to-found.ensures _
             c.in-At.is,
       ),

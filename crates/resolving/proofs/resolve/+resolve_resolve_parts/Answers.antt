@@ -1,71 +1,58 @@
 -- Resolving and the walk over parts meet their contracts: what was seen so far and the parts left make the whole. What falls is the brackets left.
 -- Assumes nothing.
-use Prim.Native.Nat.{ℕ, ◌<◌}
 use mathlib.Core.Path.{sym, ◌∙◌}
-use Prim.Native.Nat.{ℕ, ◌<◌, ◌+◌, ◌*◌, ◌-◌}
-use Rattle.paths.specs.Lazy.{operand}
 use Rattle.members.specs.Sheet.{sheet_in}
-use Rattle.paths.specs.Stored.{frames_of, table, tree}
+use Rattle.paths.specs.Stored.{frames_of, table}
 use Rattle.resolving.proofs.Alike.{begin_room, value_there}
 use Rattle.resolving.proofs.Gathering.{plain_value}
 use Rattle.resolving.proofs.Marking.{ready_after}
 use Rattle.paths.proofs.Ordered.{child_end, child_given}
 use Rattle.resolving.proofs.Slices.{frames_length, node_room, part_falls, parts_falls}
-use Rattle.resolving.proofs.Wholes.{Gathering, gather_begin, gather_end, gather_on, gather_refused, this_child, this_shallow, whole_shallow}
-use borrow.Author.Rules.{rules}
+use Rattle.resolving.proofs.Wholes.{gather_begin, gather_end, gather_on, gather_refused, this_child, this_shallow, whole_shallow}
 use native.Mathlib.Omega.{arith}
 use Rattle.resolving.proofs.resolve.+resolve_resolve_parts.Goals as goal
 
 pub resolve-kind_at-code-requires : goal.resolve-kind_at-code-requires
 resolve-kind_at-code-requires t c =
-    node_room c.requires.1.0 c.requires.1.1
+    node_room c.requires.0 c.requires.1
 
 pub resolve-resolve_text-requires : goal.resolve-resolve_text-requires
 resolve-resolve_text-requires t c = (
-  c.requires.1.0,
-  record { node = c.requires.1.1; kind = sym c.kind_at-code.ensures ∙ c.if-code-eq4.true },
+  c.requires.0,
+  record { node = c.requires.1; kind = sym c.kind_at-code.ensures ∙ c.if-code-eq4.true },
 )
-
-pub resolve-shape_of-work-then-code-eq4 : goal.resolve-shape_of-work-then-code-eq4
-resolve-shape_of-work-then-code-eq4 t c = c.resolve_text.ensures.left.long
 
 pub resolve-returns-then-code-eq4 : goal.resolve-returns-then-code-eq4
 resolve-returns-then-code-eq4 t c = c.resolve_text.ensures
 
 pub resolve-resolve_parts-requires : goal.resolve-resolve_parts-requires
 resolve-resolve_parts-requires t c = (
-  part_falls c.args.left c.requires.0,
+  part_falls c.args.left c.decreases,
   (
-    c.requires.1.0,
+    c.requires.0,
     record {
-      node = c.requires.1.1;
+      node = c.requires.1;
       kind = sym c.kind_at-code.ensures ∙ c.if-code-eq5.true;
     },
-    c.requires.1.2,
+    c.requires.2,
   ),
 )
-
-pub resolve-shape_of-work-then-code-eq5 : goal.resolve-shape_of-work-then-code-eq5
-resolve-shape_of-work-then-code-eq5 t c = c.resolve_parts.ensures.left.long
 
 pub resolve-returns-then-code-eq5 : goal.resolve-returns-then-code-eq5
 resolve-returns-then-code-eq5 t c = c.resolve_parts.ensures
 
 pub resolve-resolve_parts-requires-then-code-eq6 : goal.resolve-resolve_parts-requires-then-code-eq6
 resolve-resolve_parts-requires-then-code-eq6 t c = (
-  part_falls c.args.left c.requires.0,
+  part_falls c.args.left c.decreases,
   (
-    c.requires.1.0,
+    c.requires.0,
     record {
-      node = c.requires.1.1;
+      node = c.requires.1;
       kind = sym c.kind_at-code.ensures ∙ c.if-code-eq6.true;
     },
-    c.requires.1.2,
+    c.requires.2,
   ),
 )
-
-pub resolve-shape_of-work-then-code-eq6 : goal.resolve-shape_of-work-then-code-eq6
-resolve-shape_of-work-then-code-eq6 t c = c.resolve_parts-then-code-eq6.ensures.left.long
 
 pub resolve-returns-then-code-eq6 : goal.resolve-returns-then-code-eq6
 resolve-returns-then-code-eq6 t c = c.resolve_parts-then-code-eq6.ensures
@@ -73,36 +60,33 @@ resolve-returns-then-code-eq6 t c = c.resolve_parts-then-code-eq6.ensures
 pub resolve-returns : goal.resolve-returns
 resolve-returns t c =
     plain_value c.args.quiet (sheet_in c.args.s.now) (frames_of c.args.s.now (table c.args.work.now) c.args.frames)
-    c.requires.1.1 c.kind_at-code.ensures
+    c.requires.1 c.kind_at-code.ensures
     c.if-code-eq4.false c.if-code-eq5.false c.if-code-eq6.false c.value_kind.ensures
 
 pub resolve_parts-of-c-requires : goal.resolve_parts-of-c-requires
 resolve_parts-of-c-requires t c =
-    begin_room c.args.s.now c.args.work.now c.args.named c.requires.1.0.rows
-    c.requires.1.1
+    begin_room c.args.s.now c.args.work.now c.args.named c.requires.0.rows
+    c.requires.1
 
 pub resolve_parts-loop-x-init : goal.resolve_parts-loop-x-init
 resolve_parts-loop-x-init t c =
     gather_begin c.args.quiet c.args.s.now c.args.work.now (sheet_in c.args.s.now)
     (frames_of c.args.s.now (table c.args.work.now) c.args.frames) c.args.node c.args.frames.depth c.args.named
-    c.args.left c.requires.1.1 c.requires.1.0.linked (frames_length c.requires.1.0) c.requires.1.2 c.of-c.ensures
+    c.args.left c.requires.1 c.requires.0.linked (frames_length c.requires.0) c.requires.2 c.of-c.ensures
 
 pub resolve_parts-next-requires : goal.resolve_parts-next-requires
 resolve_parts-next-requires t c = (
   record {
-    rows = (ready_after c.requires.1.0
+    rows = (ready_after c.requires.0
         c.loop-x.invariant.left).rows;
     node = omega arith;
   },
   c.loop-x.invariant.walk.within,
 )
 
-pub resolve_parts-shape_of-work-in-End : goal.resolve_parts-shape_of-work-in-End
-resolve_parts-shape_of-work-in-End t c = c.loop-x.invariant.left.long
-
 pub resolve_parts-returns-in-End : goal.resolve_parts-returns-in-End
 resolve_parts-returns-in-End t c =
-    gather_end c.loop-x.invariant c.requires.1.1 c.requires.1.0.bound.within
+    gather_end c.loop-x.invariant c.requires.1 c.requires.0.bound.within
     (child_end c.loop-x.invariant.walk (rw c.loop-x.invariant.left.rows at c.next.ensures)
     c.in-End.is) c.gathered.ensures
 
@@ -115,16 +99,16 @@ resolve_parts-value_node-v-requires t c =
 
 pub resolve_parts-overflow_sub-left : goal.resolve_parts-overflow_sub-left
 resolve_parts-overflow_sub-left t c =
-    (whole_shallow c.args.s.now (table c.args.work.now) c.args.named c.args.node c.args.left c.requires.1.1
-    c.requires.1.2).0
+    (whole_shallow c.args.s.now (table c.args.work.now) c.args.named c.args.node c.args.left c.requires.1
+    c.requires.2).0
 
 pub resolve_parts-resolve-requires : goal.resolve_parts-resolve-requires
 resolve_parts-resolve-requires t c =
-    let one = (whole_shallow c.args.s.now (table c.args.work.now) c.args.named c.args.node c.args.left c.requires.1.1
-    c.requires.1.2).0 in (
-      parts_falls c.args.left c.requires.0 one,
+    let one = (whole_shallow c.args.s.now (table c.args.work.now) c.args.named c.args.node c.args.left c.requires.1
+    c.requires.2).0 in (
+      parts_falls c.args.left c.decreases one,
       (
-        ready_after c.requires.1.0 c.loop-x.invariant.left,
+        ready_after c.requires.0 c.loop-x.invariant.left,
         rw (c.loop-x.invariant.left.rows, c.value_node-v.ensures)
             (value_there c.args.s.now (table c.args.work.now) c.args.named
             (this_child c.loop-x.invariant
@@ -137,10 +121,6 @@ resolve_parts-resolve-requires t c =
       ),
     )
 
-pub resolve_parts-shape_of-work-in-Refused : goal.resolve_parts-shape_of-work-in-Refused
-resolve_parts-shape_of-work-in-Refused t c =
-    c.resolve.ensures.left.long ∙ c.loop-x.invariant.left.long
-
 pub resolve_parts-returns-in-Refused : goal.resolve_parts-returns-in-Refused
 resolve_parts-returns-in-Refused t c =
     gather_refused c.loop-x.invariant
@@ -151,7 +131,7 @@ resolve_parts-returns-in-Refused t c =
 
 pub resolve_parts-loop-x-smaller : goal.resolve_parts-loop-x-smaller
 resolve_parts-loop-x-smaller t c =
-    (child_given c.loop-x.inv.walk (rw c.loop-x.inv.left.rows at c.next.ensures)
+    (child_given c.loop-x.invariant.walk (rw c.loop-x.invariant.left.rows at c.next.ensures)
     c.in-Is.x c.in-Is.is).falls
 
 pub resolve_parts-loop-x-preserved : goal.resolve_parts-loop-x-preserved

@@ -1,19 +1,10 @@
 -- Resolving and the walk over parts meet their contracts: what was seen so far and the parts left make the whole. What falls is the brackets left.
 -- Assumes nothing.
-use Prim.Native.Nat.{ℕ, ◌<◌}
-use mathlib.Core.Path.{sym, ◌∙◌}
-use Prim.Native.Nat.{ℕ, ◌<◌, ◌+◌, ◌*◌, ◌-◌}
+use Prim.Native.Nat.{◌+◌, ◌*◌, ◌-◌}
 use Rattle.paths.specs.Lazy.{operand}
 use Rattle.members.specs.Sheet.{sheet_in}
 use Rattle.paths.specs.Stored.{frames_of, table, tree}
-use Rattle.resolving.proofs.Alike.{begin_room, value_there}
-use Rattle.resolving.proofs.Gathering.{plain_value}
-use Rattle.resolving.proofs.Marking.{ready_after}
-use Rattle.paths.proofs.Ordered.{child_end, child_given}
-use Rattle.resolving.proofs.Slices.{frames_length, node_room, part_falls, parts_falls}
-use Rattle.resolving.proofs.Wholes.{Gathering, gather_begin, gather_end, gather_on, gather_refused, this_child, this_shallow, whole_shallow}
-use borrow.Author.Rules.{rules}
-use native.Mathlib.Omega.{arith}
+use Rattle.resolving.proofs.Wholes.{Gathering}
 use Rattle.resolving.proofs.resolve.+resolve_resolve_parts.Given as goal
 
 abbrev pub decreases-resolve : goal.decreases-resolve

@@ -1,14 +1,10 @@
 -- `operands::resolve::miss` meets its contract: quietly nothing is marked.
 -- Assumes nothing.
-use borrow.Author.Rules.{rules}
 use mathlib.Core.Path.{refl, ◌∙◌}
 use Rattle.resolving.proofs.resolve.miss.Goals as goal
 
 pub returns-then-quiet : goal.returns-then-quiet
 returns-then-quiet c = (refl, rw c.if-quiet.true)
-
-pub shape_of-work : goal.shape_of-work
-shape_of-work c = c.mark.auto.0
 
 pub returns : goal.returns
 returns c = (refl, c.mark.ensures ∙ rw c.if-quiet.false)

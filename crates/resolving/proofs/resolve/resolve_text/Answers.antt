@@ -1,6 +1,5 @@
 -- `operands::resolve::resolve_text` meets its contract: by what the text is written as, and what its expression gives.
 -- Assumes nothing.
-use borrow.Author.Rules.{rules}
 use mathlib.Core.Path.{subst, sym}
 use Prim.Native.Nat.{ℕ}
 use Rattle.json_text.specs.Cursor.{OnText}
@@ -24,6 +23,16 @@ classify-requires c =
 
 pub slice_bounds-look_up-count : goal.slice_bounds-look_up-count
 slice_bounds-look_up-count c =
+    omega (
+      arith,
+      (was_expression
+          c.args.s.now
+          c.classify.ensures
+          c.start_at-start.ensures _ c.in-Expression.is).1.upto,
+    )
+
+pub slice_bounds-look_up-start : goal.slice_bounds-look_up-start
+slice_bounds-look_up-start c =
     omega (
       arith,
       (was_expression
@@ -68,9 +77,6 @@ returns-in-Escaped c =
     (was_escaped c.args.s.now c.classify.ensures
     c.start_at-start.ensures _ c.in-Escaped.is)
 
-pub shape_of-work-in-At : goal.shape_of-work-in-At
-shape_of-work-in-At c = c.observed.auto.0
-
 pub returns-in-At : goal.returns-in-At
 returns-in-At c =
     text_found c.args.quiet (sheet_in c.args.s.now) (frames_of c.args.s.now (table c.args.work.now) c.args.frames) c.args.s.now c.args.work.now
@@ -82,9 +88,6 @@ returns-in-At c =
     (rw text_from at c.look_up.ensures) _ c.requires.0.rows
     (node_below c.args.s.now (table c.args.work.now) c.requires.1.node) c.in-At.is
     c.observed.ensures
-
-pub shape_of-work-in-Nothing : goal.shape_of-work-in-Nothing
-shape_of-work-in-Nothing c = c.miss.auto.0
 
 pub returns-in-Nothing : goal.returns-in-Nothing
 returns-in-Nothing c =

@@ -1,6 +1,5 @@
 -- `operands::resolve::seen` meets its contract: by the answer.
 -- Assumes nothing.
-use borrow.Author.Rules.{rules}
 use mathlib.Core.Path.{ap, sym}
 use Rattle.paths.specs.Marks.{seen_of}
 use Rattle.resolving.proofs.resolve.seen.Goals as goal
