@@ -12,7 +12,7 @@ use Rattle.json_text.proofs.Agree.{ValueAgrees, read_facts}
 use Rattle.reader.proofs.ArrayLoop.{past_rows}
 use Rattle.json_text.proofs.Decoded.{length_rows_of}
 use Rattle.json_text.proofs.Laws.{ok_injective, same_bytes_true}
-use Rattle.leaves.proofs.Loops.{Naming, closes_of, joined_of, keys_more, member-ends, member-fails, member-on, object_opens, object_shut, one_more, size_of_more, value-refused}
+use Rattle.leaves.proofs.Loops.{Naming, closes_of, joined_of, keys_more, member_ends, member_fails, member_on, object_opens, object_shut, one_more, size_of_more, value_refused}
 use Rattle.leaves.proofs.MemberName.{byte_inside, no_quote, skip_past}
 use Rattle.json_text.proofs.Sound.{bind_inv, new_name_sound, one_node_sound}
 use Rattle.json_text.proofs.Texts.{text_read}
@@ -264,21 +264,21 @@ module _ (s : Bytes) (left at n₀ : ℕ) where
         inside : here < length s
         inside = byte_inside s here 34 facts.is_quote (omega arith)
 
-        pub object-value-here : (k.value ≤ length s) × (n + 1 ≤ max_nodes)
-        object-value-here = (
+        pub object_value_here : (k.value ≤ length s) × (n + 1 ≤ max_nodes)
+        object_value_here = (
           (skip_past s (skip_at s facts.end + 1) k.value
               (omega (arith, byte_inside s (skip_at s facts.end) 58 facts.is_colon (omega arith))) facts.value).1,
           omega (arith, facts.room),
         )
 
-        pub object-value-long : length w₁ ≡ length w₀
-        object-value-long = ap length a.words ∙ length-sets w (3 * n) ((8 * (here + 1) + 4) ∷ k.stop ∷ (n + 1) ∷ []) ∙ object_long l
+        pub object_value_long : length w₁ ≡ length w₀
+        object_value_long = ap length a.words ∙ length-sets w (3 * n) ((8 * (here + 1) + 4) ∷ k.stop ∷ (n + 1) ∷ []) ∙ object_long l
 
-        pub object-value-bad : (w₂ : List ℕ) (r : Why) → ParsedTold (read_at left s (n + 1) k.value) w₁ w₂ (n + 1) (parseds.Bad r) →
+        pub object_value_bad : (w₂ : List ℕ) (r : Why) → ParsedTold (read_at left s (n + 1) k.value) w₁ w₂ (n + 1) (parseds.Bad r) →
             ParsedTold whole w₀ w₂ n₀ (parseds.Bad r)
         unfolding ParsedTold
-        object-value-bad w₂ r p = (
-          value-refused naming facts.is_quote inside facts.room facts.end facts.is_text facts.is_new facts.is_colon
+        object_value_bad w₂ r p = (
+          value_refused naming facts.is_quote inside facts.room facts.end facts.is_text facts.is_new facts.is_colon
               (refusal_of r) (ap (read_at left s (n + 1)) (sym facts.value) ∙ p.0),
           p.1 ∙ past_rows w w₁ ((8 * (here + 1) + 4) ∷ k.stop ∷ (n + 1) ∷ []) (3 * n) a.words (omega (arith, facts.room)) ∙ object_still l,
         )
@@ -288,13 +288,13 @@ module _ (s : Bytes) (left at n₀ : ℕ) where
           v = record { tree = r.tree; place = p.at; count = p.node }
 
           read : (q : Parsed Value) × ValueAgrees s left (n + 1) k.value q v
-          read = read_facts left s (n + 1) k.value v object-value-here.0 r.read
+          read = read_facts left s (n + 1) k.value v object_value_here.0 r.read
 
           is_v : read_at left s (n + 1) (skip_at s (skip_at s facts.end + 1)) ≡ ok v
           is_v = ap (read_at left s (n + 1)) (sym facts.value) ∙ r.read
 
-          pub object-past : (here < p.at) × (p.at ≤ length s)
-          object-past =
+          pub object_past : (here < p.at) × (p.at ≤ length s)
+          object_past =
               let t = text_read s (here + 1) facts.end (omega (arith, inside)) facts.is_text in
               let i = skip_past s facts.end (skip_at s facts.end) t.2 refl in
               let j = skip_past s (skip_at s facts.end + 1) k.value (omega (arith, byte_inside s (skip_at s facts.end) 58 facts.is_colon (omega arith))) facts.value in
@@ -303,9 +303,9 @@ module _ (s : Bytes) (left at n₀ : ℕ) where
           abbrev more : Fields
           more = joined_of l.fs (field (here + 1) (facts.end - 1) r.tree no_field)
 
-          pub object-on : (seen₂ : List Bool) → Grown seen₁ seen₂ → (sep : Sep) → Continues s p.at 125 sep → ObjectState w₀ w₂ seen₂ p.node sep
+          pub object_on : (seen₂ : List Bool) → Grown seen₁ seen₂ → (sep : Sep) → Continues s p.at 125 sep → ObjectState w₀ w₂ seen₂ p.node sep
           unfolding ObjectNext Continues
-          object-on seen₂ g sep c = record {
+          object_on seen₂ g sep c = record {
             fs = more;
             words =
                 words_member w₀ w w₂ (n₀ + 1) n l.fs (here + 1) (facts.end - 1) r.tree w₁ l.words
@@ -319,9 +319,9 @@ module _ (s : Bytes) (left at n₀ : ℕ) where
           }
             where
               go : (sep : Sep) → Continues s p.at 125 sep → ObjectNext more p.node sep
-              go seps.Neither c = member-fails naming facts.is_quote inside facts.room facts.end facts.is_text facts.is_new facts.is_colon v is_v c.0 c.1
+              go seps.Neither c = member_fails naming facts.is_quote inside facts.room facts.end facts.is_text facts.is_new facts.is_colon v is_v c.0 c.1
               go (seps.Shut e) c = (
-                member-ends naming facts.is_quote inside facts.room facts.end facts.is_text facts.is_new facts.is_colon
+                member_ends naming facts.is_quote inside facts.room facts.end facts.is_text facts.is_new facts.is_colon
                     v is_v c.0 ∙
                     ap {B = Result (Placed Node)} (λ (i : ℕ). ok (record { tree = obj at i more; place = i; count = p.node }))
                     (sym c.1),
@@ -329,9 +329,9 @@ module _ (s : Bytes) (left at n₀ : ℕ) where
               )
               go (seps.On h) c = (
                 subst (λ (i : ℕ). Naming s (λ m a. read_at left s m a) at whole more i p.node) (sym c.1)
-                    (member-on naming facts.is_quote inside facts.room facts.end facts.is_text facts.is_new facts.is_colon
-                    v is_v c.0 (omega (arith, c.1, c.2, object-past.0))),
-                omega (arith, c.2, object-past.0, l.next.1),
+                    (member_on naming facts.is_quote inside facts.room facts.end facts.is_text facts.is_new facts.is_colon
+                    v is_v c.0 (omega (arith, c.1, c.2, object_past.0))),
+                omega (arith, c.2, object_past.0, l.next.1),
                 c.3,
               )
 

@@ -6,10 +6,8 @@ use Rattle.leaves.proofs.MemberName.{skip_past}
 use Rattle.reader.proofs.ArrayLoop.{was_bad, was_done}
 use Rattle.strings.specs.declared.answer.Refusal.TheVariants as whys
 use Rattle.json_text.specs.Limits.{max_depth}
-use borrow.Author.Tests.{not-false, not-true}
 use mathlib.Core.Path.{refl, sym, ◌∙◌}
 use native.Mathlib.Omega.{arith}
-use borrow.Author.Rules.{rules}
 use Rattle.reader.proofs.read.Goals as goal
 
 pub returns-then-work-lt16384 : goal.returns-then-work-lt16384
@@ -25,7 +23,7 @@ pub returns-then-not-utf8 : goal.returns-then-not-utf8
 returns-then-not-utf8 c =
     told_refused c.args.sheet.now c.args.work.now c.if-work-lt16384.false _ refl whys.NotUtf8
     (spanned_bytes c.args.sheet.now c.if-sheet-gt32768.false
-    (sym c.utf8.ensures ∙ not-true _ c.if-not-utf8.true))
+    (sym c.utf8-2.ensures ∙ c.if-not-utf8.true))
 
 pub root-requires : goal.root-requires
 root-requires c =
@@ -52,17 +50,17 @@ returns-then-skip-sheet c =
     (still_laid c.args.sheet.now _ _ c.skip-at.result c.in-Done.p
     (skip_past c.args.sheet.now 0 c.skip-at.result (omega arith) c.skip-at.ensures).1 r) c.in-Done.p
     c.skip-at.result c.skip.result c.if-sheet-gt32768.false
-    (sym c.utf8.ensures ∙ not-false _ c.if-not-utf8.false)
+    (sym c.utf8-2.ensures ∙ c.if-not-utf8.false)
     c.skip-at.ensures r c.skip.ensures c.if-skip-sheet.true
 
 pub returns-in-Bad : goal.returns-in-Bad
 returns-in-Bad c =
-    let b = refused_is _ _ _ _ c.in-Bad.given.0.0
-    (was_bad _ _ _ _ c.in-Bad.given.0.0 c.root.ensures
-    c.in-Bad.given.1) in
-    told_refused c.args.sheet.now c.args.work.now c.if-work-lt16384.false _ b.1 c.in-Bad.given.0.0
+    let b = refused_is _ _ _ _ c.in-Bad.n
+    (was_bad _ _ _ _ c.in-Bad.n c.root.ensures
+    c.in-Bad.is) in
+    told_refused c.args.sheet.now c.args.work.now c.if-work-lt16384.false _ b.1 c.in-Bad.n
     (spanned_refused c.args.sheet.now c.if-sheet-gt32768.false
-    (sym c.utf8.ensures ∙ not-false _ c.if-not-utf8.false)
+    (sym c.utf8-2.ensures ∙ c.if-not-utf8.false)
     c.skip-at.result c.skip-at.ensures _ b.0)
 
 pub returns-else-skip-sheet : goal.returns-else-skip-sheet
@@ -73,6 +71,6 @@ returns-else-skip-sheet c =
     (still_laid c.args.sheet.now _ _ c.skip-at.result c.in-Done.p
     (skip_past c.args.sheet.now 0 c.skip-at.result (omega arith) c.skip-at.ensures).1 r) whys.NotJson
     (spanned_more c.args.sheet.now c.if-sheet-gt32768.false
-    (sym c.utf8.ensures ∙ not-false _ c.if-not-utf8.false) c.skip-at.result
+    (sym c.utf8-2.ensures ∙ c.if-not-utf8.false) c.skip-at.result
     c.skip-at.ensures _ c.skip.result r.read c.skip.ensures
     c.if-skip-sheet.false)

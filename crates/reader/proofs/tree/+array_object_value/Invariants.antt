@@ -1,55 +1,8 @@
 -- The cycle of `reader::tree::value`, `array` and `object` meets its contracts: the measures are the brackets left, doubled; each loop says what its separator decides.
 -- Assumes nothing.
-use borrow.Author.Rules.{rules}
-use mathlib.Core.Path.{refl, subst, sym, ◌∙◌, ◌≡◌}
-use native.Mathlib.Omega.{arith}
-use mathlib.Core.Bool.{Bool, false, true}
-use mathlib.Core.List.{List}
-use lib.ListN.{get_or}
-use Rattle.json_text.specs.Placing.{read_at}
-use Rattle.strings.specs.declared.answer.Refusal.TheVariants as whys
-use Rattle.leaves.specs.declared.bracket.Sep.TheVariants as seps
-use Rattle.reader.proofs.ArrayLoop.{
-  ArrayTurn,
-  array_end,
-  array_here,
-  array_laid,
-  array_long,
-  array_neither,
-  array_on,
-  array_past,
-  array_refused,
-  array_starts,
-  array_turn,
-  reach,
-  reach_falls,
-  was_bad,
-  was_done,
-}
-use Rattle.leaves.proofs.Loops.{array_full, object_full}
-use Rattle.leaves.proofs.MemberName.{byte_inside}
-use Rattle.reader.proofs.ObjectLoop.{
-  ObjectTurn,
-  name_was_bad,
-  name_was,
-  object_end,
-  object_here,
-  object_laid,
-  object_long,
-  object_members,
-  object_name_bad,
-  object_neither,
-  object_noted,
-  object-on,
-  object-past,
-  object_starts,
-  object_turn,
-  object-value-bad,
-  object-value-here,
-  object-value-long,
-}
-use Rattle.leaves.proofs.Values.{told_bad, value_array, value_leaf, value_object}
-use Prim.Native.Nat.{ℕ, ◌*◌, ◌+◌, ◌-◌, ◌<◌}
+use Rattle.reader.proofs.ArrayLoop.{ArrayTurn, reach}
+use Rattle.reader.proofs.ObjectLoop.{ObjectTurn}
+use Prim.Native.Nat.{◌*◌, ◌+◌}
 use Rattle.reader.proofs.tree.+array_object_value.Given as goal
 
 abbrev pub decreases-array : goal.decreases-array
