@@ -1,10 +1,9 @@
 -- `search::borders::fill` meets its contract: the part is looked for in itself, and each place reached has its entry.
 -- Assumes nothing.
-use mathlib.Core.Path.{refl, ◌≡◌}
-use Prim.Native.Nat.{◌*◌, ◌+◌, ◌-◌, ◌≤◌}
+use mathlib.Core.Path.{refl}
 use native.Mathlib.Omega.{arith}
-use lib.ListN.{length, length-set}
-use Rattle.search.proofs.Laws.{Filling, fill_grow, fill_jump, fill_skip, filled, filling, read_border}
+use lib.ListN.{length-set}
+use Rattle.search.proofs.Laws.{fill_grow, fill_jump, fill_skip, filled, filling, read_border}
 use Rattle.search.proofs.borders.fill.Goals as goal
 
 pub returns-then-n-lt2 : goal.returns-then-n-lt2

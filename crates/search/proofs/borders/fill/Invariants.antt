@@ -1,10 +1,9 @@
 -- `search::borders::fill` meets its contract: the part is looked for in itself, and each place reached has its entry.
 -- Assumes nothing.
-use mathlib.Core.Path.{refl, ◌≡◌}
+use mathlib.Core.Path.{◌≡◌}
 use Prim.Native.Nat.{◌*◌, ◌+◌, ◌-◌, ◌≤◌}
-use native.Mathlib.Omega.{arith}
-use lib.ListN.{length, length-set}
-use Rattle.search.proofs.Laws.{Filling, fill_grow, fill_jump, fill_skip, filled, filling, read_border}
+use lib.ListN.{length}
+use Rattle.search.proofs.Laws.{Filling}
 use Rattle.search.proofs.borders.fill.Given as goal
 
 abbrev pub invariant-loop-start : goal.invariant-loop-start

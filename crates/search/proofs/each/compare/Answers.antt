@@ -1,6 +1,5 @@
 -- `search::each::compare` meets its contract: by the next byte of both.
 -- Assumes nothing.
-use borrow.Author.Rules.{rules}
 use Rattle.json_text.proofs.Cursor.{begins_apart, begins_long, begins_none, begins_on}
 use Rattle.strings.proofs.Leaves.{was_byte, was_end}
 use Rattle.search.specs.Turns.{TurnTold}
@@ -29,12 +28,12 @@ returns-in-End-next c =
 pub returns-else-p-q : goal.returns-else-p-q
 unfolding TurnTold
 returns-else-p-q c =
-    let was-byte1 = was_byte c.in-Byte.given.0.0 c.next.ensures c.in-Byte.given.1 in
-    let was-byte2 = was_byte c.in-Byte-next.q c.next-in-Byte.ensures
+    let was_byte1 = was_byte c.in-Byte.p c.next.ensures c.in-Byte.is in
+    let was_byte2 = was_byte c.in-Byte-next.q c.next-in-Byte.ensures
     c.in-Byte-next.is in
     record {
-      same = begins_on was-byte1.byte was-byte2.byte c.if-p-q.false;
-      on_part = was-byte1.on_text;
-      on_text = was-byte2.on_text;
-      falls = was-byte1.falls;
+      same = begins_on was_byte1.byte was_byte2.byte c.if-p-q.false;
+      on_part = was_byte1.on_text;
+      on_text = was_byte2.on_text;
+      falls = was_byte1.falls;
     }

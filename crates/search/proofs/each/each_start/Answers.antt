@@ -1,23 +1,11 @@
 -- `search::each::each_start` meets its contract: from each start on the part is looked for in the rest of the text.
 -- Assumes nothing.
-use mathlib.Core.Path.{◌≡◌, sym, ◌∙◌}
-use Rattle.strings.proofs.Leaves.{before_of, was_byte, was_end}
-use Rattle.json_text.specs.Bytes.{begins}
-use Rattle.json_text.specs.Cursor.{OnText, weight}
+use mathlib.Core.Path.{sym, ◌∙◌}
+use Rattle.strings.proofs.Leaves.{was_byte, was_end}
 use Rattle.json_text.specs.Spans.{text_at}
-use Rattle.semantics.specs.Forms.{is_part}
 use Rattle.search.proofs.Reading.{start_before, start_on}
 use Rattle.search.proofs.Searching.{part_here, part_later, part_over, turn_apart, turn_ended, turn_on}
-use borrow.Author.Rules.{rules}
 use Rattle.search.proofs.each.each_start.Goals as goal
-
-abbrev invariant-search : tie.invariant-search
-invariant-search s text part x₀ x =
-    OnText s x.at x.left ×
-    (is_part (text_at s part) (text_at s text) ≡ is_part (text_at s part) (before_of s x))
-
-abbrev decreases-search : tie.decreases-search
-decreases-search s text part x₀ x = weight s x.at x.left
 
 pub search-init : goal.search-init
 search-init c = (
@@ -42,8 +30,8 @@ loop-b-smaller c =
 
 pub loop-b-preserved : goal.loop-b-preserved
 loop-b-preserved c =
-    let turn-on1 = turn_on c.args.s.now c.loop-b.y c.loop-b.z c.compare.ensures c.in-On.given.0.0 c.in-On.given.1 in
-    (turn-on1.on_part, turn-on1.on_text, c.loop-b.invariant.2 ∙ turn-on1.same)
+    let turn_on1 = turn_on c.args.s.now c.loop-b.y c.loop-b.z c.compare.ensures c.in-On.b c.in-On.is in
+    (turn_on1.on_part, turn_on1.on_text, c.loop-b.invariant.2 ∙ turn_on1.same)
 
 pub next-requires : goal.next-requires
 next-requires c = c.search.invariant.0
@@ -65,12 +53,12 @@ search-smaller c =
 
 pub search-preserved : goal.search-preserved
 search-preserved c =
-    let was-byte1 = was_byte c.in-Byte.t c.next.ensures c.in-Byte.is in (
-      was-byte1.on_text,
+    let was_byte1 = was_byte c.in-Byte.t c.next.ensures c.in-Byte.is in (
+      was_byte1.on_text,
       c.search.invariant.1 ∙ part_later (text_at c.args.s.now c.args.part)
           (c.loop-b.invariant.2 ∙ turn_apart c.args.s.now c.loop-b.y c.loop-b.z
           c.compare.ensures c.in-Apart.is)
-          was-byte1.byte,
+          was_byte1.byte,
     )
 
 pub returns : goal.returns

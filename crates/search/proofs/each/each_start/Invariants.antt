@@ -1,14 +1,11 @@
 -- `search::each::each_start` meets its contract: from each start on the part is looked for in the rest of the text.
 -- Assumes nothing.
-use mathlib.Core.Path.{◌≡◌, sym, ◌∙◌}
-use Rattle.strings.proofs.Leaves.{before_of, was_byte, was_end}
+use mathlib.Core.Path.{◌≡◌}
+use Rattle.strings.proofs.Leaves.{before_of}
 use Rattle.json_text.specs.Bytes.{begins}
 use Rattle.json_text.specs.Cursor.{OnText, weight}
 use Rattle.json_text.specs.Spans.{text_at}
 use Rattle.semantics.specs.Forms.{is_part}
-use Rattle.search.proofs.Reading.{start_before, start_on}
-use Rattle.search.proofs.Searching.{part_here, part_later, part_over, turn_apart, turn_ended, turn_on}
-use borrow.Author.Rules.{rules}
 use Rattle.search.proofs.each.each_start.Given as goal
 
 abbrev pub invariant-loop-b : goal.invariant-loop-b
@@ -18,3 +15,11 @@ invariant-loop-b l =
 
 abbrev pub decreases-loop-b : goal.decreases-loop-b
 decreases-loop-b l = weight l.s l.y.at l.y.left
+
+abbrev pub invariant-search : goal.invariant-search
+invariant-search l =
+    OnText l.s l.x.at l.x.left ×
+    (is_part (text_at l.s l.part) (text_at l.s l.text) ≡ is_part (text_at l.s l.part) (before_of l.s l.x))
+
+abbrev pub decreases-search : goal.decreases-search
+decreases-search l = weight l.s l.x.at l.x.left

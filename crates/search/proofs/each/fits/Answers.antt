@@ -3,11 +3,9 @@
 use mathlib.Core.Path.{◌≡◌}
 use Prim.Native.Nat.{ℕ}
 use native.Mathlib.Omega.{arith}
-use borrow.Author.Rules.{rules}
 use Rattle.strings.proofs.Leaves.{was_byte, was_end}
-use Rattle.json_text.specs.Cursor.{weight}
 use Rattle.json_text.specs.Spans.{text_at}
-use Rattle.search.proofs.Reading.{Paired, pair_grow, pair_short, paired, part_short}
+use Rattle.search.proofs.Reading.{pair_grow, pair_short, paired, part_short}
 use Rattle.search.proofs.each.fits.Goals as goal
 
 pub loop-p-init : goal.loop-p-init
@@ -18,8 +16,8 @@ loop-p-init c =
 pub next-requires : goal.next-requires
 next-requires c = c.loop-p.invariant.on_part
 
-returns : tie.Need-returns invariant-loop decreases-loop
-returns c = λ e. let z : ◌≡◌ {A = ℕ} 0 1 = cc in absurd (omega arith)
+pub returns-in-End : goal.returns-in-End
+returns-in-End c = λ e. let z : ◌≡◌ {A = ℕ} 0 1 = cc in absurd (omega arith)
 
 pub next-requires-in-Byte : goal.next-requires-in-Byte
 next-requires-in-Byte c = c.loop-p.invariant.on_text

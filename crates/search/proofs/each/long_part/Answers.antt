@@ -1,7 +1,6 @@
 -- `search::each::long_part` meets its contract.
 -- Assumes nothing.
 use mathlib.Core.Path.{sym}
-use borrow.Author.Rules.{rules}
 use Rattle.search.proofs.each.long_part.Goals as goal
 
 pub returns : goal.returns

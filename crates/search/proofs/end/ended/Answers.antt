@@ -1,6 +1,5 @@
 -- `search::end::ended` meets its contract: by what the cursor gives.
 -- Assumes nothing.
-use borrow.Author.Rules.{rules}
 use mathlib.Core.Path.{sym}
 use Rattle.json_text.proofs.Cursor.{same_none, same_short}
 use Rattle.strings.proofs.Leaves.{was_byte, was_end}

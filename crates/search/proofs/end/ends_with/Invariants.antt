@@ -1,12 +1,8 @@
 -- `search::end::ends_with` meets its contract: as much is read of both, until the part ends.
 -- Assumes nothing.
-use mathlib.Core.Path.{sym}
-use borrow.Author.Rules.{rules}
-use Rattle.strings.proofs.Leaves.{was_byte, was_end}
 use Rattle.json_text.specs.Cursor.{weight}
 use Rattle.json_text.specs.Spans.{text_at}
-use Rattle.search.proofs.Ending.{ends_shorter}
-use Rattle.search.proofs.Reading.{Paired, pair_grow, pair_over, pair_short, paired}
+use Rattle.search.proofs.Reading.{Paired}
 use Rattle.search.proofs.end.ends_with.Given as goal
 
 abbrev pub invariant-loop-p : goal.invariant-loop-p

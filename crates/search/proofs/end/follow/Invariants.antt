@@ -1,12 +1,8 @@
 -- `search::end::follow` meets its contract: the starts passed are too early.
 -- Assumes nothing.
-use mathlib.Core.Path.{sym, ◌∙◌}
-use borrow.Author.Rules.{rules}
-use Rattle.strings.proofs.Leaves.{was_byte, was_end}
 use Rattle.json_text.specs.Cursor.{weight}
 use Rattle.json_text.specs.Spans.{text_at}
-use Rattle.search.proofs.Ending.{Following, follow_end, follow_grow, follow_never, following}
-use Rattle.search.proofs.Reading.{start_before, start_on}
+use Rattle.search.proofs.Ending.{Following}
 use Rattle.search.proofs.end.follow.Given as goal
 
 abbrev pub invariant-loop-y : goal.invariant-loop-y

@@ -1,11 +1,8 @@
 -- `search::end::same_from` meets its contract: what is left of both compares as the whole.
 -- Assumes nothing.
-use mathlib.Core.Path.{◌≡◌, refl, sym, ◌∙◌}
+use mathlib.Core.Path.{refl, sym, ◌∙◌}
 use Rattle.json_text.proofs.Cursor.{same_apart, same_long, same_on}
-use Rattle.strings.proofs.Leaves.{before_of, was_byte, was_end}
-use Rattle.json_text.specs.Bytes.{same_bytes}
-use Rattle.json_text.specs.Cursor.{OnText, weight}
-use borrow.Author.Rules.{rules}
+use Rattle.strings.proofs.Leaves.{was_byte, was_end}
 use Rattle.search.proofs.end.same_from.Goals as goal
 
 pub loop-p-init : goal.loop-p-init
@@ -49,12 +46,12 @@ loop-p-smaller c =
 
 pub loop-p-preserved : goal.loop-p-preserved
 loop-p-preserved c =
-    let was-byte1 = was_byte c.in-Byte-next.q c.next-in-Byte.ensures
+    let was_byte1 = was_byte c.in-Byte-next.q c.next-in-Byte.ensures
     c.in-Byte-next.is in
-    let was-byte2 = was_byte c.in-Byte.p c.next.ensures
+    let was_byte2 = was_byte c.in-Byte.p c.next.ensures
     c.in-Byte.is in (
-      was-byte2.on_text,
-      was-byte1.on_text,
-      c.loop-p.invariant.2 ∙ same_on was-byte2.byte was-byte1.byte
+      was_byte2.on_text,
+      was_byte1.on_text,
+      c.loop-p.invariant.2 ∙ same_on was_byte2.byte was_byte1.byte
           c.if-p-q.false,
     )

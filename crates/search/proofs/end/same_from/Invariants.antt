@@ -1,11 +1,9 @@
 -- `search::end::same_from` meets its contract: what is left of both compares as the whole.
 -- Assumes nothing.
-use mathlib.Core.Path.{◌≡◌, refl, sym, ◌∙◌}
-use Rattle.json_text.proofs.Cursor.{same_apart, same_long, same_on}
-use Rattle.strings.proofs.Leaves.{before_of, was_byte, was_end}
+use mathlib.Core.Path.{◌≡◌}
+use Rattle.strings.proofs.Leaves.{before_of}
 use Rattle.json_text.specs.Bytes.{same_bytes}
 use Rattle.json_text.specs.Cursor.{OnText, weight}
-use borrow.Author.Rules.{rules}
 use Rattle.search.proofs.end.same_from.Given as goal
 
 abbrev pub invariant-loop-p : goal.invariant-loop-p

@@ -1,13 +1,11 @@
 -- `search::part::copy` meets its contract: the bytes copied and what is left of the text are the text.
 -- Assumes nothing.
-use mathlib.Core.Path.{refl, ◌≡◌}
+use mathlib.Core.Path.{refl}
 use native.Mathlib.Omega.{arith}
-use lib.ListN.{length, length-set}
-use borrow.Author.Rules.{rules}
+use lib.ListN.{length-set}
 use Rattle.strings.proofs.Leaves.{was_byte, was_end}
-use Rattle.json_text.specs.Cursor.{weight}
 use Rattle.json_text.specs.Spans.{text_at}
-use Rattle.search.proofs.Reading.{Copying, copy_end, copy_grow, copying}
+use Rattle.search.proofs.Reading.{copy_end, copy_grow, copying}
 use Rattle.search.specs.Told.{CopiedTold}
 use Rattle.search.proofs.part.copy.Goals as goal
 
@@ -31,6 +29,10 @@ returns-in-End c = (
 
 pub shape_of-out-then-n-out : goal.shape_of-out-then-n-out
 shape_of-out-then-n-out c = c.loop-t.invariant.0
+
+pub returns-then-n-out : goal.returns-then-n-out
+unfolding CopiedTold
+returns-then-n-out c = tt
 
 pub bounds-out-n : goal.bounds-out-n
 bounds-out-n c = omega (arith, c.loop-t.invariant.1.room)

@@ -1,14 +1,10 @@
 -- `search::part::copy` meets its contract: the bytes copied and what is left of the text are the text.
 -- Assumes nothing.
-use mathlib.Core.Path.{refl, ◌≡◌}
-use native.Mathlib.Omega.{arith}
-use lib.ListN.{length, length-set}
-use borrow.Author.Rules.{rules}
-use Rattle.strings.proofs.Leaves.{was_byte, was_end}
+use mathlib.Core.Path.{◌≡◌}
+use lib.ListN.{length}
 use Rattle.json_text.specs.Cursor.{weight}
 use Rattle.json_text.specs.Spans.{text_at}
-use Rattle.search.proofs.Reading.{Copying, copy_end, copy_grow, copying}
-use Rattle.search.specs.Told.{CopiedTold}
+use Rattle.search.proofs.Reading.{Copying}
 use Rattle.search.proofs.part.copy.Given as goal
 
 abbrev pub invariant-loop-t : goal.invariant-loop-t

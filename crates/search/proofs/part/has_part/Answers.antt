@@ -2,7 +2,6 @@
 -- Assumes nothing.
 use mathlib.Core.Path.{sym}
 use Rattle.search.proofs.Reading.{was_found, was_nowhere}
-use borrow.Author.Rules.{rules}
 use Rattle.search.proofs.part.has_part.Goals as goal
 
 pub returns-in-Found : goal.returns-in-Found

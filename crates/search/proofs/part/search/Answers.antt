@@ -1,20 +1,11 @@
 -- `search::part::search` meets its contract: every start before this one is refuted, and k bytes match from it on.
 -- Assumes nothing.
 use mathlib.Core.Path.{sym}
-use Prim.Native.Nat.{◌*◌, ◌+◌, ◌≤◌}
 use native.Mathlib.Omega.{arith}
-use borrow.Author.Rules.{rules}
 use Rattle.strings.proofs.Leaves.{was_byte, was_end}
-use Rattle.json_text.specs.Cursor.{weight}
 use Rattle.json_text.specs.Spans.{text_at}
-use Rattle.search.proofs.Reading.{Reading, read_end, read_found, read_grow, read-jump, read-skip, reading}
+use Rattle.search.proofs.Reading.{read_end, read_found, read_grow, read_jump, read_skip, reading}
 use Rattle.search.proofs.part.search.Goals as goal
-
-abbrev invariant-search : tie.invariant-search
-invariant-search s text part table n x₀ k₀ x k = Reading s part (text_at s text) x k
-
-abbrev decreases-search : tie.decreases-search
-decreases-search s text part table n x₀ k₀ x k = 2 * weight s x.at x.left + k
 
 pub search-init : goal.search-init
 search-init c =
@@ -47,7 +38,7 @@ search-smaller-then-k-eq0 c =
 
 pub search-preserved-then-k-eq0 : goal.search-preserved-then-k-eq0
 search-preserved-then-k-eq0 c =
-    read-skip c.args.s.now c.args.part.now (text_at c.args.s.now c.args.text) c.loop-k.x c.loop-k.k c.loop-k.invariant.0
+    read_skip c.args.s.now c.args.part.now (text_at c.args.s.now c.args.text) c.loop-k.x c.loop-k.k c.loop-k.invariant.0
     c.if-k-n.false _ _
     (was_byte c.in-Byte.t c.next.ensures c.in-Byte.is)
     c.if-t-part.true c.if-k-eq0.true
@@ -87,7 +78,7 @@ search-smaller c =
 
 pub search-preserved : goal.search-preserved
 search-preserved c =
-    read-jump c.args.s.now c.args.part.now (text_at c.args.s.now c.args.text) c.loop-k.x c.loop-k.k c.loop-k.invariant.0
+    read_jump c.args.s.now c.args.part.now (text_at c.args.s.now c.args.text) c.loop-k.x c.loop-k.k c.loop-k.invariant.0
     c.if-k-n.false _ _
     (was_byte c.in-Byte.t c.next.ensures c.in-Byte.is)
     c.if-t-part.true _
@@ -105,10 +96,10 @@ loop-k-smaller c =
 
 pub loop-k-preserved : goal.loop-k-preserved
 loop-k-preserved c =
-    let was-byte1 = was_byte c.in-Byte.t c.next.ensures c.in-Byte.is in (
+    let was_byte1 = was_byte c.in-Byte.t c.next.ensures c.in-Byte.is in (
       read_grow c.args.s.now c.args.part.now (text_at c.args.s.now c.args.text) c.loop-k.x c.loop-k.k c.loop-k.invariant.0
-          c.if-k-n.false _ _ was-byte1 c.if-t-part.false,
-      omega (arith, c.loop-k.invariant.1, was-byte1.falls),
+          c.if-k-n.false _ _ was_byte1 c.if-t-part.false,
+      omega (arith, c.loop-k.invariant.1, was_byte1.falls),
     )
 
 pub returns : goal.returns

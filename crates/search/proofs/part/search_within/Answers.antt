@@ -6,7 +6,6 @@ use lib.Seq.{length-take-le}
 use Rattle.json_text.specs.Spans.{text_at}
 use Rattle.search.proofs.Reading.{copied_answer, was_whole}
 use Rattle.search.specs.Told.{SoughtTold}
-use borrow.Author.Rules.{rules}
 use Rattle.search.proofs.part.search_within.Goals as goal
 
 pub slice_bounds-search_for-end : goal.slice_bounds-search_for-end
@@ -17,9 +16,9 @@ slice_bounds-search_for-end c =
 pub slice_bounds-search_for-end-in-Whole : goal.slice_bounds-search_for-end-in-Whole
 slice_bounds-search_for-end-in-Whole c =
     sym
-    (length-take-le c.in-Whole.given.0.0 c.copy.new.out
+    (length-take-le c.in-Whole.n c.copy.new.out
     (was_whole (text_at c.args.s.now c.args.part) c.copy.new.out c.copy.ensures
-    c.in-Whole.given.0.0 c.in-Whole.given.1).0)
+    c.in-Whole.n c.in-Whole.is).0)
 
 pub search_for-requires : goal.search_for-requires
 search_for-requires c =
@@ -28,6 +27,10 @@ search_for-requires c =
     c.copy.ensures c.in-Whole.n c.in-Whole.is).0 in
     let l = length-take-le c.in-Whole.n c.copy.new.out w in
     (c.requires.0, omega arith, omega arith)
+
+pub returns-in-Long : goal.returns-in-Long
+unfolding SoughtTold
+returns-in-Long c = tt
 
 pub returns-then-search_for : goal.returns-then-search_for
 unfolding SoughtTold

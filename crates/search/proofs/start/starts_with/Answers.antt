@@ -1,13 +1,8 @@
 -- `search::start::starts_with` meets its contract: what is left of the part and of the text answers as the whole.
 -- Assumes nothing.
-use Rattle.strings.proofs.Leaves.{before_of}
-use mathlib.Core.Path.{◌≡◌, sym, ◌∙◌}
-use Rattle.json_text.specs.Bytes.{begins}
-use Rattle.json_text.specs.Cursor.{OnText, weight}
-use Rattle.json_text.specs.Spans.{text_at}
+use mathlib.Core.Path.{sym, ◌∙◌}
 use Rattle.search.proofs.Reading.{start_before, start_on}
 use Rattle.search.proofs.Searching.{turn_apart, turn_ended, turn_on}
-use borrow.Author.Rules.{rules}
 use Rattle.search.proofs.start.starts_with.Goals as goal
 
 pub loop-b-init : goal.loop-b-init
@@ -39,5 +34,5 @@ loop-b-smaller c =
 
 pub loop-b-preserved : goal.loop-b-preserved
 loop-b-preserved c =
-    let turn-on1 = turn_on c.args.s.now c.loop-b.y c.loop-b.z c.compare.ensures c.in-On.given.0.0 c.in-On.given.1 in
-    (turn-on1.on_part, turn-on1.on_text, c.loop-b.invariant.2 ∙ turn-on1.same)
+    let turn_on1 = turn_on c.args.s.now c.loop-b.y c.loop-b.z c.compare.ensures c.in-On.b c.in-On.is in
+    (turn_on1.on_part, turn_on1.on_text, c.loop-b.invariant.2 ∙ turn_on1.same)

@@ -1,13 +1,10 @@
 -- `search::start::starts_with` meets its contract: what is left of the part and of the text answers as the whole.
 -- Assumes nothing.
 use Rattle.strings.proofs.Leaves.{before_of}
-use mathlib.Core.Path.{◌≡◌, sym, ◌∙◌}
+use mathlib.Core.Path.{◌≡◌}
 use Rattle.json_text.specs.Bytes.{begins}
 use Rattle.json_text.specs.Cursor.{OnText, weight}
 use Rattle.json_text.specs.Spans.{text_at}
-use Rattle.search.proofs.Reading.{start_before, start_on}
-use Rattle.search.proofs.Searching.{turn_apart, turn_ended, turn_on}
-use borrow.Author.Rules.{rules}
 use Rattle.search.proofs.start.starts_with.Given as goal
 
 abbrev pub invariant-loop-b : goal.invariant-loop-b
