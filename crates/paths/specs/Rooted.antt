@@ -4,7 +4,7 @@ use Rattle.std.specs.Prelude.{List, [], ◌∷◌, ◌≡◌, suc, zero, ℕ}
 use Rattle.std.proofs.Math.Option.{Option, none, some}
 use Rattle.std.proofs.Math.Seq.{slice}
 use Rattle.json_text.specs.Bytes.{Bytes, ascii, find}
-use Rattle.json_text.specs.Json.{Members, Value, empty, number, object, text}
+use Rattle.json_text.specs.Json.{Members, Value, number, object, text}
 use Rattle.json_text.specs.Refusal.{Result, ok, refused, unknown_expression, ◌>>=◌}
 use Rattle.json_text.specs.Spans.{text_at}
 use Rattle.json_text.specs.Table.{end_at, start_at}

@@ -1,10 +1,9 @@
 -- What each answer of the code stands for.
 -- Assumes nothing.
-use Rattle.std.specs.Prelude.{[], ◌++◌, ◌∷◌, ◌≡◌, ℕ, ◌<◌, ◌≤◌, length, false, true}
+use Rattle.std.specs.Prelude.{[], ◌++◌, ◌∷◌, ◌≡◌, ℕ, ◌<◌, ◌≤◌, length}
 use Rattle.std.proofs.Math.Option.{none, some}
-use Rattle.json_text.specs.Bytes.{Bytes, begins}
-use Rattle.json_text.specs.Cursor.{OnText, before, weight}
-use Rattle.strings.specs.declared.text.Cursor.{Cursor}
+use Rattle.json_text.specs.Bytes.{Bytes}
+use Rattle.json_text.specs.Cursor.{OnText}
 use Rattle.json_text.specs.Spans.{text_at}
 use Rattle.semantics.specs.Operand.{escaped, expression, plain, read_text}
 use Rattle.paths.specs.Path.{further}
