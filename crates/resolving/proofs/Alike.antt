@@ -22,7 +22,6 @@ use Rattle.paths.specs.Lazy as lazy
 use Rattle.paths.specs.Matched.{Holds, Paired}
 use Rattle.paths.specs.Shape.{alike_in, alike_of, alike_shapes}
 use Rattle.paths.specs.Stored.{OperandAt, Room, operand_of, table}
-use Rattle.paths.specs.declared.children.Child.TheVariants as child
 use Rattle.paths.specs.declared.children.Children.{Children}
 use Rattle.paths.specs.declared.operand.Operand.{Operand}
 use Rattle.resolving.proofs.Layered.{alike_layers, apart, array_is, array_kind, class_is, class_small, object_is, object_kind}

@@ -5,13 +5,12 @@ use mathlib.Core.List.{List, [], ◌∷◌}
 use mathlib.Core.Logic.{inl, inr}
 use mathlib.Core.Option.{some}
 use mathlib.Core.Path.{ap, refl, subst, ◌∙◌, ◌≡◌}
-use Prim.Native.Nat.{ℕ, ◌-◌, ◌<◌, ◌≤◌}
+use Prim.Native.Nat.{ℕ, ◌<◌, ◌≤◌}
 use native.Mathlib.Omega.{arith}
 use lib.ListN.{length}
 use Rattle.json_text.specs.Bytes.{Bytes}
 use Rattle.json_text.specs.Held.{HasNode}
 use Rattle.json_text.specs.Json.{text}
-use Rattle.json_text.specs.Limits.{depth}
 use Rattle.json_text.specs.Refusal.{Result, ok, refused, unknown_expression, ◌>>=◌}
 use Rattle.json_text.specs.Spans.{text_at}
 use Rattle.json_text.specs.Table.{kind_at, start_at}
@@ -33,7 +32,6 @@ use Rattle.paths.specs.declared.operand.Operand.{Operand}
 use Rattle.paths.specs.declared.operand.Resolved as code
 use Rattle.paths.specs.declared.operand.Resolved.TheVariants as answers
 use Rattle.resolving.proofs.Marking.{left_missed, left_none}
-use Rattle.paths.proofs.Stands.{impossible}
 use Rattle.paths.proofs.Trees.{Layer, a_false, a_null, a_number, a_text, a_true, an_array, an_object, layer, operand_at, text_row}
 
 -- an operand that is present leaves no mark

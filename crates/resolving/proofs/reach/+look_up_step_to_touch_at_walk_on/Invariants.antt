@@ -2,7 +2,6 @@
 -- number of expressions left, and within one the length of the path. Assumes nothing.
 use Prim.Native.Nat.{◌+◌, ◌*◌}
 use lib.ListN.{length}
-use Rattle.paths.specs.declared.operand.Kind.TheVariants as kinds
 use Rattle.resolving.proofs.reach.+look_up_step_to_touch_at_walk_on.Given as goal
 
 abbrev pub decreases-look_up : goal.decreases-look_up
