@@ -13,9 +13,6 @@ loop-i-init c = (omega arith, omega arith, unmarking c.args.work.now)
 pub bounds-work-i : goal.bounds-work-i
 bounds-work-i c = omega (arith, c.loop-i.invariant.2.only.long)
 
-pub overflow_mul-work : goal.overflow_mul-work
-overflow_mul-work c = omega (arith, c.slice_known-1.given c.loop-i.i)
-
 pub bounds-work-i-in-loop-i : goal.bounds-work-i-in-loop-i
 bounds-work-i-in-loop-i c = omega (arith, c.loop-i.invariant.2.only.long)
 

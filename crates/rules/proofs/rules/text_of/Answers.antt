@@ -1,5 +1,6 @@
 -- `calls::rules::text_of` meets its contract: by whether the member was found.
 -- Assumes nothing.
+use Rattle.members.specs.Kinds.{a_text}
 use Rattle.rules.proofs.Eligibility.{there_room}
 use Rattle.rules.proofs.Settling.{its_text, no_text}
 use borrow.Author.Rules.{rules}
