@@ -1,5 +1,6 @@
 -- `calls::eligible::is_true` meets its contract: by the kind of the node that is there.
 -- Assumes nothing.
+use Rattle.members.specs.Kinds.{a_bool}
 use mathlib.Core.Bool.{Bool}
 use mathlib.Core.Path.{ap}
 use Prim.Native.Nat.{ℕ}

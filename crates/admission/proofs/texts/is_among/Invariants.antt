@@ -1,5 +1,6 @@
 -- `calls::texts::is_among` meets its contract: the loop says that the texts from its node on decide.
 -- Assumes nothing.
+use Rattle.members.specs.Kinds.{a_text}
 use mathlib.Core.Path.{sym, ◌∙◌}
 use Prim.Native.Nat.{◌-◌}
 use native.Mathlib.Omega.{arith}
