@@ -4,12 +4,10 @@ use mathlib.Core.List.{List, [], ◌∷◌}
 use mathlib.Core.Option.{Option, none, some}
 use mathlib.Core.Path.{ap, refl, subst, sym, ◌∙◌, ◌≡◌}
 use Prim.Native.Nat.{ℕ, ◌+◌}
-use denote.Enum.Declared.{tag_of}
-use types.Run.{OneOf, miss}
+use mathlib.Core.Logic.{◌≢◌}
 use Rattle.evaluation.proofs.After.{accepted_rows}
 use Rattle.writer.specs.Meaning.{meaning}
 use Rattle.answers.specs.Verdict.{Verdict, passed}
-use Rattle.writer.specs.contracts.answer.Answer as AnswerT
 use Rattle.writer.specs.declared.answer.Answer.{Answer}
 use Rattle.writer.specs.declared.answer.Answer.TheVariants as answers
 use Rattle.writer.specs.declared.answer.Outcome.{Outcome as Entry}
@@ -123,15 +121,12 @@ only_passed sheet kind i [] v e = ok_injective (sym e)
 only_passed sheet kind i (r ∷ rs) v e = passed_by sheet kind i r rs v (λ f. only_passed sheet kind (i + 1) rs v f) (evaluate kernel sheet [] r.assert) e
 
 -- every answer but `Passed`
-abbrev not_passed : List ℕ
-not_passed = 0 ∷ 1 ∷ 2 ∷ 4 ∷ 5 ∷ 6 ∷ 7 ∷ 8 ∷ 9 ∷ 10 ∷ 11 ∷ 12 ∷ 13 ∷ 14 ∷ []
-
-not_passed_lem : (s : Bytes) (w : List ℕ) (a : Answer) → OneOf not_passed (tag_of AnswerT.the_type a) → meaning s w a ≡ ok passed → ⊥
+not_passed_lem : (s : Bytes) (w : List ℕ) (a : Answer) → a ≢ answers.Passed → meaning s w a ≡ ok passed → ⊥
 unfolding meaning
 not_passed_lem s w answers.True o e = impossible (cc)
 not_passed_lem s w answers.False o e = impossible (cc)
 not_passed_lem s w answers.Unknown o e = impossible (cc)
-not_passed_lem s w answers.Passed o e = absurd (miss not_passed 3 tt o)
+not_passed_lem s w answers.Passed o e = absurd (o refl)
 not_passed_lem s w (answers.Selected x) o e = impossible (cc)
 not_passed_lem s w (answers.Admitted x) o e = impossible (cc)
 not_passed_lem s w answers.NoInput o e = impossible (cc)
@@ -175,7 +170,7 @@ module _ (s : Bytes) (w : List ℕ) (m : Members) (sheet : Sheet Condition) (a :
         (subst (λ (y : Result Verdict). Told s w' y r) (sym (by_check ∙ bind_ok (λ _. admit_selected sheet (text_at s x)) passes))
         b.told)
 
-    pub decides_refused : OneOf not_passed (tag_of AnswerT.the_type v) → Answered s w w₁ (decide_call sheet) v
+    pub decides_refused : v ≢ answers.Passed → Answered s w w₁ (decide_call sheet) v
     decides_refused o = answered_over (only_marks h) (go (check sheet preconditions 0 sheet.preconditions) refl)
       where
         go : (y : Result Verdict) → check sheet preconditions 0 sheet.preconditions ≡ y → Told s w₁ (decide_call sheet) v

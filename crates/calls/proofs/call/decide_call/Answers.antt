@@ -1,5 +1,6 @@
 -- `calls::call::decide_call` meets its contract: by whether there is a state, then by whether the preconditions passed.
 -- Assumes nothing.
+use Rattle.members.specs.Kinds.{a_text}
 use native.Mathlib.Omega.{arith}
 use Rattle.evaluation.proofs.After.{accepted_rows}
 use Rattle.writer.specs.Meaning.{rules_of}
@@ -47,4 +48,4 @@ returns-in_default c =
     λ sheet a. decides_refused c.args.s.now c.args.work.now c.args.m sheet a c.in-At.n
     c.in-At.is c.start_at-at.ensures
     (c.check-a.ensures sheet sheet.preconditions a a.preconditions)
-    c.in_default.keys2
+    c.in_default.not-Passed

@@ -24,24 +24,24 @@ returns-in-Nothing c = λ sheet a. answered_no_condition a c.in-Nothing.is
 
 pub returns-in-Judged : goal.returns-in-Judged
 returns-in-Judged c =
-    λ sheet a. let y = its_truth a c.in-At.given.0.0 c.in-At.given.1
+    λ sheet a. let y = its_truth a c.in-At.node c.in-At.is
     c.evaluate_alone.ensures in answered_condition a
-    c.in-At.given.0.0 c.in-At.given.1
+    c.in-At.node c.in-At.is
     c.evaluate_alone.ensures
     (told_truth y c.in-Judged.t c.in-Judged.is c.of_truth.ensures)
 
 pub returns-in-Unknown : goal.returns-in-Unknown
 returns-in-Unknown c =
-    λ sheet a. let y = its_truth a c.in-At.given.0.0 c.in-At.given.1
+    λ sheet a. let y = its_truth a c.in-At.node c.in-At.is
     c.evaluate_alone.ensures in answered_condition a
-    c.in-At.given.0.0 c.in-At.given.1
+    c.in-At.node c.in-At.is
     c.evaluate_alone.ensures
     (told_unknown y c.in-Unknown.n c.in-Unknown.is c.start_at.ensures of_condition)
 
 pub returns-in-NoId : goal.returns-in-NoId
 returns-in-NoId c =
-    λ sheet a. let y = its_truth a c.in-At.given.0.0 c.in-At.given.1
+    λ sheet a. let y = its_truth a c.in-At.node c.in-At.is
     c.evaluate_alone.ensures in answered_condition a
-    c.in-At.given.0.0 c.in-At.given.1
+    c.in-At.node c.in-At.is
     c.evaluate_alone.ensures
     (told_no_id y c.in-NoId.is of_condition)
