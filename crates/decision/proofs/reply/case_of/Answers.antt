@@ -1,7 +1,6 @@
 -- `decision::reply::case_of` meets its contract: case by case.
 -- Assumes nothing.
 use native.Mathlib.Omega.{arith}
-use Rattle.members.proofs.Operators.{past}
 use Rattle.decision.proofs.Replies.{last_case, with_line, without_line}
 use Rattle.decision.specs.Replies.{number_of, size_of}
 use Rattle.decision.proofs.reply.case_of.Goals as goal
@@ -100,42 +99,4 @@ returns-in-22 c = with_line 22 _ c.in-22.is
 
 pub returns-in_default : goal.returns-in_default
 unfolding number_of size_of
-returns-in_default c =
-    last_case c.requires
-    (past 22
-    (past 21
-    (past 20
-    (past 19
-    (past 18
-    (past 17
-    (past 16
-    (past 15
-    (past 14
-    (past 13
-    (past 12
-    (past 11
-    (past 10
-    (past 9
-    (past 8
-    (past 7
-    (past 6
-    (past 5
-    (past 4
-    (past 3
-    (past 2
-    (past 1
-    (past 0 (omega arith)
-    c.in_default.rest.0.0.0.0.0.0.0.0.0.0.0.0.0.0.0.0.0.0.0.0.0.0.1)
-    c.in_default.rest.0.0.0.0.0.0.0.0.0.0.0.0.0.0.0.0.0.0.0.0.0.1)
-    c.in_default.rest.0.0.0.0.0.0.0.0.0.0.0.0.0.0.0.0.0.0.0.0.1)
-    c.in_default.rest.0.0.0.0.0.0.0.0.0.0.0.0.0.0.0.0.0.0.0.1)
-    c.in_default.rest.0.0.0.0.0.0.0.0.0.0.0.0.0.0.0.0.0.0.1)
-    c.in_default.rest.0.0.0.0.0.0.0.0.0.0.0.0.0.0.0.0.0.1)
-    c.in_default.rest.0.0.0.0.0.0.0.0.0.0.0.0.0.0.0.0.1)
-    c.in_default.rest.0.0.0.0.0.0.0.0.0.0.0.0.0.0.0.1)
-    c.in_default.rest.0.0.0.0.0.0.0.0.0.0.0.0.0.0.1)
-    c.in_default.rest.0.0.0.0.0.0.0.0.0.0.0.0.0.1) c.in_default.rest.0.0.0.0.0.0.0.0.0.0.0.0.1)
-    c.in_default.rest.0.0.0.0.0.0.0.0.0.0.0.1) c.in_default.rest.0.0.0.0.0.0.0.0.0.0.1)
-    c.in_default.rest.0.0.0.0.0.0.0.0.0.1) c.in_default.rest.0.0.0.0.0.0.0.0.1)
-    c.in_default.rest.0.0.0.0.0.0.0.1) c.in_default.rest.0.0.0.0.0.0.1) c.in_default.rest.0.0.0.0.0.1) c.in_default.rest.0.0.0.0.1)
-    c.in_default.rest.0.0.0.1) c.in_default.rest.0.0.1) c.in_default.rest.0.1) c.in_default.rest.1)
+returns-in_default c = last_case c.requires (omega arith)
