@@ -18,7 +18,7 @@ CAMEL = re.compile(r"[a-z][a-z0-9']*[A-Z][A-Za-z0-9']*$")
 PATH = re.compile(r"([A-Za-z_][A-Za-z0-9_'-]*)(?:\.[A-Za-z0-9_'+-]+)*\.$")
 STRING = re.compile(r"b?\"(?:\\.|[^\"\\\n])*\"")
 WORDS = r"(?:(?:abbrev|unfoldable|pub|private) )*"
-HEAD = re.compile(r"^" + WORDS + r"(?:(?:data|record|ruleset)\s+)?([^\s:(){}λ,;|=]+)(?:\s.*)?:(?:\s|$)")
+HEAD = re.compile(r"^" + WORDS + r"(?:(?:data|record|ruleset)\s+)?((?:[^\s:(){}λ,;|=]+\s+)*?[^\s:(){}λ,;|=]+)(?:\s[({].*)?\s*:(?:\s|$)")
 # lemmas whose name would fall together with that of a definition get an ending
 LEMMA = "_lem"
 # names that port.py made of a lemma's, which is now a definition's
@@ -43,11 +43,11 @@ def declared(text):
     """The names that a file of definitions or lemmas declares: at the left, as a field, as a constructor, or in a mutual block."""
     for line in text.splitlines():
         bare = line.strip()
-        if bare.startswith(("--", "use ")) or len(line) - len(line.lstrip()) > 6:
+        if bare.startswith(("--", "use ", "let ", "module ")):
             continue
         m = HEAD.match(bare)
         if m:
-            yield m.group(1)
+            yield from m.group(1).split()
 
 
 def snake(name):

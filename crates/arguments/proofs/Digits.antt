@@ -12,7 +12,6 @@ use Rattle.json_text.specs.Bytes.{Bytes, between, natural}
 use Rattle.members.proofs.Words.{here}
 use Rattle.members.specs.Kinds.{all_digits}
 use Rattle.arguments.specs.Places.{number_in}
-use Rattle.arguments.specs.declared.place.Place.{Place}
 use Rattle.arguments.specs.declared.place.Place.TheVariants as places
 
 natural_grows : (n : ℕ) (t : Bytes) → n ≤ natural n t

@@ -290,17 +290,17 @@ module _ (s : Bytes) where
     unfolding read_with
     with_ascends n at q h l e = by (start (get_or s at 0)) refl
       where
-        leaf-read : (k : Plain) (scan : Result ℕ) → leaf_byte k at ≡ at → (one_node n >>= λ m. Placing.leaf_at k m at scan) ≡ ok q → Ascends at q.place q.tree
-        leaf-read k scan i j = leaf_ascends_lem k n at at q (λ m. Placing.leaf_at k m at scan) i h (λ m z. leaf_is k m at scan q z) j
+        leaf_read : (k : Plain) (scan : Result ℕ) → leaf_byte k at ≡ at → (one_node n >>= λ m. Placing.leaf_at k m at scan) ≡ ok q → Ascends at q.place q.tree
+        leaf_read k scan i j = leaf_ascends_lem k n at at q (λ m. Placing.leaf_at k m at scan) i h (λ m z. leaf_is k m at scan q z) j
 
         by : (k : Start) → start (get_or s at 0) ≡ k → Ascends at q.place q.tree
-        by Reader.start_null p = leaf-read Plain.is_null (word_at (ascii "null") s at) refl (rw (p, read_with) at e)
-        by Reader.start_true p = leaf-read Plain.is_true (word_at (ascii "true") s at) refl (rw (p, read_with) at e)
-        by Reader.start_false p = leaf-read Plain.is_false (word_at (ascii "false") s at) refl (rw (p, read_with) at e)
+        by Reader.start_null p = leaf_read Plain.is_null (word_at (ascii "null") s at) refl (rw (p, read_with) at e)
+        by Reader.start_true p = leaf_read Plain.is_true (word_at (ascii "true") s at) refl (rw (p, read_with) at e)
+        by Reader.start_false p = leaf_read Plain.is_false (word_at (ascii "false") s at) refl (rw (p, read_with) at e)
         by Reader.start_text p =
             leaf_ascends_lem Plain.is_text n at (at + 1) q (λ m. Placing.string_at m (at + 1) (chars_at s (at + 1))) (omega arith) h
             (λ m i. string_is m (at + 1) (chars_at s (at + 1)) q i) (rw (p, read_with) at e)
-        by Reader.start_number p = leaf-read Plain.is_number (digits_at s at) refl (rw (p, read_with) at e)
+        by Reader.start_number p = leaf_read Plain.is_number (digits_at s at) refl (rw (p, read_with) at e)
         by Reader.start_array p = arrays n at q l (rw (p, read_with) at e)
         by Reader.start_object p = objects n at q l (rw (p, read_with) at e)
         by Reader.start_nothing p = not_ok not_json (rw (p, read_with) at e)

@@ -87,10 +87,10 @@ module _ (s : Bytes) (at u left : ℕ) (o : OnText s at left) where
       where
         go : TextView s at o.stop → before s at u left ≡ []
         go (ended i j k) = subst (λ (n : ℕ). before s at u n ≡ []) (sym z) (none_left s at u k)
-        go (raw i j k t) = absurd (not-other (sym (ap char e) ∙ j))
+        go (raw i j k t) = absurd (not_other (sym (ap char e) ∙ j))
           where
-            not-other : quote ≡ other → ⊥
-            not-other q = let n : ◌≡◌ {A = ℕ} 0 1 = cc in omega arith
+            not_other : quote ≡ other → ⊥
+            not_other q = let n : ◌≡◌ {A = ℕ} 0 1 = cc in omega arith
         go (written v b i j k t l) = absurd (omega arith)
 
     pub turn_raw : (get_or s at 0 ≡ 34 → ⊥) → (get_or s at 0 ≡ 92 → ⊥) → Took s at u left (get_or s at 0) (at + 1) 0 0

@@ -153,8 +153,8 @@ five_to_eight s q l e = go (parse_local s)
         whole : utf8 scalar s ≡ true → utf8 scalar good ≡ true
         whole d = cut_utf8 good c x (subst (λ (b : Bytes). utf8 scalar b ≡ true) i d) edge
 
-        ascii-behind : (w : Bytes) → is_ascii c ≡ true → all_ascii w ≡ true → all_ascii (c ∷ w) ≡ true
-        ascii-behind w a b = rw (a, all_ascii) b
+        ascii_behind : (w : Bytes) → is_ascii c ≡ true → all_ascii w ≡ true → all_ascii (c ∷ w) ≡ true
+        ascii_behind w a b = rw (a, all_ascii) b
 
         at : {a : Refusal} → Shown (tallied nothing good) c (λ i. Goes max_depth i (good ++ (c ∷ []))) a → Limit a →
             ((t : Bytes) → parse (good ++ (c ∷ t)) ≡ refused a) → Past a s
@@ -169,7 +169,7 @@ five_to_eight s q l e = go (parse_local s)
               continues = k.0;
               decoded =
                   λ d. ap (utf8 scalar) (append_assoc good (c ∷ []) k.0.more) ∙
-                  more_utf8 good (c ∷ k.0.more) (whole d) (ascii-behind k.0.more (stands_ascii n) k.2);
+                  more_utf8 good (c ∷ k.0.more) (whole d) (ascii_behind k.0.more (stands_ascii n) k.2);
               tie = λ j. sparing_deep (k.1 (spares_nodes n j));
               whatever = h;
               passes = λ t v j. passes_limit_of (good ++ (c ∷ t)) v a j (h t);

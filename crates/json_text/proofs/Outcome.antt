@@ -103,21 +103,21 @@ module _ {st : Tally} {A B : Type 0} {mk : B → Bytes → A} {G : Bool → Byte
       {P Q : Bytes → Result A} (c : ℕ) (s : Bytes) → ((x : Bytes) → P (c ∷ x) ≡ Q x) → ((b : B) → is_ascii c ≡ false → Q [] ≢ ok (mk b [])) →
       ((q : Refusal) (d : ℕ) → is_ascii c ≡ false → ((x : Bytes) → Q (d ∷ x) ≡ refused q) → is_ascii d ≡ true) →
       Outcome (further st c) mk Q (λ b g. G b (c ∷ g)) (λ b u. T b (c ∷ u)) s → Outcome st mk P G T (c ∷ s)
-  step_any {P} {Q} c s h some_byte next-ascii (took b used r e again t l) =
+  step_any {P} {Q} c s h some_byte next_ascii (took b used r e again t l) =
       took b (c ∷ used) r (ap {B = Bytes} (λ x. c ∷ x) e) (λ x f. h (used ++ x) ∙ again x f) t (go (is_ascii c) refl used again l)
     where
       go : (a : Bool) → is_ascii c ≡ a → (u : Bytes) → ((x : Bytes) → Follows r x → Q (u ++ x) ≡ ok (mk b x)) → last_ascii true u ≡ true → last_ascii (is_ascii c) u ≡ true
       go true q u k f = subst (λ (a : Bool). last_ascii a u ≡ true) (sym q) f
       go false q [] k f = absurd (some_byte b q (k [] nothing))
       go false q (d ∷ u) k f = f
-  step_any c s h some_byte next-ascii (cut e g) = cut (h s ∙ e) g
-  step_any {P} {Q} c s h some_byte next-ascii (fault q good d t p again quiet g u l) =
+  step_any c s h some_byte next_ascii (cut e g) = cut (h s ∙ e) g
+  step_any {P} {Q} c s h some_byte next_ascii (fault q good d t p again quiet g u l) =
       fault q (c ∷ good) d t (ap {B = Bytes} (λ x. c ∷ x) p) (λ x. h (good ++ (d ∷ x)) ∙ again x) (quiet_at (h good) quiet) g u
       (go (is_ascii c) refl good again l)
     where
       go : (a : Bool) → is_ascii c ≡ a → (w : Bytes) → ((x : Bytes) → Q (w ++ (d ∷ x)) ≡ refused q) → Edge w d → Edge (c ∷ w) d
       go true i w k f e = subst (λ (a : Bool). last_ascii a w ≡ true) (sym i) (f e)
-      go false i [] k f e = absurd (true≢false (sym (next-ascii q d i k) ∙ e))
+      go false i [] k f e = absurd (true≢false (sym (next_ascii q d i k) ∙ e))
       go false i (x ∷ w) k f e = f e
 
   -- an ASCII byte, and then another reader

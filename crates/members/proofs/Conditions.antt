@@ -164,18 +164,18 @@ module _ (m : Mode) (ms : Members) where
       no_as e = rw (exactly, quantifier, find_conditions (ascii "in") ms, is_in, find_conditions (ascii "as") ms, e)
 
       module _ (bind : Value) (is_as : find (ascii "as") (entries ms) ≡ some bind) where
-        pub no-that : find (ascii "that") (entries ms) ≡ none → fault_of (quantifier m (conditions_of ms)) ≡ some wrong_shape
+        pub no_that : find (ascii "that") (entries ms) ≡ none → fault_of (quantifier m (conditions_of ms)) ≡ some wrong_shape
         unfolding quantifier
-        no-that e = rw (exactly, quantifier, find_conditions (ascii "in") ms, is_in, find_conditions (ascii "as") ms, is_as, find_conditions (ascii "that") ms, e)
+        no_that e = rw (exactly, quantifier, find_conditions (ascii "in") ms, is_in, find_conditions (ascii "as") ms, is_as, find_conditions (ascii "that") ms, e)
 
         module _ (body : Value) (is_that : find (ascii "that") (entries ms) ≡ some body) where
           pub no_name : as_text bind ≡ none → fault_of (quantifier m (conditions_of ms)) ≡ some wrong_shape
           unfolding quantifier
           no_name e = rw (exactly, quantifier, find_conditions (ascii "in") ms, is_in, find_conditions (ascii "as") ms, is_as, find_conditions (ascii "that") ms, is_that, e)
 
-          pub the-body : (t : Bytes) → as_text bind ≡ some t → fault_of (quantifier m (conditions_of ms)) ≡ fault_of (condition body)
+          pub the_body : (t : Bytes) → as_text bind ≡ some t → fault_of (quantifier m (conditions_of ms)) ≡ fault_of (condition body)
           unfolding quantifier
-          the-body t e =
+          the_body t e =
               rw (
                 exactly,
                 quantifier,

@@ -381,18 +381,18 @@ least_first s low high [] q r e = let z : ◌≡◌ {A = ℕ} 0 1 = cc in absurd
 least_first s low high (c ∷ cs) q r e = go (own_fault (erase s c)) refl (least_first s (first_byte c + 1) high cs q r.2)
   where
     go : (o : Option Refusal) → own_fault (erase s c) ≡ o → (first_fault s cs ≡ some q → First s cs q) → First s (c ∷ cs) q
-    go (some x) p below = record { condition = c; is_one = here; fault = p ∙ (rw (p, first_fault) at e); least = here-least }
+    go (some x) p below = record { condition = c; is_one = here; fault = p ∙ (rw (p, first_fault) at e); least = here_least }
       where
-        here-least : (d : Node) → OneOf d (c ∷ cs) → own_fault (erase s d) ≢ none → first_byte c ≤ first_byte d
-        here-least d here h = omega arith
-        here-least d (there i) h = omega (arith, begins_behind (first_byte c + 1) high cs d r.2 i)
+        here_least : (d : Node) → OneOf d (c ∷ cs) → own_fault (erase s d) ≢ none → first_byte c ≤ first_byte d
+        here_least d here h = omega arith
+        here_least d (there i) h = omega (arith, begins_behind (first_byte c + 1) high cs d r.2 i)
     go none p below =
         let k = below (rw (p, first_fault) at e) in
-        record { condition = k.condition; is_one = there k.is_one; fault = k.fault; least = there-least k }
+        record { condition = k.condition; is_one = there k.is_one; fault = k.fault; least = there_least k }
       where
-        there-least : (k : First s cs q) (d : Node) → OneOf d (c ∷ cs) → own_fault (erase s d) ≢ none → first_byte k.condition ≤ first_byte d
-        there-least k d here h = absurd (h p)
-        there-least k d (there i) h = k.least d i h
+        there_least : (k : First s cs q) (d : Node) → OneOf d (c ∷ cs) → own_fault (erase s d) ≢ none → first_byte k.condition ≤ first_byte d
+        there_least k d here h = absurd (h p)
+        there_least k d (there i) h = k.least d i h
 
 ascends_of : {low high a e : ℕ} {fs : Fields} → Ascends low high (obj a e fs) → (from : ℕ) × AscendOf from high fs
 ascends_of (obj_ascends {from = f} a b c d) = (f, d)

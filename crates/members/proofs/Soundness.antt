@@ -143,13 +143,13 @@ module _ (t : Bytes) (v : Value) {o : Option Refusal} where
       held_second p f = held_as {h = some (each_under (ascii "assert"))} (rw (n, m, p, find)) f
 
       module _ (l : same_bytes t (ascii "invariants") ≡ false) where
-        pub held-third : same_bytes t (ascii "outcomes") ≡ true → soundness (in_array (ascii "when") v) ≡ o → soundness (held_by (find t holders) v) ≡ o
+        pub held_third : same_bytes t (ascii "outcomes") ≡ true → soundness (in_array (ascii "when") v) ≡ o → soundness (held_by (find t holders) v) ≡ o
         unfolding find
-        held-third p f = held_as {h = some (each_under (ascii "when"))} (rw (n, m, l, p, find)) f
+        held_third p f = held_as {h = some (each_under (ascii "when"))} (rw (n, m, l, p, find)) f
 
-        pub held-nothing : same_bytes t (ascii "outcomes") ≡ false → none ≡ o → soundness (held_by (find t holders) v) ≡ o
+        pub held_nothing : same_bytes t (ascii "outcomes") ≡ false → none ≡ o → soundness (held_by (find t holders) v) ≡ o
         unfolding find
-        held-nothing p f = held_as {h = none} (rw (n, m, l, p, find)) (sound_none ∙ f)
+        held_nothing p f = held_as {h = none} (rw (n, m, l, p, find)) (sound_none ∙ f)
 
 -- ---- the sheet's members
 abbrev pub soundness_of : Members → Option Refusal

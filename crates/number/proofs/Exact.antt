@@ -290,24 +290,24 @@ lexical (c ∷ a) (d ∷ b) da db ta tb = go (lexical a b da.1 db.1 ta.1 tb.1) (
 
     go : Cmp (natural 0 a * 10 ^ length b) (natural 0 b * 10 ^ length a) (order_bytes a b) → (o : Ordering) → Cmp c d o → compare c d ≡ o →
         Cmp Left Right (order_bytes (c ∷ a) (d ∷ b))
-    go rest o (less p) q = rw (q, order_bytes) (cmp_at left right (less (omega (arith, below_left, between-them))))
+    go rest o (less p) q = rw (q, order_bytes) (cmp_at left right (less (omega (arith, below_left, between_them))))
       where
         below_left : natural 0 a * 10 ^ length b < 10 ^ length a * 10 ^ length b
         below_left = mul-lt-mul_of_pos_right (natural_less a da.1) (ten_pos (length b))
 
-        between-them : (c - 48 + 1) * (10 ^ length a * 10 ^ length b) ≤ (d - 48) * (10 ^ length a * 10 ^ length b)
-        between-them = mul-le-mul_right (10 ^ length a * 10 ^ length b) (omega (arith, p, da.0.0))
+        between_them : (c - 48 + 1) * (10 ^ length a * 10 ^ length b) ≤ (d - 48) * (10 ^ length a * 10 ^ length b)
+        between_them = mul-le-mul_right (10 ^ length a * 10 ^ length b) (omega (arith, p, da.0.0))
     go rest o (same p) q =
         rw (q, order_bytes)
         (cmp_at left (right ∙ ap (λ (x : ℕ). (natural 0 b * 10 ^ length a + (x - 48) * (10 ^ length a * 10 ^ length b)) * 10) (sym p))
         (cmp_times 10 (omega arith) (cmp_plus ((c - 48) * (10 ^ length a * 10 ^ length b)) rest)))
-    go rest o (more p) q = rw (q, order_bytes) (cmp_at left right (more (omega (arith, below_right, between-them))))
+    go rest o (more p) q = rw (q, order_bytes) (cmp_at left right (more (omega (arith, below_right, between_them))))
       where
         below_right : natural 0 b * 10 ^ length a < 10 ^ length b * 10 ^ length a
         below_right = mul-lt-mul_of_pos_right (natural_less b db.1) (ten_pos (length a))
 
-        between-them : (d - 48 + 1) * (10 ^ length a * 10 ^ length b) ≤ (c - 48) * (10 ^ length a * 10 ^ length b)
-        between-them = mul-le-mul_right (10 ^ length a * 10 ^ length b) (omega (arith, p, db.0.0))
+        between_them : (d - 48 + 1) * (10 ^ length a * 10 ^ length b) ≤ (c - 48) * (10 ^ length a * 10 ^ length b)
+        between_them = mul-le-mul_right (10 ^ length a * 10 ^ length b) (omega (arith, p, db.0.0))
 
 -- a lower place is less, whatever the digits
 lower : (a b : Bytes) (x y : ℕ) → AreDigits a → 10 ^ length b ≤ 10 * natural 0 b → x < y → natural 0 a * 10 ^ (x + length b) < natural 0 b * 10 ^ (y + length a)

@@ -608,11 +608,11 @@ module _ (s : Bytes) where
                 sym r.1,
             rw f (last_upto zero zero false whole w z.upto),
           )
-      found true q f = at-point (drop whole.end s) refl q
+      found true q f = at_point (drop whole.end s) refl q
         where
-          at-point : (t : Bytes) → drop whole.end s ≡ t → starts_point t ≡ true → Found
-          at-point [] k h = absurd (true≢false (sym h))
-          at-point (d ∷ y) k h =
+          at_point : (t : Bytes) → drop whole.end s ≡ t → starts_point t ≡ true → Found
+          at_point [] k h = absurd (true≢false (sym h))
+          at_point (d ∷ y) k h =
               let r = raw_pointed (drop zero s) y d (sym behind_whole ∙ k) h in
               let after : drop (whole.end + 1) s ≡ y = dropped whole.end 1 (d ∷ y) k in
               let el : ends.last ≡
@@ -667,9 +667,9 @@ module _ (s : Bytes) where
             exponent = e;
           })
       unfolding digits_at
-      parsed_fraction negative n = at-point (drop zero s) refl some
+      parsed_fraction negative n = at_point (drop zero s) refl some
         where
-          at-point : (t : Bytes) → drop zero s ≡ t → starts_point t ≡ true →
+          at_point : (t : Bytes) → drop zero s ≡ t → starts_point t ≡ true →
               Parsed s
               (record {
                 negative = negative;
@@ -678,8 +678,8 @@ module _ (s : Bytes) where
                 leading = first - start - 1;
                 exponent = e;
               })
-          at-point [] p h = absurd (true≢false (sym h))
-          at-point (d ∷ y) p h =
+          at_point [] p h = absurd (true≢false (sym h))
+          at_point (d ∷ y) p h =
               let after : drop (zero + 1) s ≡ y = dropped zero 1 (d ∷ y) p in
               let from : FromFraction u y = from_fraction u y d (sym zero_rest ∙ p) h in
               let x : drop first s ≡ trim y = k.rest ∙ ap trim after in

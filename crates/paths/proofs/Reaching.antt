@@ -113,10 +113,10 @@ module _ (sheet : Sheet Condition) (touched : lazy.Frames → Value → lazy.Ope
       go : (o : Option Value) → member_step k x ≡ o →
           ((y : Value) → walk_from sheet touched fs ks (given y) ≡ map_some given (walk kernel ks y)) →
           walk_from sheet touched fs (k ∷ ks) (given x) ≡ map_some given (walk kernel (k ∷ ks) x)
-      go none q further-on = let w : walk kernel (k ∷ ks) x ≡ none = rw (q, walk) in walk_none k ks (given x) (ap (map_some given) q) ∙ ap (map_some given) (sym w)
-      go (some y) q further-on =
+      go none q further_on = let w : walk kernel (k ∷ ks) x ≡ none = rw (q, walk) in walk_none k ks (given x) (ap (map_some given) q) ∙ ap (map_some given) (sym w)
+      go (some y) q further_on =
           let w : walk kernel (k ∷ ks) x ≡ walk kernel ks y = rw (q, walk) in walk_some k ks (given x) (ap (map_some given) q) ∙
-          further-on y ∙
+          further_on y ∙
           ap (map_some given) (sym w)
 
 from_base : (sheet : Sheet Condition) (e name : Bytes) (p : Bytes) (ps : List Bytes) {ms : Members} → find name (bases sheet) ≡ some ms →
@@ -153,9 +153,9 @@ module _ (sheet : Sheet Condition) (touched : lazy.Frames → Value → lazy.Ope
         free : look sheet touched fs e ≡ (unbound kernel sheet e (part e) (part rest ∷ others) >>= λ x. ok (map_some given x))
         free = look_free sheet touched fs e (parts_on e z ∙ ap (λ (l : List Bytes). part e ∷ l) (parts_by rest)) (bound_not h q)
 
-        pub look-unknown : c ≡ bounds.Nothing → LookedAs s t e lookeds.Unknown (look sheet touched fs e)
+        pub look_unknown : c ≡ bounds.Nothing → LookedAs s t e lookeds.Unknown (look sheet touched fs e)
         unfolding base_gives map_some looked_of LookedFits
-        look-unknown p = go (base_members sheet (root_of (part e))) refl (bound_not g p)
+        look_unknown p = go (base_members sheet (root_of (part e))) refl (bound_not g p)
           where
             go : (x : Option Members) → base_members sheet (root_of (part e)) ≡ x → map_some (λ ms. given (object ms)) x ≡ none →
                 LookedAs s t e lookeds.Unknown (look sheet touched fs e)
@@ -171,15 +171,15 @@ module _ (sheet : Sheet Condition) (touched : lazy.Frames → Value → lazy.Ope
               go none k l = absurd (impossible (cc))
               go (some ms) k l = f ms (base_whole sheet (part e) ∙ k) (cc)
 
-          pub look-empty : true ≡ same_bytes (part rest) [] → LookedAs s t e lookeds.Nothing (look sheet touched fs e)
+          pub look_empty : true ≡ same_bytes (part rest) [] → LookedAs s t e lookeds.Nothing (look sheet touched fs e)
           unfolding looked_of LookedFits map_some
-          look-empty k = based λ ms l _. record { means = sym (free ∙ rw (same_bytes_true (part rest) [] (sym k), from_base sheet e (part e) [] others l)); fits = tt }
+          look_empty k = based λ ms l _. record { means = sym (free ∙ rw (same_bytes_true (part rest) [] (sym k), from_base sheet e (part e) [] others l)); fits = tt }
 
-          pub look-base : false ≡ same_bytes (part rest) [] → {w : Bound} {r : Looked} →
+          pub look_base : false ≡ same_bytes (part rest) [] → {w : Bound} {r : Looked} →
               BoundAs s t w (walk_from sheet touched fs (parts rest) (operand_of s t o)) → r ≡ found_as w →
               LookedAs s t e r (look sheet touched fs e)
           unfolding same_bytes
-          look-base k {w} y r = based λ ms l v. rw (free ∙ go (part rest) refl ms l v) (bound_looked y e r)
+          look_base k {w} y r = based λ ms l v. rw (free ∙ go (part rest) refl ms l v) (bound_looked y e r)
             where
               go :
                   (n : Bytes) → part rest ≡ n → (ms : Members) → find (part e) (bases sheet) ≡ some ms → given (object ms) ≡ operand_of s t o →

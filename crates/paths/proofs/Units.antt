@@ -51,10 +51,10 @@ module _ (s : Bytes) (at : ℕ) (o : OnText s at 0) where
     where
       go : TextView s at o.stop → text_at s at ≡ []
       go (ended i j k) = k
-      go (raw i j k t) = absurd (not-other (sym (ap char e) ∙ j))
+      go (raw i j k t) = absurd (not_other (sym (ap char e) ∙ j))
         where
-          not-other : quote ≡ other → ⊥
-          not-other q = impossible (cc)
+          not_other : quote ≡ other → ⊥
+          not_other q = impossible (cc)
       go (written v b i j k t l) = absurd (omega arith)
 
   not_raw : get_or s at 0 ≡ 92 → char (get_or s at 0) ≡ other → ⊥

@@ -109,8 +109,8 @@ module _ (s : Bytes) (t : List ℕ) (f : lazy.Operand → lazy.Operand → Bool)
         compared : whole ≡ (r && alike_nodes s t f named g h (children_of t xs) (children_of t ys))
         compared = turn ∙ rw (sym agree ∙ not_no b yes, part, is_u, is_v)
 
-        pub parts-differ : not r ≡ true → false ≡ whole
-        parts-differ z = sym (compared ∙ rw (not_yes r z))
+        pub parts_differ : not r ≡ true → false ≡ whole
+        parts_differ z = sym (compared ∙ rw (not_yes r z))
 
         pub parts_same : not r ≡ false → Comparing xs ys
         parts_same z = record { rest = compared ∙ rw (not_no r z); first = p.walk; second = q.walk; names = p.same ∙ l.names; others = q.same ∙ l.others }
@@ -179,8 +179,8 @@ module _ (sheet : Sheet Condition) (s : Bytes) (t : List ℕ) (fs : lazy.Frames)
         is_array : eqb ca 6 ≡ false → ca ≡ 5
         is_array q = let k = class_small a.kind in let n = eqb-false ca 6 q in omega arith
 
-        pub equal-paired : OperandAt s t a → OperandAt s t b → Paired s t (eqb ca 6) a b
-        equal-paired h k = go (eqb ca 6) refl
+        pub equal_paired : OperandAt s t a → OperandAt s t b → Paired s t (eqb ca 6) a b
+        equal_paired h k = go (eqb ca 6) refl
           where
             go : (x : Bool) → eqb ca 6 ≡ x → Paired s t x a b
             go true q =
@@ -196,12 +196,12 @@ module _ (sheet : Sheet Condition) (s : Bytes) (t : List ℕ) (fs : lazy.Frames)
                   second = array_kind s t b.node b.kind k.fits (sym is_b ∙ sym same ∙ e);
                 }
 
-        pub equal-whole : {r : Bool} →
+        pub equal_whole : {r : Bool} →
             r ≡
             alike_nodes s t (alike sheet (left - 1) fs) (eqb ca 6) (part_at sheet s t fs a) (part_at sheet s t fs b)
             (kids s t a.node (eqb ca 6)) (kids s t b.node (eqb ca 6)) → r ≡ alike sheet left fs (operand_of s t a) (operand_of s t b)
         unfolding alike_shapes
-        equal-whole {r} h = go (eqb ca 6) refl h
+        equal_whole {r} h = go (eqb ca 6) refl h
           where
             go : (x : Bool) → eqb ca 6 ≡ x → r ≡ alike_nodes s t inner x (part_at sheet s t fs a) (part_at sheet s t fs b) (kids s t a.node x) (kids s t b.node x) → r ≡ answer
             go true q k =

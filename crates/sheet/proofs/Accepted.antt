@@ -130,10 +130,10 @@ module _ {s : Bytes} {w : List ℕ} (t : Stored s w) (k : ℕ) (p : k ≡ kind_a
       pub shape_is : b ≡ true → soundness_of (members_at s w 1 e) ≡ none → (m : SheetMembers) → SheetNamed s w (members_at s w 1 e) m →
           (sheet : Sheet Condition) × Accepted s w (members_of m) sheet
       unfolding members_of
-      shape_is f g m n = let x = sheet_sorted (members_at s w 1 e) tidy_members g (sym i ∙ f) in (x.0, accepted-by x.0 x.1)
+      shape_is f g m n = let x = sheet_sorted (members_at s w 1 e) tidy_members g (sym i ∙ f) in (x.0, accepted_by x.0 x.1)
         where
-          accepted-by : (sheet : Sheet Condition) → SheetParts (sorted_of (members_at s w 1 e)) sheet → Accepted s w (members_of m) sheet
-          accepted-by sheet y =
+          accepted_by : (sheet : Sheet Condition) → SheetParts (sorted_of (members_at s w 1 e)) sheet → Accepted s w (members_of m) sheet
+          accepted_by sheet y =
               record {
                 reads = read_object ∙ checked_ok (members_at s w 1 e) (sym i ∙ f) sheet g y.whole;
                 stored = t;

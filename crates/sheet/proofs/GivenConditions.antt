@@ -24,7 +24,7 @@ use Rattle.json_text.specs.Table.{after_at, kind_at, members_at, start_at, value
 use Rattle.strings.specs.declared.rows.Found.{Found}
 use Rattle.strings.specs.declared.rows.Found.TheVariants as founds
 use Rattle.members.proofs.Conditions.{exactly, find_conditions, not_one}
-use Rattle.syntax.proofs.Faults.{alone, inner_name, inner_node, name-place}
+use Rattle.syntax.proofs.Faults.{alone, inner_name, inner_node, name_place}
 use Rattle.sheet.proofs.Given.{ObjectHere, object_here}
 use Rattle.members.proofs.Shapes.{array_at, tag, tag_at}
 use Rattle.sheet.proofs.SortedConditions.{Parts, parts}
@@ -116,7 +116,7 @@ module _ {s : Bytes} {w : List ℕ} {n : ℕ} {c : Condition} (g : Gives conditi
   one_member_lem a b =
       record {
         is_kind = x.is_kind;
-        name_place = name-place g.node (kind_at w n) refl x.is_kind (after_at w n) refl (length (entries ms)) refl one;
+        name_place = name_place g.node (kind_at w n) refl x.is_kind (after_at w n) refl (length (entries ms)) refl one;
         name = inner_name g.node (kind_at w n) refl x.is_kind (after_at w n) refl (length (entries ms)) refl one (start_at w (n + 1)) refl;
         inner = full (record { left = 63; is_node = inner_node g.node (kind_at w n) refl x.is_kind (after_at w n) refl (length (entries ms)) refl one });
         is_tidy = (unrepeated (text_at s (start_at w (n + 1))) (value_at s w (n + 1 + 1)) empty (sym (ap (tidy max_number) only_one) ∙ g.is_tidy)).value;

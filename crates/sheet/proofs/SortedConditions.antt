@@ -25,9 +25,9 @@ use Rattle.members.proofs.Conditions.{
   no_as,
   no_in,
   no_name,
-  no-that,
+  no_that,
   several,
-  the-body,
+  the_body,
   quantifier_of,
 }
 use Rattle.sheet.proofs.SortedMembers.{Unrepeated, and_first, and_second, find_sorted, length_sorted, mapped, unrepeated}
@@ -116,12 +116,12 @@ parts m ms h = count (eqb (length (entries ms)) 3) refl
           is_that = k;
           name = t;
           is_name = e;
-          sound = sym (the-body m ms q o i b j c k t e) ∙ h;
+          sound = sym (the_body m ms q o i b j c k t e) ∙ h;
         }
 
     four : length (entries ms) ≡ 3 → (o : Value) → find (ascii "in") (entries ms) ≡ some o → (b : Value) →
         find (ascii "as") (entries ms) ≡ some b → (c : Option Value) → find (ascii "that") (entries ms) ≡ c → Parts ms
-    four q o i b j none e = wrong _ (no-that m ms q o i b j e)
+    four q o i b j none e = wrong _ (no_that m ms q o i b j e)
     four q o i b j (some c) e = five q o i b j c e (as_text b) refl
 
     third : length (entries ms) ≡ 3 → (o : Value) → find (ascii "in") (entries ms) ≡ some o → (b : Option Value) → find (ascii "as") (entries ms) ≡ b → Parts ms
@@ -140,7 +140,7 @@ parts m ms h = count (eqb (length (entries ms)) 3) refl
 parts_sorted : (ms : Members) → tidy_of max_number ms ≡ true → (p : Parts ms) → fault_of (condition (sorted p.body)) ≡ none → quantifier_fault (object (sorted_of ms)) ≡ none
 parts_sorted ms t p s =
     quantifier_of (sorted_of ms) ∙
-    the-body every (sorted_of ms) (length_sorted ms t ∙ p.three) (sorted p.over) (at (ascii "in") p.is_in) (sorted p.bind)
+    the_body every (sorted_of ms) (length_sorted ms t ∙ p.three) (sorted p.over) (at (ascii "in") p.is_in) (sorted p.bind)
     (at (ascii "as") p.is_as) (sorted p.body) (at (ascii "that") p.is_that) p.name (text_sorted p.bind ∙ p.is_name) ∙
     s
   where

@@ -40,12 +40,12 @@ use Rattle.members.proofs.Conditions.{
   no_name,
   no_pair,
   no_quantifier,
-  no-that,
+  no_that,
   not_one,
   not_two,
   quantifier_of,
   several,
-  the-body,
+  the_body,
   two,
 }
 use Rattle.members.proofs.Shapes.{array_at, object_at, tag, tagged, text_at_lem}
@@ -114,8 +114,8 @@ module _ {s : Bytes} {w : List ℕ} {left n : ℕ} (h : IsNode s w left n) (k : 
       quant_is = ap quantifier_fault object_is ∙ quantifier_of (members_at s w (n + 1) e)
 
       module _ (c : ℕ) (i : c ≡ length (entries (members_at s w (n + 1) e))) where
-        pub cond-several : (c ≡ 1 → ⊥) → fault_of (condition (value_at s w n)) ≡ some wrong_shape
-        cond-several f = ap (λ (v : Value). fault_of (condition v)) object_is ∙ not_one (members_at s w (n + 1) e) (λ z. f (i ∙ z))
+        pub cond_several : (c ≡ 1 → ⊥) → fault_of (condition (value_at s w n)) ≡ some wrong_shape
+        cond_several f = ap (λ (v : Value). fault_of (condition v)) object_is ∙ not_one (members_at s w (n + 1) e) (λ z. f (i ∙ z))
 
         module _ (z : c ≡ 1) where
           has_one : n + 1 < e
@@ -131,8 +131,8 @@ module _ {s : Bytes} {w : List ℕ} {left n : ℕ} (h : IsNode s w left n) (k : 
           pub inner_node : IsNode s w (left - 1) (n + 1 + 1)
           inner_node = the_one.here
 
-          pub name-place : (3 * (n + 1) + 3 ≤ length w) × (n + 1 < 4096)
-          name-place = (omega (arith, inside s w inner_node), omega (arith, members_left.most, has_one))
+          pub name_place : (3 * (n + 1) + 3 ≤ length w) × (n + 1 < 4096)
+          name_place = (omega (arith, inside s w inner_node), omega (arith, members_left.most, has_one))
 
           module _ (a : ℕ) (g : a ≡ start_at w (n + 1)) where
             pub inner_name : OnText s a 0
@@ -151,80 +151,80 @@ module _ {s : Bytes} {w : List ℕ} {left n : ℕ} (h : IsNode s w left n) (k : 
               by : (x : Operator) → r ≡ x → fault_of (condition (value_at s w n)) ≡ made (value_at s w (n + 1 + 1)) (operator_of x)
               by x f = ap (λ (v : Value). fault_of (condition v)) alone ∙ by_operator (text_at s a) (value_at s w (n + 1 + 1)) (t ∙ ap operator_of f)
 
-              pub cond-junction :
+              pub cond_junction :
                   (m : Mode) {o : Option Refusal} → r ≡ ops.Junction m → fault_of (condition_array (value_at s w (n + 1 + 1))) ≡ o →
                   fault_of (condition (value_at s w n)) ≡ o
               unfolding operator_of
-              cond-junction m f u = by (ops.Junction m) f ∙ made_junction (value_at s w (n + 1 + 1)) (mode_of m) ∙ u
+              cond_junction m f u = by (ops.Junction m) f ∙ made_junction (value_at s w (n + 1 + 1)) (mode_of m) ∙ u
 
-              pub cond-negation : {o : Option Refusal} → r ≡ ops.Negation → fault_of (condition (value_at s w (n + 1 + 1))) ≡ o → fault_of (condition (value_at s w n)) ≡ o
+              pub cond_negation : {o : Option Refusal} → r ≡ ops.Negation → fault_of (condition (value_at s w (n + 1 + 1))) ≡ o → fault_of (condition (value_at s w n)) ≡ o
               unfolding operator_of
-              cond-negation f u = by ops.Negation f ∙ made_negation (value_at s w (n + 1 + 1)) ∙ u
+              cond_negation f u = by ops.Negation f ∙ made_negation (value_at s w (n + 1 + 1)) ∙ u
 
-              pub cond-exists : r ≡ ops.Exists → fault_of (condition (value_at s w n)) ≡ none
+              pub cond_exists : r ≡ ops.Exists → fault_of (condition (value_at s w n)) ≡ none
               unfolding operator_of
-              cond-exists f = by ops.Exists f
+              cond_exists f = by ops.Exists f
 
-              pub cond-pair : (m : Form) {o : Option Refusal} → r ≡ ops.Pair m → pair_fault (value_at s w (n + 1 + 1)) ≡ o → fault_of (condition (value_at s w n)) ≡ o
+              pub cond_pair : (m : Form) {o : Option Refusal} → r ≡ ops.Pair m → pair_fault (value_at s w (n + 1 + 1)) ≡ o → fault_of (condition (value_at s w n)) ≡ o
               unfolding operator_of
-              cond-pair m f u = by (ops.Pair m) f ∙ made_pair (value_at s w (n + 1 + 1)) (form_of m) ∙ u
+              cond_pair m f u = by (ops.Pair m) f ∙ made_pair (value_at s w (n + 1 + 1)) (form_of m) ∙ u
 
-              pub cond-quantified : (m : Mode) {o : Option Refusal} → r ≡ ops.Quantified m → quantifier_fault (value_at s w (n + 1 + 1)) ≡ o →
+              pub cond_quantified : (m : Mode) {o : Option Refusal} → r ≡ ops.Quantified m → quantifier_fault (value_at s w (n + 1 + 1)) ≡ o →
                   fault_of (condition (value_at s w n)) ≡ o
               unfolding operator_of
-              cond-quantified m f u = by (ops.Quantified m) f ∙ made_quantified (value_at s w (n + 1 + 1)) (mode_of m) ∙ u
+              cond_quantified m f u = by (ops.Quantified m) f ∙ made_quantified (value_at s w (n + 1 + 1)) (mode_of m) ∙ u
 
-              pub cond-not-carried : r ≡ ops.NotCarried → fault_of (condition (value_at s w n)) ≡ some not_carried
+              pub cond_not_carried : r ≡ ops.NotCarried → fault_of (condition (value_at s w n)) ≡ some not_carried
               unfolding operator_of
-              cond-not-carried f = by ops.NotCarried f
+              cond_not_carried f = by ops.NotCarried f
 
-              pub cond-unknown : r ≡ ops.Unknown → fault_of (condition (value_at s w n)) ≡ some wrong_shape
+              pub cond_unknown : r ≡ ops.Unknown → fault_of (condition (value_at s w n)) ≡ some wrong_shape
               unfolding operator_of
-              cond-unknown f = by ops.Unknown f
+              cond_unknown f = by ops.Unknown f
 
         -- ---- a quantifier
-        pub quant-several : (c ≡ 3 → ⊥) → quantifier_fault (value_at s w n) ≡ some wrong_shape
-        quant-several f = quant_is ∙ several every (members_at s w (n + 1) e) (λ z. f (i ∙ z))
+        pub quant_several : (c ≡ 3 → ⊥) → quantifier_fault (value_at s w n) ≡ some wrong_shape
+        quant_several f = quant_is ∙ several every (members_at s w (n + 1) e) (λ z. f (i ∙ z))
 
         module _ (three : c ≡ 3) (r_in : Found) (is_in : find (ascii "in") (entries (members_at s w (n + 1) e)) ≡ found_of s w r_in) where
-          pub quant-no-in : r_in ≡ founds.Nothing → quantifier_fault (value_at s w n) ≡ some wrong_shape
+          pub quant_no_in : r_in ≡ founds.Nothing → quantifier_fault (value_at s w n) ≡ some wrong_shape
           unfolding found_of
-          quant-no-in f = quant_is ∙ no_in every (members_at s w (n + 1) e) (sym i ∙ three) (is_in ∙ ap (found_of s w) f)
+          quant_no_in f = quant_is ∙ no_in every (members_at s w (n + 1) e) (sym i ∙ three) (is_in ∙ ap (found_of s w) f)
 
           module _ (x : ℕ) (at_in : r_in ≡ founds.At x) (r_as : Found) (is_as : find (ascii "as") (entries (members_at s w (n + 1) e)) ≡ found_of s w r_as) where
             found_in : find (ascii "in") (entries (members_at s w (n + 1) e)) ≡ some (value_at s w x)
             unfolding found_of
             found_in = is_in ∙ ap (found_of s w) at_in
 
-            pub quant-no-as : r_as ≡ founds.Nothing → quantifier_fault (value_at s w n) ≡ some wrong_shape
+            pub quant_no_as : r_as ≡ founds.Nothing → quantifier_fault (value_at s w n) ≡ some wrong_shape
             unfolding found_of
-            quant-no-as f = quant_is ∙ no_as every (members_at s w (n + 1) e) (sym i ∙ three) (value_at s w x) found_in (is_as ∙ ap (found_of s w) f)
+            quant_no_as f = quant_is ∙ no_as every (members_at s w (n + 1) e) (sym i ∙ three) (value_at s w x) found_in (is_as ∙ ap (found_of s w) f)
 
             module _ (y : ℕ) (at_as : r_as ≡ founds.At y) (r_that : Found) (is_that : find (ascii "that") (entries (members_at s w (n + 1) e)) ≡ found_of s w r_that) where
               found_as : find (ascii "as") (entries (members_at s w (n + 1) e)) ≡ some (value_at s w y)
               unfolding found_of
               found_as = is_as ∙ ap (found_of s w) at_as
 
-              pub quant-no-that : r_that ≡ founds.Nothing → quantifier_fault (value_at s w n) ≡ some wrong_shape
+              pub quant_no_that : r_that ≡ founds.Nothing → quantifier_fault (value_at s w n) ≡ some wrong_shape
               unfolding found_of
-              quant-no-that f = quant_is ∙ no-that every (members_at s w (n + 1) e) (sym i ∙ three) (value_at s w x) found_in (value_at s w y) found_as (is_that ∙ ap (found_of s w) f)
+              quant_no_that f = quant_is ∙ no_that every (members_at s w (n + 1) e) (sym i ∙ three) (value_at s w x) found_in (value_at s w y) found_as (is_that ∙ ap (found_of s w) f)
 
               module _ (u : ℕ) (at_that : r_that ≡ founds.At u) (hy : IsNode s w 64 y) (ky : ℕ) (py : ky ≡ kind_at w y) where
-                found-that : find (ascii "that") (entries (members_at s w (n + 1) e)) ≡ some (value_at s w u)
+                found_that : find (ascii "that") (entries (members_at s w (n + 1) e)) ≡ some (value_at s w u)
                 unfolding found_of
-                found-that = is_that ∙ ap (found_of s w) at_that
+                found_that = is_that ∙ ap (found_of s w) at_that
 
-                pub quant-no-name : (ky ≡ 4 → ⊥) → quantifier_fault (value_at s w n) ≡ some wrong_shape
-                quant-no-name f =
+                pub quant_no_name : (ky ≡ 4 → ⊥) → quantifier_fault (value_at s w n) ≡ some wrong_shape
+                quant_no_name f =
                     quant_is ∙
                     no_name every (members_at s w (n + 1) e) (sym i ∙ three) (value_at s w x) found_in (value_at s w y) found_as
-                    (value_at s w u) found-that (no_text (value_at s w y) (λ q'. f (tagged hy ky py ∙ q')))
+                    (value_at s w u) found_that (no_text (value_at s w y) (λ q'. f (tagged hy ky py ∙ q')))
 
-                pub quant-body : {o : Option Refusal} → ky ≡ 4 → fault_of (condition (value_at s w u)) ≡ o → quantifier_fault (value_at s w n) ≡ o
-                quant-body f g =
+                pub quant_body : {o : Option Refusal} → ky ≡ 4 → fault_of (condition (value_at s w u)) ≡ o → quantifier_fault (value_at s w n) ≡ o
+                quant_body f g =
                     quant_is ∙
-                    the-body every (members_at s w (n + 1) e) (sym i ∙ three) (value_at s w x) found_in (value_at s w y) found_as
-                    (value_at s w u) found-that (text_at s (start_at w y)) (ap as_text (text_at_lem hy (sym py ∙ f)).0) ∙
+                    the_body every (members_at s w (n + 1) e) (sym i ∙ three) (value_at s w x) found_in (value_at s w y) found_as
+                    (value_at s w u) found_that (text_at s (start_at w y)) (ap as_text (text_at_lem hy (sym py ∙ f)).0) ∙
                     g
 
 -- where a member that was found may be entered

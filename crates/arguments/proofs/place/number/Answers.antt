@@ -1,6 +1,5 @@
 -- `arguments::place::number` meets its contract: the digits from here on decide, after the number that was read.
 -- Assumes nothing.
-use Prim.Native.Nat.{◌-◌}
 use native.Mathlib.Omega.{arith}
 use Rattle.members.proofs.Digits.{a_digit, above_digits, below_digits}
 use Rattle.arguments.proofs.Digits.{no_digit, one_more, spelling, spelt, too_many}

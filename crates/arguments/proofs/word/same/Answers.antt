@@ -1,6 +1,5 @@
 -- `arguments::word::same` meets its contract: what was passed is equal, so the rests decide.
 -- Assumes nothing.
-use Prim.Native.Nat.{◌-◌}
 use Rattle.arguments.proofs.Same.{alike, apart, longer, matched, matching}
 use Rattle.arguments.proofs.word.same.Goals as goal
 

@@ -16,12 +16,12 @@ use Rattle.resolving.proofs.Alike.{
   equal_apart,
   equal_leaves,
   equal_none,
-  equal-paired,
-  equal-whole,
+  equal_paired,
+  equal_whole,
   first_child,
   first_ends,
   names_differ,
-  parts-differ,
+  parts_differ,
   parts_same,
   second_child,
   second_ends,
@@ -71,7 +71,7 @@ equal_at-equal_parts-requires t c = (
   layer_falls c.args.left c.decreases c.if-left-eq0.false,
   (
     c.requires.0,
-    equal-paired (sheet_in c.args.s.now) c.args.s.now (table c.args.work.now)
+    equal_paired (sheet_in c.args.s.now) c.args.s.now (table c.args.work.now)
         (frames_of c.args.s.now (table c.args.work.now) c.args.frames) c.args.a c.args.b c.args.left c.if-left-eq0.false
         c.class_of-class.ensures c.class_of.ensures
         c.if-class-class_of.false (λ h. omega (arith, h, c.if-class-lt5.false)) c.requires.1 c.requires.2,
@@ -80,7 +80,7 @@ equal_at-equal_parts-requires t c = (
 
 pub equal_at-returns : goal.equal_at-returns
 equal_at-returns t c =
-    equal-whole (sheet_in c.args.s.now) c.args.s.now (table c.args.work.now)
+    equal_whole (sheet_in c.args.s.now) c.args.s.now (table c.args.work.now)
     (frames_of c.args.s.now (table c.args.work.now) c.args.frames) c.args.a c.args.b c.args.left
     c.if-left-eq0.false c.class_of-class.ensures
     c.class_of.ensures c.if-class-class_of.false (λ h. omega (arith, h, c.if-class-lt5.false))
@@ -239,7 +239,7 @@ equal_parts-equal_at-requires t c = (
 pub equal_parts-returns-then-not-equal_at : goal.equal_parts-returns-then-not-equal_at
 equal_parts-returns-then-not-equal_at t c =
     let frames = frames_of c.args.s.now (table c.args.work.now) c.args.frames in
-    parts-differ c.args.s.now (table c.args.work.now) (alike (sheet_in c.args.s.now) c.args.left frames) c.args.named
+    parts_differ c.args.s.now (table c.args.work.now) (alike (sheet_in c.args.s.now) c.args.left frames) c.args.named
     (part_at (sheet_in c.args.s.now) c.args.s.now (table c.args.work.now) frames c.args.a) (part_at (sheet_in c.args.s.now) c.args.s.now (table c.args.work.now) frames c.args.b) _ c.loop-p.invariant
     (child_given c.loop-p.invariant.first c.next.ensures c.in-Is.p
     c.in-Is.is)

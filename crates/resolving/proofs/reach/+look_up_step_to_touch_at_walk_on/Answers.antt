@@ -15,11 +15,11 @@ use Rattle.paths.specs.declared.operand.Kind.TheVariants as kinds
 use Rattle.paths.proofs.Reaching.{
   bound_fits,
   fits_as,
-  look-base,
+  look_base,
   look_binder,
-  look-empty,
+  look_empty,
   look_root,
-  look-unknown,
+  look_unknown,
   look_walk,
   member_is,
   named_none,
@@ -127,7 +127,7 @@ look_up-part_is_word-requires t c =
 
 pub look_up-returns-then-part_is_word : goal.look_up-returns-then-part_is_word
 look_up-returns-then-part_is_word t c =
-    look-empty (sheet_in c.args.s.now) (touch (sheet_in c.args.s.now) c.args.left) (frames_of c.args.s.now (table c.args.work.now) c.args.frames)
+    look_empty (sheet_in c.args.s.now) (touch (sheet_in c.args.s.now) c.args.left) (frames_of c.args.s.now (table c.args.work.now) c.args.frames)
     (text_at c.args.path.now 0)
     (binder_told c.args.s.now (table c.args.work.now) (part (text_at c.args.path.now 0)) (held c.args.frames)
     c.requires.0.bound.operands c.find-bound.ensures)
@@ -202,7 +202,7 @@ look_up-returns-in-At-bound-2 t c =
 
 pub look_up-returns-in-Nothing-base_at : goal.look_up-returns-in-Nothing-base_at
 look_up-returns-in-Nothing-base_at t c =
-    look-unknown (sheet_in c.args.s.now) (touch (sheet_in c.args.s.now) c.args.left) (frames_of c.args.s.now (table c.args.work.now) c.args.frames)
+    look_unknown (sheet_in c.args.s.now) (touch (sheet_in c.args.s.now) c.args.left) (frames_of c.args.s.now (table c.args.work.now) c.args.frames)
     (text_at c.args.path.now 0)
     (binder_told c.args.s.now (table c.args.work.now) (part (text_at c.args.path.now 0)) (held c.args.frames)
     c.requires.0.bound.operands c.find-bound.ensures)
@@ -215,7 +215,7 @@ look_up-returns-in-Nothing-base_at t c =
 
 pub look_up-returns-else-part_is_word : goal.look_up-returns-else-part_is_word
 look_up-returns-else-part_is_word t c =
-    look-base (sheet_in c.args.s.now) (touch (sheet_in c.args.s.now) c.args.left) (frames_of c.args.s.now (table c.args.work.now) c.args.frames)
+    look_base (sheet_in c.args.s.now) (touch (sheet_in c.args.s.now) c.args.left) (frames_of c.args.s.now (table c.args.work.now) c.args.frames)
     (text_at c.args.path.now 0)
     (binder_told c.args.s.now (table c.args.work.now) (part (text_at c.args.path.now 0)) (held c.args.frames)
     c.requires.0.bound.operands c.find-bound.ensures)

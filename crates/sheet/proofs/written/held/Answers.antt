@@ -1,7 +1,7 @@
 -- `held` meets its contract: by the name's tests in turn.
 -- Assumes nothing.
 use mathlib.Core.Path.{refl, sym, ◌∙◌}
-use Rattle.members.proofs.Soundness.{held_first, held_itself, held-nothing, held_second, held-third}
+use Rattle.members.proofs.Soundness.{held_first, held_itself, held_nothing, held_second, held_third}
 use Rattle.members.specs.Answers.{fault_is}
 use Rattle.sheet.proofs.written.held.Goals as goal
 
@@ -27,7 +27,7 @@ returns-then-is_word-3 c =
 
 pub returns-then-is_word-4 : goal.returns-then-is_word-4
 returns-then-is_word-4 c =
-    held-third _ _
+    held_third _ _
     (sym c.is_word.ensures ∙
     c.if-is_word.false) (sym c.is_word-2.ensures ∙ c.if-is_word-2.false)
     (sym c.is_word-3.ensures ∙ c.if-is_word-3.false)
@@ -37,7 +37,7 @@ returns-then-is_word-4 c =
 pub returns : goal.returns
 unfolding fault_is
 returns c =
-    held-nothing _ _
+    held_nothing _ _
     (sym c.is_word.ensures ∙
     c.if-is_word.false) (sym c.is_word-2.ensures ∙ c.if-is_word-2.false)
     (sym c.is_word-3.ensures ∙ c.if-is_word-3.false)

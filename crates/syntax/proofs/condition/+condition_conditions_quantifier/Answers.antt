@@ -6,15 +6,15 @@ use Rattle.json_text.specs.Refusal.{not_carried, wrong_shape}
 use Rattle.syntax.proofs.Faults.{
   array_left,
   cond_boolean,
-  cond-exists,
-  cond-junction,
-  cond-negation,
+  cond_exists,
+  cond_junction,
+  cond_negation,
   cond_neither,
-  cond-not-carried,
-  cond-pair,
-  cond-quantified,
-  cond-several,
-  cond-unknown,
+  cond_not_carried,
+  cond_pair,
+  cond_quantified,
+  cond_several,
+  cond_unknown,
   conditions_fault,
   conditions_on,
   conditions_sound,
@@ -23,17 +23,17 @@ use Rattle.syntax.proofs.Faults.{
   inner_node,
   members_full,
   members_left,
-  name-place,
+  name_place,
   not_conditions,
   not_quantifier,
   object_left,
   over_conditions,
-  quant-body,
-  quant-no-as,
-  quant-no-in,
-  quant-no-name,
-  quant-no-that,
-  quant-several,
+  quant_body,
+  quant_no_as,
+  quant_no_in,
+  quant_no_name,
+  quant_no_that,
+  quant_several,
 }
 use Rattle.members.proofs.Walks.{element_falls, element_node, full, room}
 use Rattle.members.proofs.Wanted.{found_node}
@@ -68,7 +68,7 @@ condition-count_members-requires t c =
 pub condition-returns-then-count_members-ne1 : goal.condition-returns-then-count_members-ne1
 unfolding fault_is
 condition-returns-then-count_members-ne1 t c =
-    cond-several c.requires _
+    cond_several c.requires _
     c.kind_at-kind.ensures c.if-kind-ne-OBJECT.false _ c.after_at-end.ensures _
     c.count_members.ensures c.if-count_members-ne1.true
 
@@ -76,14 +76,14 @@ pub condition-overflow_add-inner : goal.condition-overflow_add-inner
 condition-overflow_add-inner t c =
     omega (
       arith,
-      (name-place c.requires _
+      (name_place c.requires _
           c.kind_at-kind.ensures c.if-kind-ne-OBJECT.false _ c.after_at-end.ensures
           _ c.count_members.ensures c.if-count_members-ne1.false).1,
     )
 
 pub condition-start_at-requires : goal.condition-start_at-requires
 condition-start_at-requires t c =
-    name-place c.requires _
+    name_place c.requires _
     c.kind_at-kind.ensures c.if-kind-ne-OBJECT.false _ c.after_at-end.ensures _
     c.count_members.ensures c.if-count_members-ne1.false
 
@@ -155,7 +155,7 @@ condition-quantifier-requires t c = (
 
 pub condition-returns-in-Junction : goal.condition-returns-in-Junction
 condition-returns-in-Junction t c =
-    cond-junction c.requires _
+    cond_junction c.requires _
     c.kind_at-kind.ensures c.if-kind-ne-OBJECT.false _
     c.after_at-end.ensures _ c.count_members.ensures c.if-count_members-ne1.false
     _ c.start_at.ensures _ c.operator_at.ensures _
@@ -163,7 +163,7 @@ condition-returns-in-Junction t c =
 
 pub condition-returns-in-Negation : goal.condition-returns-in-Negation
 condition-returns-in-Negation t c =
-    cond-negation c.requires _
+    cond_negation c.requires _
     c.kind_at-kind.ensures c.if-kind-ne-OBJECT.false _
     c.after_at-end.ensures _ c.count_members.ensures c.if-count_members-ne1.false
     _ c.start_at.ensures _
@@ -172,7 +172,7 @@ condition-returns-in-Negation t c =
 pub condition-returns-in-Exists : goal.condition-returns-in-Exists
 unfolding fault_is
 condition-returns-in-Exists t c =
-    cond-exists c.requires _
+    cond_exists c.requires _
     c.kind_at-kind.ensures c.if-kind-ne-OBJECT.false _
     c.after_at-end.ensures _ c.count_members.ensures c.if-count_members-ne1.false
     _ c.start_at.ensures _ c.operator_at.ensures
@@ -180,7 +180,7 @@ condition-returns-in-Exists t c =
 
 pub condition-returns-in-Pair : goal.condition-returns-in-Pair
 condition-returns-in-Pair t c =
-    cond-pair c.requires _
+    cond_pair c.requires _
     c.kind_at-kind.ensures c.if-kind-ne-OBJECT.false _
     c.after_at-end.ensures _ c.count_members.ensures c.if-count_members-ne1.false
     _ c.start_at.ensures _ c.operator_at.ensures _
@@ -188,7 +188,7 @@ condition-returns-in-Pair t c =
 
 pub condition-returns-in-Quantified : goal.condition-returns-in-Quantified
 condition-returns-in-Quantified t c =
-    cond-quantified c.requires _
+    cond_quantified c.requires _
     c.kind_at-kind.ensures c.if-kind-ne-OBJECT.false _
     c.after_at-end.ensures _ c.count_members.ensures c.if-count_members-ne1.false
     _ c.start_at.ensures _ c.operator_at.ensures _
@@ -197,7 +197,7 @@ condition-returns-in-Quantified t c =
 pub condition-returns-in-NotCarried : goal.condition-returns-in-NotCarried
 unfolding fault_is
 condition-returns-in-NotCarried t c =
-    cond-not-carried c.requires _
+    cond_not_carried c.requires _
     c.kind_at-kind.ensures c.if-kind-ne-OBJECT.false _
     c.after_at-end.ensures _ c.count_members.ensures c.if-count_members-ne1.false
     _ c.start_at.ensures _ c.operator_at.ensures
@@ -206,7 +206,7 @@ condition-returns-in-NotCarried t c =
 pub condition-returns-in-Unknown : goal.condition-returns-in-Unknown
 unfolding fault_is
 condition-returns-in-Unknown t c =
-    cond-unknown c.requires _
+    cond_unknown c.requires _
     c.kind_at-kind.ensures c.if-kind-ne-OBJECT.false _
     c.after_at-end.ensures _ c.count_members.ensures c.if-count_members-ne1.false
     _ c.start_at.ensures _ c.operator_at.ensures
@@ -307,7 +307,7 @@ quantifier-count_members-requires t c =
 pub quantifier-returns-then-count_members-ne3 : goal.quantifier-returns-then-count_members-ne3
 unfolding fault_is
 quantifier-returns-then-count_members-ne3 t c =
-    quant-several c.requires _ c.kind_at.ensures
+    quant_several c.requires _ c.kind_at.ensures
     c.if-kind_at-ne-OBJECT.false _ c.after_at-end.ensures _ c.count_members.ensures
     c.if-count_members-ne3.true
 
@@ -319,7 +319,7 @@ quantifier-named-requires t c =
 pub quantifier-returns-in_default : goal.quantifier-returns-in_default
 unfolding fault_is
 quantifier-returns-in_default t c =
-    quant-no-in c.requires _ c.kind_at.ensures
+    quant_no_in c.requires _ c.kind_at.ensures
     c.if-kind_at-ne-OBJECT.false _ c.after_at-end.ensures _
     c.count_members.ensures c.if-count_members-ne3.false _
     c.named.ensures.told.answers c.in_default.is
@@ -333,7 +333,7 @@ quantifier-named-requires-2 t c =
 pub quantifier-returns-in_default-named : goal.quantifier-returns-in_default-named
 unfolding fault_is
 quantifier-returns-in_default-named t c =
-    quant-no-as c.requires _ c.kind_at.ensures
+    quant_no_as c.requires _ c.kind_at.ensures
     c.if-kind_at-ne-OBJECT.false _ c.after_at-end.ensures _
     c.count_members.ensures c.if-count_members-ne3.false _
     c.named.ensures.told.answers c.in-At._over
@@ -348,7 +348,7 @@ quantifier-named-requires-3 t c =
 pub quantifier-returns-in_default-named-2 : goal.quantifier-returns-in_default-named-2
 unfolding fault_is
 quantifier-returns-in_default-named-2 t c =
-    quant-no-that c.requires _ c.kind_at.ensures
+    quant_no_that c.requires _ c.kind_at.ensures
     c.if-kind_at-ne-OBJECT.false _ c.after_at-end.ensures _
     c.count_members.ensures c.if-count_members-ne3.false _
     c.named.ensures.told.answers c.in-At._over
@@ -365,7 +365,7 @@ quantifier-kind_at-requires-2 t c =
 pub quantifier-returns-then-kind_at-ne-TEXT : goal.quantifier-returns-then-kind_at-ne-TEXT
 unfolding fault_is
 quantifier-returns-then-kind_at-ne-TEXT t c =
-    quant-no-name c.requires _ c.kind_at.ensures
+    quant_no_name c.requires _ c.kind_at.ensures
     c.if-kind_at-ne-OBJECT.false _ c.after_at-end.ensures _
     c.count_members.ensures c.if-count_members-ne3.false _
     c.named.ensures.told.answers c.in-At._over
@@ -391,7 +391,7 @@ quantifier-condition-requires t c = (
 
 pub quantifier-returns : goal.quantifier-returns
 quantifier-returns t c =
-    quant-body c.requires _ c.kind_at.ensures
+    quant_body c.requires _ c.kind_at.ensures
     c.if-kind_at-ne-OBJECT.false _ c.after_at-end.ensures _
     c.count_members.ensures c.if-count_members-ne3.false _
     c.named.ensures.told.answers c.in-At._over
