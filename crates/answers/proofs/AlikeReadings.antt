@@ -190,6 +190,8 @@ given_tidy ms t (name ∷ (c ∷ p) ∷ ps) v e = walk_tidy (name ∷ (c ∷ p) 
 
 given_alike : (ms : Members) → tidy_of max_number ms ≡ true → (ps : List Bytes) (o p : Option Value) → given_in ms ps ≡ o → AlikeGiven o p → mapped sorted o ≡ mapped sorted p
 given_alike ms t ps none none e both_nothing = refl
+given_alike ms t ps none (some w) e x = elim x [ ]
+given_alike ms t ps (some v) none e x = elim x [ ]
 given_alike ms t ps (some v) (some w) e (both_give a) = ap {B = Option Value} (λ z. some z) (alike_sorted max_number v w a (given_tidy ms t ps v e))
 
 -- The premises, but for `clean`, told from the texts: rules and state are alike, and so is every reading, or it gives nothing now.

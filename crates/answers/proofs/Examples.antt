@@ -1,6 +1,5 @@
 -- The paper's P table as one theorem, and its example, by computation from the texts.
 -- Assumes nothing.
-use mathlib.Core.Bool.{false, true}
 use mathlib.Core.List.{List, map, [], ◌++◌, ◌∷◌}
 use mathlib.Core.Option.{some}
 use mathlib.Core.Path.{refl, ◌≡◌}
