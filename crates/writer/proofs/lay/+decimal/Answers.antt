@@ -2,10 +2,8 @@
 -- Assumes nothing.
 use mathlib.Core.Path.{sym}
 use native.Mathlib.Omega.{arith}
-use borrow.Author.Rules.{rules}
 use Rattle.writer.proofs.Laying.{then, told}
 use Rattle.answers.proofs.Digits.{more_digits, one_digit}
-use Prim.Native.Nat.{ℕ, ◌<◌}
 use Rattle.writer.proofs.lay.+decimal.Goals as goal
 
 pub byte-requires : goal.byte-requires

@@ -1,9 +1,9 @@
 -- `line::lay::bytes` meets its contract: the loop says that the bytes from the index on are left to lay.
 -- Assumes nothing.
-use Prim.Native.Nat.{◌+◌, ◌-◌, ◌≤◌}
+use Prim.Native.Nat.{◌+◌}
 use native.Mathlib.Omega.{arith}
-use lib.ListN.{drop, drop_of_length-le, length}
-use Rattle.writer.proofs.Laying.{Going, ends, goes, next_byte, starts}
+use lib.ListN.{drop, drop_of_length-le}
+use Rattle.writer.proofs.Laying.{ends, goes, next_byte, starts}
 use Rattle.writer.proofs.lay.bytes.Goals as goal
 
 pub loop-i-init : goal.loop-i-init

@@ -1,9 +1,8 @@
 -- `line::lay::bytes` meets its contract: the loop says that the bytes from the index on are left to lay.
 -- Assumes nothing.
-use Prim.Native.Nat.{◌+◌, ◌-◌, ◌≤◌}
-use native.Mathlib.Omega.{arith}
-use lib.ListN.{drop, drop_of_length-le, length}
-use Rattle.writer.proofs.Laying.{Going, ends, goes, next_byte, starts}
+use Prim.Native.Nat.{◌-◌, ◌≤◌}
+use lib.ListN.{drop, length}
+use Rattle.writer.proofs.Laying.{Going}
 use Rattle.writer.proofs.lay.bytes.Given as goal
 
 abbrev pub invariant-loop-i : goal.invariant-loop-i

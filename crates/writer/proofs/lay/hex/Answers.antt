@@ -2,7 +2,6 @@
 -- Assumes nothing.
 use mathlib.Core.Path.{sym}
 use Rattle.answers.proofs.Digits.{high_hex, low_hex}
-use borrow.Author.Rules.{rules}
 use Rattle.writer.proofs.lay.hex.Goals as goal
 
 pub returns-then-n-lt10 : goal.returns-then-n-lt10

@@ -4,7 +4,6 @@ use mathlib.Core.Path.{sym, ◌∙◌}
 use Rattle.writer.proofs.Laying.{then, told}
 use Rattle.answers.proofs.Digits.{backslash_escaped, byte_itself, control_escaped, quote_escaped}
 use native.Mathlib.Omega.{arith}
-use borrow.Author.Rules.{rules}
 use Rattle.writer.proofs.lay.quoted_byte.Goals as goal
 
 pub returns-then-b-eq34 : goal.returns-then-b-eq34

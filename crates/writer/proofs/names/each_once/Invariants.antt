@@ -1,11 +1,8 @@
 -- `line::names::each_once` meets its contract: the texts from i on that are not the one before them are left to lay.
 -- Assumes nothing.
-use native.Mathlib.Omega.{arith}
 use Prim.Native.Nat.{◌-◌}
-use borrow.Author.Rules.{rules}
 use lib.ListN.{length}
-use Rattle.writer.proofs.Gathered.{Laying, laid, lay_on, laying, on_text_lem}
-use Rattle.order.proofs.ByText.{text_get_d}
+use Rattle.writer.proofs.Gathered.{Laying}
 use Rattle.writer.proofs.names.each_once.Given as goal
 
 abbrev pub invariant-loop-i : goal.invariant-loop-i

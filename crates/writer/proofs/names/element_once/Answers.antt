@@ -1,7 +1,6 @@
 -- `line::names::element_once` meets its contract: by whether the text is the last one again.
 -- Assumes nothing.
 use mathlib.Core.Path.{sym, ◌∙◌}
-use borrow.Author.Rules.{rules}
 use Rattle.writer.proofs.Laying.{nothing}
 use Rattle.writer.proofs.names.element_once.Goals as goal
 

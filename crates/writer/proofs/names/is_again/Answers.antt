@@ -1,6 +1,5 @@
 -- `line::names::is_again` meets its contract: by whether there is a last text.
 -- Assumes nothing.
-use borrow.Author.Rules.{rules}
 use Rattle.writer.proofs.Texts.{is_none, is_some, is_text_lem}
 use Rattle.writer.specs.Once.{is_again}
 use Rattle.writer.proofs.names.is_again.Goals as goal

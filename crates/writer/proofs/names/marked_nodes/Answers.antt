@@ -1,8 +1,7 @@
 -- `line::names::marked_nodes` meets its contract: what was found and the nodes from k on are all.
 -- Assumes nothing.
 use native.Mathlib.Omega.{arith}
-use Rattle.writer.proofs.Gathered.{Gathering, gather, gathered, note, pass}
-use Prim.Native.Nat.{◌-◌}
+use Rattle.writer.proofs.Gathered.{gather, gathered, note, pass}
 use Rattle.writer.proofs.names.marked_nodes.Goals as goal
 use Rattle.writer.proofs.names.marked_nodes.Goals.{then-work-k-eq1, else-work-k-eq1}
 

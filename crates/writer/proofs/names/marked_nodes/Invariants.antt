@@ -1,8 +1,6 @@
 -- `line::names::marked_nodes` meets its contract: what was found and the nodes from k on are all.
 -- Assumes nothing.
-use mathlib.Core.Logic.{⊎_elim}
-use native.Mathlib.Omega.{arith}
-use Rattle.writer.proofs.Gathered.{Gathering, gather, gathered, note, pass}
+use Rattle.writer.proofs.Gathered.{Gathering}
 use Prim.Native.Nat.{◌-◌}
 use Rattle.writer.proofs.names.marked_nodes.Given as goal
 

@@ -2,7 +2,6 @@
 -- Assumes nothing.
 use mathlib.Core.Path.{ap}
 use native.Mathlib.Omega.{arith}
-use borrow.Author.Rules.{rules}
 use Rattle.writer.proofs.Gathered.{front_long, front_texts, sorted_fits, sorted_long, sorted_once, sorted_texts}
 use Rattle.writer.proofs.Laying.{then, told}
 use Rattle.writer.proofs.Lists.{listed_is}

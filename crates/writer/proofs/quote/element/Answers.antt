@@ -1,7 +1,6 @@
 -- `line::quote::element` meets its contract: a space, and then the text.
 -- Assumes nothing.
 use Rattle.writer.proofs.Laying.{then}
-use borrow.Author.Rules.{rules}
 use Rattle.writer.proofs.quote.element.Goals as goal
 
 pub returns : goal.returns

@@ -1,10 +1,8 @@
 -- `line::quote::quoted` meets its contract: the loop says that what the cursor has before it is left to lay.
 -- Assumes nothing.
-use borrow.Author.Rules.{rules}
 use Rattle.strings.proofs.Leaves.{was_byte}
-use Rattle.json_text.specs.Cursor.{weight}
 use Rattle.writer.proofs.Laying.{then}
-use Rattle.writer.proofs.Quotes.{Quoting, closed, on, quoting}
+use Rattle.writer.proofs.Quotes.{closed, on, quoting}
 use Rattle.writer.proofs.quote.quoted.Goals as goal
 
 pub byte-here-requires : goal.byte-here-requires

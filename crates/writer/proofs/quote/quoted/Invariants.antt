@@ -1,10 +1,7 @@
 -- `line::quote::quoted` meets its contract: the loop says that what the cursor has before it is left to lay.
 -- Assumes nothing.
-use borrow.Author.Rules.{rules}
-use Rattle.strings.proofs.Leaves.{was_byte}
 use Rattle.json_text.specs.Cursor.{weight}
-use Rattle.writer.proofs.Laying.{then}
-use Rattle.writer.proofs.Quotes.{Quoting, closed, on, quoting}
+use Rattle.writer.proofs.Quotes.{Quoting}
 use Rattle.writer.proofs.quote.quoted.Given as goal
 
 abbrev pub invariant-loop-out : goal.invariant-loop-out

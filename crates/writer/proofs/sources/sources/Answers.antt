@@ -1,12 +1,10 @@
 -- `line::sources::sources` meets its contract: the loop says that the texts from its node on are left to lay.
 -- Assumes nothing.
 use mathlib.Core.Path.{sym, ◌∙◌}
-use Prim.Native.Nat.{◌-◌}
 use native.Mathlib.Omega.{arith}
-use borrow.Author.Rules.{rules}
 use Rattle.writer.proofs.Laying.{then, told}
 use Rattle.writer.proofs.Lists.{listed_is, one_listed}
-use Rattle.writer.proofs.Sourcing.{Sourcing, first, in_table, next_source, no_source, only_text, source_falls, source_node, sourcing}
+use Rattle.writer.proofs.Sourcing.{first, in_table, next_source, no_source, only_text, source_falls, source_node, sourcing}
 use Rattle.writer.specs.Texts.{texts_in}
 use Rattle.json_text.specs.Bytes.{ascii}
 use Rattle.json_text.specs.Spans.{text_at}
