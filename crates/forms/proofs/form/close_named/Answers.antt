@@ -1,7 +1,6 @@
 -- `line::form::close_named` meets its contract: a space, the names and the bracket.
 -- Assumes nothing.
 use Rattle.writer.proofs.Laying.{then}
-use borrow.Author.Rules.{rules}
 use Rattle.forms.proofs.form.close_named.Goals as goal
 
 pub returns : goal.returns

@@ -2,7 +2,6 @@
 -- Assumes nothing.
 use Rattle.writer.proofs.Laying.{then, told}
 use Rattle.writer.proofs.Texts.{is_none, is_some, is_text_lem}
-use borrow.Author.Rules.{rules}
 use Rattle.forms.proofs.form.element_or.Goals as goal
 
 pub quoted-requires : goal.quoted-requires

@@ -3,7 +3,6 @@
 use mathlib.Core.List.{append_assoc}
 use Rattle.writer.proofs.Laying.{then, told}
 use Rattle.answers.specs.Line.{spaced}
-use borrow.Author.Rules.{rules}
 use Rattle.forms.proofs.form.kept.Goals as goal
 
 pub returns : goal.returns

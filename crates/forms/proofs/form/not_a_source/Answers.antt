@@ -8,7 +8,6 @@ use Rattle.json_text.specs.Bytes.{ascii}
 use Rattle.json_text.specs.Spans.{text_at}
 use Rattle.json_text.specs.Table.{value_at}
 use Rattle.writer.proofs.Laying.{then, told}
-use borrow.Author.Rules.{rules}
 use Rattle.forms.proofs.form.not_a_source.Goals as goal
 
 pub returns : goal.returns

@@ -1,7 +1,6 @@
 -- `line::form::number` meets its contract: a space, and then the digits.
 -- Assumes nothing.
 use Rattle.writer.proofs.Laying.{then}
-use borrow.Author.Rules.{rules}
 use Rattle.forms.proofs.form.number.Goals as goal
 
 pub returns : goal.returns

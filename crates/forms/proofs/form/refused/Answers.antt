@@ -2,7 +2,6 @@
 -- Assumes nothing.
 use Rattle.writer.proofs.Laying.{then}
 use Rattle.answers.specs.Line.{spaced}
-use borrow.Author.Rules.{rules}
 use Rattle.forms.proofs.form.refused.Goals as goal
 
 pub returns : goal.returns

@@ -2,7 +2,6 @@
 -- Assumes nothing.
 use Rattle.writer.proofs.Laying.{then, told}
 use Rattle.answers.specs.Line.{quoted_bytes}
-use borrow.Author.Rules.{rules}
 use Rattle.forms.proofs.form.rule_false.Goals as goal
 
 pub returns : goal.returns

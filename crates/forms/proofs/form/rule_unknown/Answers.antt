@@ -8,7 +8,6 @@ use Rattle.writer.specs.Texts.{text_of}
 use Rattle.json_text.specs.Bytes.{ascii}
 use Rattle.writer.proofs.Laying.{then, told}
 use Rattle.answers.specs.Line.{quoted_bytes}
-use borrow.Author.Rules.{rules}
 use Rattle.forms.proofs.form.rule_unknown.Goals as goal
 
 pub returns : goal.returns

@@ -3,7 +3,6 @@
 use mathlib.Core.Path.{ap, sym}
 use Rattle.answers.specs.Line.{unknown_number}
 use Rattle.writer.specs.Meaning.{rules_of}
-use borrow.Author.Rules.{rules}
 use Rattle.forms.proofs.form.unknown_number.Goals as goal
 
 pub returns-in-Preconditions : goal.returns-in-Preconditions
