@@ -5,7 +5,6 @@ use lib.ListN.{length, length-set}
 use Rattle.line.proofs.Answers.{emitted_23, emitted_line, emitted_none}
 use Rattle.writer.proofs.Laying.{measured, same_size, too_long, written}
 use native.Mathlib.Omega.{arith}
-use borrow.Author.Rules.{rules}
 use Rattle.line.proofs.emit.emit.Goals as goal
 
 pub returns-then-n-eq12 : goal.returns-then-n-eq12

@@ -5,7 +5,6 @@ use Rattle.writer.proofs.Laying.{nothing}
 use Rattle.answers.specs.Line.{refusal_form, verdict_form}
 use Rattle.writer.specs.Meaning.{Held, meaning}
 use Rattle.answers.specs.Reply.{form_of}
-use borrow.Author.Rules.{rules}
 use Rattle.line.proofs.emit.form.Goals as goal
 
 pub truth-requires : goal.truth-requires

@@ -5,7 +5,6 @@ use Rattle.line.proofs.Answers.{numbered}
 use Rattle.answers.specs.Line.{refusal_number}
 use Rattle.writer.specs.Meaning.{meaning}
 use Rattle.answers.specs.Reply.{number_of}
-use borrow.Author.Rules.{rules}
 use Rattle.line.proofs.emit.number.Goals as goal
 
 pub returns-in-True : goal.returns-in-True

@@ -7,7 +7,6 @@ use Rattle.writer.proofs.Laying.{shown, then, told}
 use Rattle.line.proofs.Lengths.{number_short}
 use Rattle.answers.specs.Line.{decimal_digits, opened}
 use Rattle.json_text.specs.Bytes.{ascii}
-use borrow.Author.Rules.{rules}
 use Rattle.line.proofs.emit.number_line.Goals as goal
 
 pub returns : goal.returns
