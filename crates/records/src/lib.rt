@@ -3,7 +3,7 @@
 
 ghost use Rattle.std.specs.Prelude.{◌≡◌, ◌+◌, ◌≤◌, min, length};
 
-use libc::STDIN_FILENO;
+use std::io::Read;
 
 // The place of the first such byte from `from` on, or the end.
 pub fn find(text: &[u8], from: usize, byte: u8) -> usize
@@ -142,12 +142,27 @@ fn keep(list: &mut [u8], from: usize, end: usize) -> usize
     n
 }
 
+// Reads until the buffer is full, the input ends or a read fails, and answers how many bytes stand at its start.
+pub fn read_full<R: Read>(input: &mut R, buf: &mut [u8]) -> usize
+    ensures { result ≤ length buf.new }
+{
+    let mut done = 0;
+    while done < buf.len() {
+        let n = input.read(&mut buf[done..]).unwrap_or(0);
+        if n == 0 {
+            break;
+        }
+        done += n;
+    }
+    done
+}
+
 // Moves what is left of so many bytes in hand, behind those that are used, to the start, reads on, and answers how many bytes are in hand then.
-pub fn more(list: &mut [u8], used: usize, end: usize) -> usize
+pub fn more<R: Read>(input: &mut R, list: &mut [u8], used: usize, end: usize) -> usize
     requires { (used ≤ end) × (end ≤ length list.old) }
     ensures { result ≤ length list.new }
 {
     let n = keep(list, used, end);
-    let got = io::read_full(STDIN_FILENO, &mut list[n..]);
+    let got = read_full(input, &mut list[n..]);
     n + got
 }

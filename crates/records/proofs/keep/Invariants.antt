@@ -1,0 +1,10 @@
+-- `records::keep` meets its contract: the list keeps its length.
+-- Assumes nothing.
+use Rattle.std.proofs.Common.{length, ◌-◌, ◌≡◌}
+use Rattle.records.proofs.keep.Given as goal
+
+abbrev pub invariant-loop-i : goal.invariant-loop-i
+invariant-loop-i l = length l.list ≡ length l.initial.list
+
+abbrev pub decreases-loop-i : goal.decreases-loop-i
+decreases-loop-i l = l.n - l.i
