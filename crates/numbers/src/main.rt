@@ -3,8 +3,8 @@
 
 ghost use Rattle.std.specs.Prelude.{◌≤◌, ◌<◌, length};
 
-use libc::{STDIN_FILENO, STDOUT_FILENO};
 use number::Order;
+use records::read_full;
 
 // The place of the first space or line feed from `from` on, or the end.
 fn word(s: &[u8], from: usize) -> usize
@@ -25,22 +25,17 @@ fn word(s: &[u8], from: usize) -> usize
     at
 }
 
-fn write_order(order: Order) {
-    match order {
-        Order::Less => {
-            io::write_all(STDOUT_FILENO, b"less\n");
-        }
-        Order::Equal => {
-            io::write_all(STDOUT_FILENO, b"equal\n");
-        }
-        Order::Greater => {
-            io::write_all(STDOUT_FILENO, b"greater\n");
-        }
-    }
+// A write that fails is passed over.
+fn write_order(rt: &impl Print, order: Order) {
+    let _ = match order {
+        Order::Less => rt.write_all(b"less\n"),
+        Order::Equal => rt.write_all(b"equal\n"),
+        Order::Greater => rt.write_all(b"greater\n"),
+    };
 }
 
 // Writes the order of the pair that starts at `from`, and answers where the next one starts.
-fn answer(s: &[u8], from: usize) -> usize
+fn answer(rt: &impl Print, s: &[u8], from: usize) -> usize
     requires { from < length s.now }
     ensures { (from < result) × (result ≤ length s.now) }
 {
@@ -50,22 +45,22 @@ fn answer(s: &[u8], from: usize) -> usize
     }
     let start = end + 1;
     let stop = word(s, start);
-    write_order(number::compare(&s[from..end], &s[start..stop]));
+    write_order(rt, number::compare(&s[from..end], &s[start..stop]));
     if stop < s.len() {
         return stop + 1;
     }
     stop
 }
 
-fn answer_all(s: &[u8]) {
+fn answer_all(rt: &impl Print, s: &[u8]) {
     let mut at = 0;
     while at < s.len() {
-        at = answer(s, at);
+        at = answer(rt, s, at);
     }
 }
 
-fn main() {
+fn main(rt: HostRuntime) {
     let mut pairs = [0u8; 262144];
-    let n = io::read_full(STDIN_FILENO, &mut pairs);
-    answer_all(&pairs[..n]);
+    let n = read_full(&mut rt.stdin(), &mut pairs);
+    answer_all(&rt, &pairs[..n]);
 }
