@@ -4,6 +4,8 @@
 
 ghost use Rattle.std.specs.Prelude.{◌+◌, ◌*◌, ◌≤◌, ◌<◌, length};
 
+use records::read_full;
+use std::io;
 use strings::answer::{Read, Refusal};
 
 fn wide(n: u32) -> u64 {
@@ -23,22 +25,31 @@ fn number_of(r: Refusal) -> u64 {
     }
 }
 
-fn print_row(work: &[u32], node: usize)
+// A write that fails is passed over.
+fn print(rt: &impl Print, text: &[u8]) {
+    let _ = rt.write_all(text);
+}
+
+fn print_number(rt: &impl Print, n: u64) {
+    let _ = rt.print(n);
+}
+
+fn print_row(rt: &impl Print, work: &[u32], node: usize)
     requires { (3 * node + 3 ≤ length work.now) × (node < 4096) }
 {
     let at = 3 * node;
     let first = work[at];
-    io::write_all(1, b" ");
-    io::print_decimal(1, wide(first % 8));
-    io::write_all(1, b":");
-    io::print_decimal(1, wide(first / 8));
-    io::write_all(1, b"-");
-    io::print_decimal(1, wide(work[at + 1]));
-    io::write_all(1, b">");
-    io::print_decimal(1, wide(work[at + 2]));
+    print(rt, b" ");
+    print_number(rt, wide(first % 8));
+    print(rt, b":");
+    print_number(rt, wide(first / 8));
+    print(rt, b"-");
+    print_number(rt, wide(work[at + 1]));
+    print(rt, b">");
+    print_number(rt, wide(work[at + 2]));
 }
 
-fn print_rows(work: &[u32], nodes: usize)
+fn print_rows(rt: &impl Print, work: &[u32], nodes: usize)
     requires { 12288 ≤ length work.now }
 {
     let mut k = 0;
@@ -46,24 +57,22 @@ fn print_rows(work: &[u32], nodes: usize)
         if 4096 <= k {
             return;
         }
-        print_row(work, k);
+        print_row(rt, work, k);
         k += 1;
     }
 }
 
-fn answer(sheet: &[u8], work: &mut [u32]) {
+fn answer(rt: &impl Print, sheet: &[u8], work: &mut [u32]) {
     match reader::read(sheet, work) {
-        Read::Refused(r) => {
-            io::print_decimal(1, number_of(r));
-        }
+        Read::Refused(r) => print_number(rt, number_of(r)),
         Read::Table(n) => {
-            io::write_all(1, b"ok");
+            print(rt, b"ok");
             if 12288 <= work.len() {
-                print_rows(work, n);
+                print_rows(rt, work, n);
             }
         }
     }
-    io::write_all(1, b"\n");
+    print(rt, b"\n");
 }
 
 // A digit's value, or 10.
@@ -80,12 +89,12 @@ fn digit(c: u8) -> usize
 }
 
 // The length in the next line, or 100,000 where there is none.
-fn next_length() -> usize {
+fn next_length<R: io::Read>(input: &mut R) -> usize {
     let mut n: usize = 0;
     let mut left: usize = 6;
     while 0 < left {
         let mut b = [10u8; 1];
-        let got = io::read_full(0, &mut b);
+        let got = read_full(input, &mut b);
         if got == 0 {
             return 100000;
         }
@@ -100,26 +109,27 @@ fn next_length() -> usize {
 }
 
 // The next text, answered; false at the list's end.
-fn step(sheet: &mut [u8], work: &mut [u32]) -> bool {
-    let n = next_length();
+fn step<R: io::Read>(rt: &impl Print, input: &mut R, sheet: &mut [u8], work: &mut [u32]) -> bool {
+    let n = next_length(input);
     if sheet.len() < n {
         return false;
     }
     let mut end = [0u8; 1];
-    io::read_full(0, &mut sheet[..n]);
-    io::read_full(0, &mut end);
-    answer(&sheet[..n], work);
+    read_full(input, &mut sheet[..n]);
+    read_full(input, &mut end);
+    answer(rt, &sheet[..n], work);
     true
 }
 
-fn main() {
-    let mut sheet = io::large_buffer();
+fn main(rt: HostRuntime) {
+    let mut input = rt.stdin();
+    let mut sheet = [0u8; 65536];
     let mut work = [0u32; 16384];
     let mut small = [0u32; 16383];
-    answer(b"{}", &mut small);
+    answer(&rt, b"{}", &mut small);
     let mut turns: usize = 1000000;
     while 0 < turns {
-        if !step(&mut sheet, &mut work) {
+        if !step(&rt, &mut input, &mut sheet, &mut work) {
             return;
         }
         turns -= 1;
