@@ -35,6 +35,10 @@ overflow_add-end c =
 pub slice_bounds-answer-count : goal.slice_bounds-answer-count
 slice_bounds-answer-count c = (line_inside c.loop-out.invariant.2 c.line_end-stop.ensures c.if-stop-input.false).0
 
+pub slice_bounds-answer-end : goal.slice_bounds-answer-end
+slice_bounds-answer-end c =
+    omega (arith, (line_inside c.loop-out.invariant.2 c.line_end-stop.ensures c.if-stop-input.false).1)
+
 pub answer-put-requires : goal.answer-put-requires
 answer-put-requires c = (
   c.loop-out.invariant.0 ∙ c.requires.0,
@@ -53,11 +57,10 @@ overflow_add-put c =
     omega (
       arith,
       shown_fits c.answer-put.ensures,
-      (part_back c.loop-out.out c.loop-out.put (c.loop-out.put + 65536 - c.loop-out.put) c.answer-put.new.1.1.1.0 room
-          c.answer-put.auto.1.1.1.0).0,
+      (part_back c.loop-out.out c.loop-out.put (c.loop-out.put + 65536 - c.loop-out.put) c.answer-put.new.out room
+          c.answer-put.auto.out).0,
       room,
       c.loop-out.invariant.1,
-      (goal.at.overflow_add-put c).Start,
     )
 
 pub overflow_add-used : goal.overflow_add-used
@@ -80,11 +83,11 @@ pub loop-out-preserved : goal.loop-out-preserved
 loop-out-preserved c =
     let room : c.loop-out.put + (c.loop-out.put + 65536 - c.loop-out.put) ≤ length c.loop-out.out =
     omega (arith, c.loop-out.invariant.2.fits, c.loop-out-test.true) in (
-      c.answer-put.auto.1.1.0 ∙ c.loop-out.invariant.0,
-      (part_back c.loop-out.out c.loop-out.put (c.loop-out.put + 65536 - c.loop-out.put) c.answer-put.new.1.1.1.0 room
-          c.answer-put.auto.1.1.1.0).1 ∙ c.loop-out.invariant.1,
+      c.answer-put.auto.work ∙ c.loop-out.invariant.0,
+      (part_back c.loop-out.out c.loop-out.put (c.loop-out.put + 65536 - c.loop-out.put) c.answer-put.new.out room
+          c.answer-put.auto.out).1 ∙ c.loop-out.invariant.1,
       one_line c.loop-out.invariant.2 c.line_end-stop.ensures c.if-stop-input.false (c.loop-out.put + 65536 - c.loop-out.put)
-          c.answer-put.ensures c.answer-put.auto.1.1.1.0 room,
+          c.answer-put.ensures c.answer-put.auto.out room,
     )
 
 pub shape_of-work : goal.shape_of-work
