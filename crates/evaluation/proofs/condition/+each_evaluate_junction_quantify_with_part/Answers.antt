@@ -84,21 +84,21 @@ each-returns-then-class-lt5 t c =
 pub each-of-c-requires : goal.each-of-c-requires
 each-of-c-requires t c =
     begin_room c.args.s.now c.args.work.now (eqb c.class_of-class.result 6)
-    c.requires.1.0.rows
+    c.requires.0.rows
     (each_holds c.args.s.now (table c.args.work.now) c.args.o c.class_of-class.ensures
-    c.if-class-lt5.false c.requires.1.2)
+    c.if-class-lt5.false c.requires.2)
 
 pub each-loop-x-init : goal.each-loop-x-init
 each-loop-x-init t c =
     turn_begin c.args.s.now c.args.work.now (sheet_in c.args.s.now) c.args.frames (mode_of c.args.mode) c.args.name
-    c.args.body c.args.o c.class_of-class.ensures c.if-class-lt5.false c.requires.1.2
-    c.requires.1.0.linked c.requires.1.4 c.start-truth.ensures c.of-c.ensures
+    c.args.body c.args.o c.class_of-class.ensures c.if-class-lt5.false c.requires.2
+    c.requires.0.linked c.requires.4 c.start-truth.ensures c.of-c.ensures
 
 pub each-next-requires : goal.each-next-requires
 each-next-requires t c = (
   record {
     rows = (ready_after
-        c.requires.1.0
+        c.requires.0
         c.loop-x.invariant.left).rows;
     node = omega arith;
   },
@@ -121,16 +121,16 @@ each-value_node-v-requires t c =
 
 pub each-with_part-requires : goal.each-with_part-requires
 each-with_part-requires t c = (
-  each_falls c.args.left c.requires.0,
+  each_falls c.args.left c.decreases,
   (
-    ready_after c.requires.1.0 c.loop-x.invariant.left,
-    c.requires.1.1,
+    ready_after c.requires.0 c.loop-x.invariant.left,
+    c.requires.1,
     turn_node c.loop-x.invariant
         (turn_given c.loop-x.invariant c.next.ensures c.in-Is.x c.in-Is.is)
         c.value_node-v.ensures,
-    c.requires.1.3,
+    c.requires.3,
     turn_gives c.loop-x.invariant,
-    rw c.loop-x.invariant.left.rows c.requires.1.5,
+    rw c.loop-x.invariant.left.rows c.requires.5,
   ),
 )
 
@@ -173,7 +173,7 @@ each-returns-in-NoId t c =
 
 pub each-loop-x-smaller : goal.each-loop-x-smaller
 each-loop-x-smaller t c =
-    (turn_given c.loop-x.inv c.next.ensures
+    (turn_given c.loop-x.invariant c.next.ensures
     c.in-Is.x c.in-Is.is).falls
 
 pub each-loop-x-preserved : goal.each-loop-x-preserved
@@ -186,8 +186,8 @@ each-loop-x-preserved t c =
 
 pub evaluate-kind_at-kind-requires : goal.evaluate-kind_at-kind-requires
 evaluate-kind_at-kind-requires t c =
-    node_room c.requires.1.0
-    (record { left = 64; is_node = c.requires.1.2.known.node })
+    node_room c.requires.0
+    (record { left = 64; is_node = c.requires.2.known.node })
 
 pub evaluate-returns-then-kind-eq1 : goal.evaluate-returns-then-kind-eq1
 evaluate-returns-then-kind-eq1 t c =
@@ -203,7 +203,7 @@ pub evaluate-overflow_add-node : goal.evaluate-overflow_add-node
 evaluate-overflow_add-node t c =
     omega (
       arith,
-      (the_member c.requires.1.2.known
+      (the_member c.requires.2.known
           c.kind_at-kind.ensures c.if-kind-eq1.false
           c.if-kind-eq2.false).name_place.1,
     )
@@ -211,8 +211,8 @@ evaluate-overflow_add-node t c =
 pub evaluate-start_at-name-requires : goal.evaluate-start_at-name-requires
 evaluate-start_at-name-requires t c =
     record {
-      rows = c.requires.1.0.rows;
-      node = (the_member c.requires.1.2.known c.kind_at-kind.ensures
+      rows = c.requires.0.rows;
+      node = (the_member c.requires.2.known c.kind_at-kind.ensures
           c.if-kind-eq1.false c.if-kind-eq2.false).name_place.1;
     }
 
@@ -220,86 +220,86 @@ pub evaluate-overflow_add-inner : goal.evaluate-overflow_add-inner
 evaluate-overflow_add-inner t c =
     omega (
       arith,
-      (the_member c.requires.1.2.known
+      (the_member c.requires.2.known
           c.kind_at-kind.ensures c.if-kind-eq1.false c.if-kind-eq2.false).name_place.1,
     )
 
 pub evaluate-operator_at-requires : goal.evaluate-operator_at-requires
 evaluate-operator_at-requires t c =
     rw c.start_at-name.ensures
-    (the_member c.requires.1.2.known
+    (the_member c.requires.2.known
     c.kind_at-kind.ensures c.if-kind-eq1.false c.if-kind-eq2.false).name
 
 pub evaluate-overflow_sub-left : goal.evaluate-overflow_sub-left
 evaluate-overflow_sub-left t c =
-    (inner_shallow c.requires.1.2.known c.kind_at-kind.ensures c.if-kind-eq1.false
-    c.if-kind-eq2.false c.requires.1.3).0
+    (inner_shallow c.requires.2.known c.kind_at-kind.ensures c.if-kind-eq1.false
+    c.if-kind-eq2.false c.requires.3).0
 
 pub evaluate-junction-requires : goal.evaluate-junction-requires
 evaluate-junction-requires t c = (
-  child_falls c.args.left 1 c.requires.0
-      (inner_shallow c.requires.1.2.known c.kind_at-kind.ensures c.if-kind-eq1.false c.if-kind-eq2.false c.requires.1.3).0
+  child_falls c.args.left 1 c.decreases
+      (inner_shallow c.requires.2.known c.kind_at-kind.ensures c.if-kind-eq1.false c.if-kind-eq2.false c.requires.3).0
       (omega arith),
   (
-    c.requires.1.0,
-    omega (arith, c.requires.1.1),
-    (a_junction c.requires.1.2.known c.kind_at-kind.ensures c.if-kind-eq1.false c.if-kind-eq2.false
+    c.requires.0,
+    omega (arith, c.requires.1),
+    (a_junction c.requires.2.known c.kind_at-kind.ensures c.if-kind-eq1.false c.if-kind-eq2.false
         c.start_at-name.ensures c.operator_at.ensures _
         c.in-Junction.is).0,
-    (a_junction c.requires.1.2.known c.kind_at-kind.ensures c.if-kind-eq1.false c.if-kind-eq2.false
+    (a_junction c.requires.2.known c.kind_at-kind.ensures c.if-kind-eq1.false c.if-kind-eq2.false
         c.start_at-name.ensures c.operator_at.ensures _
         c.in-Junction.is).1,
-    (inner_shallow c.requires.1.2.known c.kind_at-kind.ensures c.if-kind-eq1.false c.if-kind-eq2.false c.requires.1.3).1,
+    (inner_shallow c.requires.2.known c.kind_at-kind.ensures c.if-kind-eq1.false c.if-kind-eq2.false c.requires.3).1,
   ),
 )
 
 pub evaluate-overflow_sub-left-in-Negation : goal.evaluate-overflow_sub-left-in-Negation
 evaluate-overflow_sub-left-in-Negation t c =
-    (inner_shallow c.requires.1.2.known c.kind_at-kind.ensures c.if-kind-eq1.false
-    c.if-kind-eq2.false c.requires.1.3).0
+    (inner_shallow c.requires.2.known c.kind_at-kind.ensures c.if-kind-eq1.false
+    c.if-kind-eq2.false c.requires.3).0
 
 pub evaluate-evaluate-requires : goal.evaluate-evaluate-requires
 evaluate-evaluate-requires t c = (
-  inner_falls c.args.left c.requires.0
-      (inner_shallow c.requires.1.2.known c.kind_at-kind.ensures c.if-kind-eq1.false
-      c.if-kind-eq2.false c.requires.1.3).0,
+  inner_falls c.args.left c.decreases
+      (inner_shallow c.requires.2.known c.kind_at-kind.ensures c.if-kind-eq1.false
+      c.if-kind-eq2.false c.requires.3).0,
   (
-    c.requires.1.0,
-    omega (arith, c.requires.1.1),
-    a_negation c.requires.1.2.known c.kind_at-kind.ensures c.if-kind-eq1.false
+    c.requires.0,
+    omega (arith, c.requires.1),
+    a_negation c.requires.2.known c.kind_at-kind.ensures c.if-kind-eq1.false
         c.if-kind-eq2.false c.start_at-name.ensures
         c.operator_at.ensures c.in-Negation.is,
-    (inner_shallow c.requires.1.2.known c.kind_at-kind.ensures c.if-kind-eq1.false
-        c.if-kind-eq2.false c.requires.1.3).1,
+    (inner_shallow c.requires.2.known c.kind_at-kind.ensures c.if-kind-eq1.false
+        c.if-kind-eq2.false c.requires.3).1,
   ),
 )
 
 pub evaluate-overflow_sub-left-in-Exists : goal.evaluate-overflow_sub-left-in-Exists
 evaluate-overflow_sub-left-in-Exists t c =
-    (inner_shallow c.requires.1.2.known c.kind_at-kind.ensures c.if-kind-eq1.false
-    c.if-kind-eq2.false c.requires.1.3).0
+    (inner_shallow c.requires.2.known c.kind_at-kind.ensures c.if-kind-eq1.false
+    c.if-kind-eq2.false c.requires.3).0
 
 pub evaluate-exists_at-requires : goal.evaluate-exists_at-requires
 evaluate-exists_at-requires t c = (
-  c.requires.1.0,
-  inner_node c.requires.1.2.known c.kind_at-kind.ensures c.if-kind-eq1.false
+  c.requires.0,
+  inner_node c.requires.2.known c.kind_at-kind.ensures c.if-kind-eq1.false
       c.if-kind-eq2.false,
-  (inner_shallow c.requires.1.2.known c.kind_at-kind.ensures c.if-kind-eq1.false
-      c.if-kind-eq2.false c.requires.1.3).1,
+  (inner_shallow c.requires.2.known c.kind_at-kind.ensures c.if-kind-eq1.false
+      c.if-kind-eq2.false c.requires.3).1,
 )
 
 pub evaluate-overflow_add-inner-in-Pair : goal.evaluate-overflow_add-inner-in-Pair
 evaluate-overflow_add-inner-in-Pair t c =
     omega (
       arith,
-      (the_member c.requires.1.2.known
+      (the_member c.requires.2.known
           c.kind_at-kind.ensures c.if-kind-eq1.false c.if-kind-eq2.false).name_place.1,
     )
 
 pub evaluate-after_at-second-requires : goal.evaluate-after_at-second-requires
 evaluate-after_at-second-requires t c =
-    node_room c.requires.1.0
-    (a_pair c.requires.1.2.known c.kind_at-kind.ensures c.if-kind-eq1.false
+    node_room c.requires.0
+    (a_pair c.requires.2.known c.kind_at-kind.ensures c.if-kind-eq1.false
     c.if-kind-eq2.false c.start_at-name.ensures
     c.operator_at.ensures _ c.in-Pair.is).0
 
@@ -307,61 +307,61 @@ pub evaluate-overflow_add-inner-in-Pair-2 : goal.evaluate-overflow_add-inner-in-
 evaluate-overflow_add-inner-in-Pair-2 t c =
     omega (
       arith,
-      (the_member c.requires.1.2.known
+      (the_member c.requires.2.known
           c.kind_at-kind.ensures c.if-kind-eq1.false c.if-kind-eq2.false).name_place.1,
     )
 
 pub evaluate-overflow_sub-left-in-Pair : goal.evaluate-overflow_sub-left-in-Pair
 evaluate-overflow_sub-left-in-Pair t c =
-    (inner_shallow c.requires.1.2.known c.kind_at-kind.ensures c.if-kind-eq1.false
-    c.if-kind-eq2.false c.requires.1.3).0
+    (inner_shallow c.requires.2.known c.kind_at-kind.ensures c.if-kind-eq1.false
+    c.if-kind-eq2.false c.requires.3).0
 
 pub evaluate-pair_at-requires : goal.evaluate-pair_at-requires
 evaluate-pair_at-requires t c = (
-  c.requires.1.0,
-  (a_pair c.requires.1.2.known c.kind_at-kind.ensures c.if-kind-eq1.false c.if-kind-eq2.false c.start_at-name.ensures c.operator_at.ensures
+  c.requires.0,
+  (a_pair c.requires.2.known c.kind_at-kind.ensures c.if-kind-eq1.false c.if-kind-eq2.false c.start_at-name.ensures c.operator_at.ensures
       _ c.in-Pair.is).0,
   rw c.after_at-second.ensures
-      (a_pair c.requires.1.2.known c.kind_at-kind.ensures c.if-kind-eq1.false c.if-kind-eq2.false c.start_at-name.ensures
+      (a_pair c.requires.2.known c.kind_at-kind.ensures c.if-kind-eq1.false c.if-kind-eq2.false c.start_at-name.ensures
       c.operator_at.ensures _ c.in-Pair.is).1,
-  (operands_shallow c.requires.1.2.known c.kind_at-kind.ensures c.if-kind-eq1.false c.if-kind-eq2.false c.start_at-name.ensures
-      c.operator_at.ensures _ c.in-Pair.is c.requires.1.3).0,
+  (operands_shallow c.requires.2.known c.kind_at-kind.ensures c.if-kind-eq1.false c.if-kind-eq2.false c.start_at-name.ensures
+      c.operator_at.ensures _ c.in-Pair.is c.requires.3).0,
   rw c.after_at-second.ensures
-      (operands_shallow c.requires.1.2.known c.kind_at-kind.ensures c.if-kind-eq1.false c.if-kind-eq2.false c.start_at-name.ensures
-      c.operator_at.ensures _ c.in-Pair.is c.requires.1.3).1,
+      (operands_shallow c.requires.2.known c.kind_at-kind.ensures c.if-kind-eq1.false c.if-kind-eq2.false c.start_at-name.ensures
+      c.operator_at.ensures _ c.in-Pair.is c.requires.3).1,
 )
 
 pub evaluate-overflow_sub-left-in-Quantified : goal.evaluate-overflow_sub-left-in-Quantified
 evaluate-overflow_sub-left-in-Quantified t c =
-    (inner_shallow c.requires.1.2.known c.kind_at-kind.ensures c.if-kind-eq1.false
-    c.if-kind-eq2.false c.requires.1.3).0
+    (inner_shallow c.requires.2.known c.kind_at-kind.ensures c.if-kind-eq1.false
+    c.if-kind-eq2.false c.requires.3).0
 
 pub evaluate-quantify-requires : goal.evaluate-quantify-requires
 evaluate-quantify-requires t c = (
-  child_falls c.args.left 2 c.requires.0
-      (inner_shallow c.requires.1.2.known c.kind_at-kind.ensures c.if-kind-eq1.false c.if-kind-eq2.false c.requires.1.3).0
+  child_falls c.args.left 2 c.decreases
+      (inner_shallow c.requires.2.known c.kind_at-kind.ensures c.if-kind-eq1.false c.if-kind-eq2.false c.requires.3).0
       (omega arith),
   (
-    c.requires.1.0,
+    c.requires.0,
     omega (
       arith,
-      c.requires.1.1,
-      (inner_shallow c.requires.1.2.known c.kind_at-kind.ensures c.if-kind-eq1.false c.if-kind-eq2.false c.requires.1.3).0,
+      c.requires.1,
+      (inner_shallow c.requires.2.known c.kind_at-kind.ensures c.if-kind-eq1.false c.if-kind-eq2.false c.requires.3).0,
     ),
-    known_quantifier c.requires.1.2.known c.kind_at-kind.ensures c.if-kind-eq1.false c.if-kind-eq2.false
+    known_quantifier c.requires.2.known c.kind_at-kind.ensures c.if-kind-eq1.false c.if-kind-eq2.false
         c.start_at-name.ensures c.operator_at.ensures _
         c.in-Quantified.is,
-    (inner_shallow c.requires.1.2.known c.kind_at-kind.ensures c.if-kind-eq1.false c.if-kind-eq2.false c.requires.1.3).1,
+    (inner_shallow c.requires.2.known c.kind_at-kind.ensures c.if-kind-eq1.false c.if-kind-eq2.false c.requires.3).1,
   ),
 )
 
 pub evaluate-shape_of-work-in-Junction : goal.evaluate-shape_of-work-in-Junction
 evaluate-shape_of-work-in-Junction t c =
     (c.junction.ensures
-    (a_junction c.requires.1.2.known c.kind_at-kind.ensures c.if-kind-eq1.false
+    (a_junction c.requires.2.known c.kind_at-kind.ensures c.if-kind-eq1.false
     c.if-kind-eq2.false c.start_at-name.ensures
     c.operator_at.ensures _ c.in-Junction.is).1.given
-    (a_junction c.requires.1.2.known c.kind_at-kind.ensures c.if-kind-eq1.false
+    (a_junction c.requires.2.known c.kind_at-kind.ensures c.if-kind-eq1.false
     c.if-kind-eq2.false c.start_at-name.ensures
     c.operator_at.ensures _ c.in-Junction.is).1.known).left.long
 
@@ -376,10 +376,10 @@ evaluate-returns-in-Junction t c =
 pub evaluate-shape_of-work-in-Negation : goal.evaluate-shape_of-work-in-Negation
 evaluate-shape_of-work-in-Negation t c =
     (c.evaluate.ensures
-    (a_negation c.requires.1.2.known c.kind_at-kind.ensures c.if-kind-eq1.false
+    (a_negation c.requires.2.known c.kind_at-kind.ensures c.if-kind-eq1.false
     c.if-kind-eq2.false c.start_at-name.ensures c.operator_at.ensures
     c.in-Negation.is).given
-    (a_negation c.requires.1.2.known c.kind_at-kind.ensures c.if-kind-eq1.false
+    (a_negation c.requires.2.known c.kind_at-kind.ensures c.if-kind-eq1.false
     c.if-kind-eq2.false c.start_at-name.ensures c.operator_at.ensures
     c.in-Negation.is).known).left.long
 
@@ -415,10 +415,10 @@ evaluate-returns-in-Pair t c =
 pub evaluate-shape_of-work-in-Quantified : goal.evaluate-shape_of-work-in-Quantified
 evaluate-shape_of-work-in-Quantified t c =
     (c.quantify.ensures
-    (known_quantifier c.requires.1.2.known c.kind_at-kind.ensures c.if-kind-eq1.false
+    (known_quantifier c.requires.2.known c.kind_at-kind.ensures c.if-kind-eq1.false
     c.if-kind-eq2.false c.start_at-name.ensures
     c.operator_at.ensures _ c.in-Quantified.is).given
-    (known_quantifier c.requires.1.2.known c.kind_at-kind.ensures c.if-kind-eq1.false
+    (known_quantifier c.requires.2.known c.kind_at-kind.ensures c.if-kind-eq1.false
     c.if-kind-eq2.false c.start_at-name.ensures
     c.operator_at.ensures _ c.in-Quantified.is).known).left.long
 
@@ -448,28 +448,28 @@ evaluate-returns-in-Unknown t c =
 
 pub junction-after_at-end-requires : goal.junction-after_at-end-requires
 junction-after_at-end-requires t c =
-    node_room c.requires.1.0 c.requires.1.2.node
+    node_room c.requires.0 c.requires.2.node
 
 pub junction-overflow_add-k : goal.junction-overflow_add-k
 junction-overflow_add-k t c =
-    omega (arith, (node_room c.requires.1.0 c.requires.1.2.node).node)
+    omega (arith, (node_room c.requires.0 c.requires.2.node).node)
 
 pub junction-loop-k-init : goal.junction-loop-k-init
 junction-loop-k-init t c =
     collect_begin c.args.s.now c.args.work.now (sheet_in c.args.s.now)
-    (frames_of c.args.s.now (table c.args.work.now) c.args.frames) (mode_of c.args.mode) c.requires.1.2
-    c.requires.1.3 c.requires.1.4 c.after_at-end.ensures c.start-truth.ensures
+    (frames_of c.args.s.now (table c.args.work.now) c.args.frames) (mode_of c.args.mode) c.requires.2
+    c.requires.3 c.requires.4 c.after_at-end.ensures c.start-truth.ensures
 
 pub junction-overflow_sub-left : goal.junction-overflow_sub-left
 junction-overflow_sub-left t c =
-    collect_one c.requires.1.2 c.requires.1.4
+    collect_one c.requires.2 c.requires.4
 
 pub junction-evaluate-requires : goal.junction-evaluate-requires
 junction-evaluate-requires t c = (
-  element_falls c.args.left c.requires.0 (collect_one c.requires.1.2 c.requires.1.4),
+  element_falls c.args.left c.decreases (collect_one c.requires.2 c.requires.4),
   (
-    ready_after c.requires.1.0 c.loop-k.invariant.left,
-    omega (arith, c.requires.1.1),
+    ready_after c.requires.0 c.loop-k.invariant.left,
+    omega (arith, c.requires.1),
     rw c.loop-k.invariant.left.rows
         (record {
           given = (child c.loop-k.invariant c.loop-k-test.true).first;
@@ -505,7 +505,7 @@ junction-after_at-k-requires t c =
       rows =
           omega (
             arith,
-            c.requires.1.0.rows,
+            c.requires.0.rows,
             collect_long c.loop-k.invariant c.loop-k-test.true
                 (rw c.loop-k.invariant.left.rows at c.evaluate.ensures),
           );
@@ -532,48 +532,48 @@ junction-returns t c = collect_end c.loop-k.invariant c.loop-k-test.false
 
 pub quantify-quantifier_at-q-requires : goal.quantify-quantifier_at-q-requires
 quantify-quantifier_at-q-requires t c = (
-  node_room c.requires.1.0 (record { left = 64; is_node = c.requires.1.2.known.node }),
-  record { given = mode_of c.args.mode; known = c.requires.1.2 },
+  node_room c.requires.0 (record { left = 64; is_node = c.requires.2.known.node }),
+  record { given = mode_of c.args.mode; known = c.requires.2 },
 )
 
 pub quantify-start_at-name-requires : goal.quantify-start_at-name-requires
 quantify-start_at-name-requires t c =
-    node_room c.requires.1.0 (c.quantifier_at-q.ensures _ _ c.requires.1.2.known).bind.node
+    node_room c.requires.0 (c.quantifier_at-q.ensures _ _ c.requires.2.known).bind.node
 
 pub quantify-overflow_sub-left : goal.quantify-overflow_sub-left
 quantify-overflow_sub-left t c =
-    let p = c.quantifier_at-q.ensures _ _ c.requires.1.2.known in
-    omega (arith, p.over_depth, c.requires.1.3)
+    let p = c.quantifier_at-q.ensures _ _ c.requires.2.known in
+    omega (arith, p.over_depth, c.requires.3)
 
 pub quantify-resolve-requires : goal.quantify-resolve-requires
 quantify-resolve-requires t c =
-    let p = c.quantifier_at-q.ensures _ _ c.requires.1.2.known in
-    (c.requires.1.0, p.over, omega (arith, p.over_depth, c.requires.1.3))
+    let p = c.quantifier_at-q.ensures _ _ c.requires.2.known in
+    (c.requires.0, p.over, omega (arith, p.over_depth, c.requires.3))
 
 pub quantify-overflow_sub-left-in-Present : goal.quantify-overflow_sub-left-in-Present
 quantify-overflow_sub-left-in-Present t c =
-    let p = c.quantifier_at-q.ensures _ _ c.requires.1.2.known in
-    omega (arith, p.over_depth, c.requires.1.3)
+    let p = c.quantifier_at-q.ensures _ _ c.requires.2.known in
+    omega (arith, p.over_depth, c.requires.3)
 
 pub quantify-each-requires : goal.quantify-each-requires
 quantify-each-requires t c =
-    let p = c.quantifier_at-q.ensures _ _ c.requires.1.2.known in
+    let p = c.quantifier_at-q.ensures _ _ c.requires.2.known in
     let sheet = sheet_in c.args.s.now in (
-      quantify_falls c.args.left c.requires.0 (omega (arith, p.over_depth, c.requires.1.3)),
+      quantify_falls c.args.left c.decreases (omega (arith, p.over_depth, c.requires.3)),
       (
-        ready_after c.requires.1.0 c.resolve.ensures.left,
-        omega (arith, p.over_depth, c.requires.1.1, c.requires.1.3),
+        ready_after c.requires.0 c.resolve.ensures.left,
+        omega (arith, p.over_depth, c.requires.1, c.requires.3),
         over_fits sheet c.args.frames p c.resolve.ensures _ c.in-Present.is,
         rw c.start_at-name.ensures (text_row p.bind).on_text,
         body_known sheet c.args.frames p c.resolve.ensures,
-        body_shallow sheet c.args.frames p c.resolve.ensures c.requires.1.3,
+        body_shallow sheet c.args.frames p c.resolve.ensures c.requires.3,
       ),
     )
 
 pub quantify-shape_of-work-in-Present : goal.quantify-shape_of-work-in-Present
 quantify-shape_of-work-in-Present t c =
     quantify_long (sheet_in c.args.s.now) c.args.frames
-    (c.quantifier_at-q.ensures _ _ c.requires.1.2.known)
+    (c.quantifier_at-q.ensures _ _ c.requires.2.known)
     c.resolve.ensures c.each.ensures
 
 pub quantify-returns-in-Present : goal.quantify-returns-in-Present
@@ -610,28 +610,28 @@ quantify-returns-in-NoId t c =
     c.in-NoId.is
 
 pub with_part-part_of-part-requires : goal.with_part-part_of-part-requires
-with_part-part_of-part-requires t c = (c.requires.1.0, c.requires.1.2)
+with_part-part_of-part-requires t c = (c.requires.0, c.requires.2)
 
 pub with_part-push-inner-requires : goal.with_part-push-inner-requires
 with_part-push-inner-requires t c =
-    (omega (arith, c.requires.1.1), part_small c.requires.1.0.short c.requires.1.3 c.part_of-part.ensures.fits)
+    (omega (arith, c.requires.1), part_small c.requires.0.short c.requires.3 c.part_of-part.ensures.fits)
 
 pub with_part-evaluate-requires : goal.with_part-evaluate-requires
 with_part-evaluate-requires t c = (
-  part_falls c.args.left c.requires.0,
+  part_falls c.args.left c.decreases,
   (
-    pushed c.requires.1.0 (omega (arith, c.requires.1.1)) c.requires.1.3 c.part_of-part.ensures.fits
+    pushed c.requires.0 (omega (arith, c.requires.1)) c.requires.3 c.part_of-part.ensures.fits
         c.push-inner.ensures.0 c.push-inner.ensures.1,
-    omega (arith, c.requires.1.1, c.push-inner.ensures.0),
-    c.requires.1.4,
-    c.requires.1.5,
+    omega (arith, c.requires.1, c.push-inner.ensures.0),
+    c.requires.4,
+    c.requires.5,
   ),
 )
 
 pub with_part-shape_of-work : goal.with_part-shape_of-work
 with_part-shape_of-work t c =
     (c.evaluate.ensures _
-    c.requires.1.4.known).left.long
+    c.requires.4.known).left.long
 
 pub with_part-returns : goal.with_part-returns
 with_part-returns t c =
