@@ -3,7 +3,6 @@
 use native.Mathlib.Omega.{arith}
 use Rattle.evaluation.proofs.After.{accepted_rows, gives_rows}
 use Rattle.rules.proofs.Unmarking.{alone, still_accepted, still_given}
-use borrow.Author.Rules.{rules}
 use Rattle.rules.proofs.alone.evaluate_alone.Goals as goal
 
 pub evaluate_condition-requires : goal.evaluate_condition-requires

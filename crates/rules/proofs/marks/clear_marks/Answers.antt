@@ -1,7 +1,6 @@
 -- `calls::marks::clear_marks` meets its contract: the loop says that no word passed is marked and that all else stays.
 -- Assumes nothing.
 use mathlib.Core.Path.{subst, ◌≡◌}
-use Prim.Native.Nat.{◌-◌, ◌≤◌}
 use native.Mathlib.Omega.{arith}
 use Rattle.rules.specs.Alone.{Unmarked}
 use Rattle.rules.proofs.Unmarking.{unmarked_one, unmarking}

@@ -1,10 +1,7 @@
 -- `calls::marks::clear_marks` meets its contract: the loop says that no word passed is marked and that all else stays.
 -- Assumes nothing.
-use mathlib.Core.Path.{subst, ◌≡◌}
 use Prim.Native.Nat.{◌-◌, ◌≤◌}
-use native.Mathlib.Omega.{arith}
 use Rattle.rules.specs.Alone.{Unmarked}
-use Rattle.rules.proofs.Unmarking.{unmarked_one, unmarking}
 use Rattle.rules.proofs.marks.clear_marks.Given as goal
 
 abbrev pub invariant-loop-i : goal.invariant-loop-i

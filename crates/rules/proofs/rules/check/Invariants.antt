@@ -1,11 +1,7 @@
 -- `calls::rules::check` meets its contract: the loop says that the rules from its node on settle the whole.
 -- Assumes nothing.
 use Prim.Native.Nat.{◌-◌}
-use native.Mathlib.Omega.{arith}
-use Rattle.members.proofs.Walks.{room}
-use Rattle.rules.proofs.Checking.{Checking, all_hold, checking, rule_after, rule_behind, rule_next, rule_room, rule_settles}
-use Rattle.rules.proofs.Walking.{element_room, falls}
-use borrow.Author.Rules.{rules}
+use Rattle.rules.proofs.Checking.{Checking}
 use Rattle.rules.proofs.rules.check.Given as goal
 
 abbrev pub invariant-loop-k : goal.invariant-loop-k

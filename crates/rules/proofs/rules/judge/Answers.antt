@@ -5,7 +5,6 @@ use Rattle.comparison.specs.declared.comparison.Outcome.TheVariants as outcomes
 use Rattle.members.proofs.Walks.{room}
 use Rattle.rules.proofs.Settling.{expression_room, rule_false_lem, rule_here, rule_holds, rule_known, rule_members, rule_refused, rule_unknown_lem, told_no_id, told_unknown}
 use Rattle.rules.proofs.Starting.{given_node, members_behind}
-use borrow.Author.Rules.{rules}
 use Rattle.rules.proofs.rules.judge.Goals as goal
 
 pub after_at-end-requires : goal.after_at-end-requires

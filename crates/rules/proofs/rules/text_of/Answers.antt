@@ -3,7 +3,6 @@
 use Rattle.members.specs.Kinds.{a_text}
 use Rattle.rules.proofs.Eligibility.{there_room}
 use Rattle.rules.proofs.Settling.{its_text, no_text}
-use borrow.Author.Rules.{rules}
 use Rattle.rules.proofs.rules.text_of.Goals as goal
 
 pub start_at-requires : goal.start_at-requires
