@@ -8,7 +8,6 @@ use Rattle.answers.specs.Admission.{sources}
 use Rattle.admission.proofs.Admitting.{has_no_source, keeps_moving, keeps_staying, sources_of, turns_wrong}
 use Rattle.rules.proofs.Starting.{effect_known, members_behind, outcome_here, outcome_members, sources_here}
 use Rattle.rules.proofs.Walking.{behind_array}
-use borrow.Author.Rules.{rules}
 use Rattle.admission.proofs.admit.admit.Goals as goal
 
 pub after_at-after-requires : goal.after_at-after-requires

@@ -3,7 +3,6 @@
 use Rattle.members.proofs.Walks.{room}
 use Rattle.admission.proofs.Admitting.{entered, name_room}
 use Rattle.rules.proofs.Starting.{members_behind, outcome_here}
-use borrow.Author.Rules.{rules}
 use Rattle.admission.proofs.admit.entry.Goals as goal
 
 pub after_at-end-requires : goal.after_at-end-requires

@@ -2,7 +2,6 @@
 -- Assumes nothing.
 use Rattle.admission.proofs.Admitting.{chosen_node, told_chosen, told_wrong}
 use Rattle.admission.proofs.Seeking.{first_wrong}
-use borrow.Author.Rules.{rules}
 use Rattle.admission.proofs.admit.for_wrong_state.Goals as goal
 
 pub entry-requires : goal.entry-requires

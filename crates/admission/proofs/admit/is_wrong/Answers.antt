@@ -3,7 +3,6 @@
 use Rattle.json_text.specs.Spans.{text_at}
 use Rattle.admission.proofs.Admitting.{declared, undeclared}
 use Rattle.admission.proofs.Among.{as_texts}
-use borrow.Author.Rules.{rules}
 use Rattle.admission.proofs.admit.is_wrong.Goals as goal
 
 pub is_one_of-requires : goal.is_one_of-requires

@@ -2,7 +2,6 @@
 -- Assumes nothing.
 use mathlib.Core.Path.{sym, ◌∙◌}
 use Rattle.rules.proofs.Eligibility.{as_fits, not_eligible}
-use borrow.Author.Rules.{rules}
 use Rattle.admission.proofs.eligible.eligible.Goals as goal
 
 pub is_true-requires : goal.is_true-requires

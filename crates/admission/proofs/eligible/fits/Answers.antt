@@ -2,7 +2,6 @@
 -- Assumes nothing.
 use Rattle.members.specs.Kinds.{a_text}
 use Rattle.rules.proofs.Eligibility.{both_states, no_own, no_state, state_on_text, there_room}
-use borrow.Author.Rules.{rules}
 use Rattle.admission.proofs.eligible.fits.Goals as goal
 
 pub start_at-a-requires : goal.start_at-a-requires

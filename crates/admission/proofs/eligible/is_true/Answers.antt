@@ -6,7 +6,6 @@ use mathlib.Core.Path.{ap}
 use Prim.Native.Nat.{ℕ}
 use lib.Dec.{eqb}
 use Rattle.rules.proofs.Eligibility.{as_it_is_lem, never_true, there_room}
-use borrow.Author.Rules.{rules}
 use Rattle.admission.proofs.eligible.is_true.Goals as goal
 
 pub kind_at-requires : goal.kind_at-requires

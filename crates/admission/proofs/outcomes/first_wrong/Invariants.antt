@@ -1,10 +1,7 @@
 -- `calls::outcomes::first_wrong` meets its contract: the loop says that the search from its node on is the whole search.
 -- Assumes nothing.
 use Prim.Native.Nat.{◌-◌}
-use native.Mathlib.Omega.{arith}
-use Rattle.admission.proofs.Seeking.{Passing, flag_known, none_wrong, passing, wrong_here, wrong_later}
-use Rattle.rules.proofs.Starting.{members_behind, outcome_here, outcome_members}
-use Rattle.rules.proofs.Walking.{element_room, falls, next}
+use Rattle.admission.proofs.Seeking.{Passing}
 use Rattle.admission.proofs.outcomes.first_wrong.Given as goal
 
 abbrev pub invariant-loop-k : goal.invariant-loop-k

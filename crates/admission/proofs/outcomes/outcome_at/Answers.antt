@@ -1,13 +1,7 @@
 -- `calls::outcomes::outcome_at` meets its contract: the loop counts the places that it has passed.
 -- Assumes nothing.
-use Prim.Native.Nat.{◌-◌}
 use native.Mathlib.Omega.{arith}
-use Rattle.json_text.specs.Bytes.{Bytes}
-use Rattle.sheet.specs.Accepted.{EachGives}
-use Rattle.members.specs.Condition.{condition}
-use Rattle.members.specs.Outcome.{an_outcome}
-use Rattle.sheet.specs.Accepted.{Known}
-use Rattle.admission.proofs.Seeking.{Counting, at_place, counting, counts_on, past_all}
+use Rattle.admission.proofs.Seeking.{at_place, counting, counts_on, past_all}
 use Rattle.rules.proofs.Walking.{element_room, falls}
 use Rattle.admission.proofs.outcomes.outcome_at.Goals as goal
 

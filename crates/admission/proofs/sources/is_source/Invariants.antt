@@ -1,13 +1,11 @@
 -- `calls::sources::is_source` meets its contract: the loop says that the outcomes from its node on decide.
 -- Assumes nothing.
 use Prim.Native.Nat.{◌-◌}
-use native.Mathlib.Omega.{arith}
 use Rattle.json_text.specs.Spans.{text_at}
 use Rattle.members.specs.Condition.{condition}
 use Rattle.members.specs.Outcome.{an_outcome}
 use Rattle.answers.specs.Admission.{is_source}
-use Rattle.rules.proofs.Starting.{effect_known, members_behind, none_starts, outcome_here, outcome_members, starts_elsewhere, starts_here}
-use Rattle.rules.proofs.Walking.{Walking, element_room, falls, next, starts}
+use Rattle.rules.proofs.Walking.{Walking}
 use Rattle.admission.proofs.sources.is_source.Given as goal
 
 abbrev pub invariant-loop-k : goal.invariant-loop-k

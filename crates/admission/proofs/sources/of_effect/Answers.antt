@@ -5,7 +5,6 @@ use native.Mathlib.Omega.{arith}
 use Rattle.members.specs.Outcome.{an_effect}
 use Rattle.rules.proofs.Eligibility.{there_room}
 use Rattle.rules.proofs.Starting.{as_move, members_behind, move_node, no_move, none_stays, object_moving, word_stays}
-use borrow.Author.Rules.{rules}
 use Rattle.admission.proofs.sources.of_effect.Goals as goal
 
 pub kind_at-requires : goal.kind_at-requires

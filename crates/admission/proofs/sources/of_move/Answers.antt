@@ -3,7 +3,6 @@
 use Rattle.sheet.proofs.Given.{move_given}
 use Rattle.members.proofs.Walks.{room}
 use Rattle.rules.proofs.Starting.{members_behind, move_sources}
-use borrow.Author.Rules.{rules}
 use Rattle.admission.proofs.sources.of_move.Goals as goal
 
 pub after_at-end-requires : goal.after_at-end-requires

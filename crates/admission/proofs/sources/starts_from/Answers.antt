@@ -4,7 +4,6 @@ use Rattle.json_text.specs.Spans.{text_at}
 use Rattle.members.specs.Outcome.{or_stays}
 use Rattle.answers.specs.Admission.{sources}
 use Rattle.rules.proofs.Starting.{no_sources, sources_here}
-use borrow.Author.Rules.{rules}
 use Rattle.admission.proofs.sources.starts_from.Goals as goal
 
 pub is_one_of-requires : goal.is_one_of-requires

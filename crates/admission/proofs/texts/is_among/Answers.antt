@@ -1,12 +1,11 @@
 -- `calls::texts::is_among` meets its contract: the loop says that the texts from its node on decide.
 -- Assumes nothing.
 use mathlib.Core.Path.{sym, ◌∙◌}
-use Prim.Native.Nat.{◌-◌}
 use native.Mathlib.Omega.{arith}
 use Rattle.json_text.specs.Bytes.{is_one_of}
 use Rattle.json_text.specs.Spans.{text_at}
 use Rattle.admission.proofs.Among.{found_here, none_left, not_here, on_element}
-use Rattle.rules.proofs.Walking.{Walking, element_room, falls, starts}
+use Rattle.rules.proofs.Walking.{element_room, falls, starts}
 use Rattle.admission.proofs.texts.is_among.Goals as goal
 
 pub loop-k-init : goal.loop-k-init

@@ -1,13 +1,10 @@
 -- `calls::texts::is_among` meets its contract: the loop says that the texts from its node on decide.
 -- Assumes nothing.
 use Rattle.members.specs.Kinds.{a_text}
-use mathlib.Core.Path.{sym, ◌∙◌}
 use Prim.Native.Nat.{◌-◌}
-use native.Mathlib.Omega.{arith}
 use Rattle.json_text.specs.Bytes.{is_one_of}
 use Rattle.json_text.specs.Spans.{text_at}
-use Rattle.admission.proofs.Among.{found_here, none_left, not_here, on_element}
-use Rattle.rules.proofs.Walking.{Walking, element_room, falls, starts}
+use Rattle.rules.proofs.Walking.{Walking}
 use Rattle.admission.proofs.texts.is_among.Given as goal
 
 abbrev pub invariant-loop-k : goal.invariant-loop-k

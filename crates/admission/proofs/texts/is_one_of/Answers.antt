@@ -3,7 +3,6 @@
 use mathlib.Core.Path.{sym, ◌∙◌}
 use Rattle.members.proofs.Walks.{room}
 use Rattle.admission.proofs.Among.{alone_on_text, alone_same, behind}
-use borrow.Author.Rules.{rules}
 use Rattle.admission.proofs.texts.is_one_of.Goals as goal
 
 pub kind_at-requires : goal.kind_at-requires
