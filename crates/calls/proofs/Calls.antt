@@ -75,11 +75,11 @@ module _ (s : Bytes) (w : List ℕ) (m : Members) (sheet : Sheet Condition) (a :
           (told_no_input s w)
 
       module _ (n : ℕ) (f : m.state ≡ founds.At n) where
-        state-here : (t : Bytes) × (sheet.state ≡ some t) × Gives a_text s w n t
-        state-here = there a_text s w n f a.state
+        state_here : (t : Bytes) × (sheet.state ≡ some t) × Gives a_text s w n t
+        state_here = there a_text s w n f a.state
 
-        pub state-room : (3 * n + 3 ≤ length w) × (n < 4096)
-        state-room = room state-here.2.node
+        pub state_room : (3 * n + 3 ≤ length w) × (n < 4096)
+        state_room = room state_here.2.node
 
         module _ (x : ℕ) (e : x ≡ start_at w n) where
           pub admits : Known (Gives (an_array_of a_text) s w m.states) ×
@@ -89,18 +89,18 @@ module _ (s : Bytes) (w : List ℕ) (m : Members) (sheet : Sheet Condition) (a :
             record { given = sheet.states; known = a.states },
             record { given = sheet.outcomes; known = a.outcomes },
             subst
-                (λ (z : ℕ). OnText s z 0) (sym e) (text_given state-here.2).on_text,
+                (λ (z : ℕ). OnText s z 0) (sym e) (text_given state_here.2).on_text,
             record { given = its.0; known = its.2 },
           )
 
-          state-is : sheet.state ≡ some (text_at s x)
-          state-is = state-here.1 ∙ ap {B = Option Bytes} (λ (z : Bytes). some z) ((text_given state-here.2).bytes ∙ ap (text_at s) (sym e))
+          state_is : sheet.state ≡ some (text_at s x)
+          state_is = state_here.1 ∙ ap {B = Option Bytes} (λ (z : Bytes). some z) ((text_given state_here.2).bytes ∙ ap (text_at s) (sym e))
 
-          pub told-admission : {r : Answer} →
+          pub told_admission : {r : Answer} →
               ((ts : List Bytes) (os : List (Outcome Condition)) (o : Outcome Condition) → Gives (an_array_of a_text) s w m.states ts →
               Gives (an_array_of (an_outcome condition)) s w m.outcomes os → Gives (an_outcome condition) s w p.node o → Told s w
               (admission (admit ts os (text_at s x) (record { place = p.place; outcome = o }))) r) → Told s w (admit_call sheet place) r
-          told-admission {r} h =
+          told_admission {r} h =
               subst (λ (y : Result Verdict). Told s w y r)
-              (sym (by_parts sheet place (some (record { place = p.place; outcome = its.0 })) (some (text_at s x)) its.1 state-is))
+              (sym (by_parts sheet place (some (record { place = p.place; outcome = its.0 })) (some (text_at s x)) its.1 state_is))
               (h sheet.states sheet.outcomes its.0 a.states a.outcomes its.2)

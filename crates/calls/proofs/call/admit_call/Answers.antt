@@ -1,8 +1,7 @@
 -- `calls::call::admit_call` meets its contract: by whether there is such a place, then a state.
 -- Assumes nothing.
 use Rattle.members.proofs.Walks.{room}
-use Rattle.calls.proofs.Calls.{admits, each_outcome, state-room, told-admission, told_stateless, told_unplaced}
-use borrow.Author.Rules.{rules}
+use Rattle.calls.proofs.Calls.{admits, each_outcome, state_room, told_admission, told_stateless, told_unplaced}
 use Rattle.calls.proofs.call.admit_call.Goals as goal
 
 pub after_at-end-requires : goal.after_at-end-requires
@@ -22,7 +21,7 @@ outcome_at-requires c =
 
 pub start_at-at-requires : goal.start_at-at-requires
 start_at-at-requires c =
-    state-room c.args.s.now c.args.work.now c.args.m c.requires.given c.requires.known c.args.place _
+    state_room c.args.s.now c.args.work.now c.args.m c.requires.given c.requires.known c.args.place _
     (c.outcome_at.ensures c.args.s.now c.requires.given.outcomes
     (each_outcome c.args.s.now c.args.work.now c.args.m c.requires.given c.requires.known
     c.after_at-end.ensures)) c.in-At.p c.in-At.is
@@ -53,7 +52,7 @@ returns-in-Nothing-state c =
 
 pub returns-in-At-state : goal.returns-in-At-state
 returns-in-At-state c =
-    λ sheet a. told-admission c.args.s.now c.args.work.now c.args.m sheet a c.args.place _
+    λ sheet a. told_admission c.args.s.now c.args.work.now c.args.m sheet a c.args.place _
     (c.outcome_at.ensures c.args.s.now sheet.outcomes
     (each_outcome c.args.s.now c.args.work.now c.args.m sheet a
     c.after_at-end.ensures)) c.in-At.p c.in-At.is

@@ -2,7 +2,6 @@
 -- Assumes nothing.
 use Rattle.json_text.specs.Spans.{text_at}
 use Rattle.calls.proofs.Deciding.{admission_of, admission_refused, admits_selected}
-use borrow.Author.Rules.{rules}
 use Rattle.calls.proofs.call.admit_selected.Goals as goal
 
 pub admit-requires : goal.admit-requires

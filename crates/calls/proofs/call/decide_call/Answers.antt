@@ -6,7 +6,6 @@ use Rattle.evaluation.proofs.After.{accepted_rows}
 use Rattle.writer.specs.Meaning.{rules_of}
 use Rattle.calls.proofs.Deciding.{decides_on, decides_refused, decides_stateless}
 use Rattle.rules.proofs.Eligibility.{state_on_text, there_room}
-use borrow.Author.Rules.{rules}
 use Rattle.calls.proofs.call.decide_call.Goals as goal
 
 pub start_at-at-requires : goal.start_at-at-requires

@@ -2,7 +2,6 @@
 -- Assumes nothing.
 use Rattle.calls.proofs.Evaluating.{answered_condition, answered_no_condition, condition_known, its_truth, of_condition, told_truth}
 use Rattle.rules.proofs.Settling.{expression_room, told_no_id, told_unknown}
-use borrow.Author.Rules.{rules}
 use Rattle.calls.proofs.call.evaluate_call.Goals as goal
 
 pub evaluate_alone-requires : goal.evaluate_alone-requires

@@ -2,7 +2,6 @@
 -- Assumes nothing.
 use Rattle.writer.specs.Meaning.{rules_of}
 use Rattle.answers.specs.Decide.{invariants_call}
-use borrow.Author.Rules.{rules}
 use Rattle.calls.proofs.call.invariants_call.Goals as goal
 
 pub returns : goal.returns

@@ -2,7 +2,6 @@
 -- Assumes nothing.
 use Rattle.writer.specs.Meaning.{rules_of}
 use Rattle.answers.specs.Decide.{preconditions_call}
-use borrow.Author.Rules.{rules}
 use Rattle.calls.proofs.call.preconditions_call.Goals as goal
 
 pub returns : goal.returns

@@ -1,7 +1,6 @@
 -- `calls::call::select_call` meets its contract: by what is selected.
 -- Assumes nothing.
 use Rattle.calls.proofs.Deciding.{select_chosen, select_refused, selected_node}
-use borrow.Author.Rules.{rules}
 use Rattle.calls.proofs.call.select_call.Goals as goal
 
 pub entry-requires : goal.entry-requires

@@ -1,7 +1,6 @@
 -- `calls::select::by_truth` meets its contract: by the truth.
 -- Assumes nothing.
 use Rattle.calls.proofs.Trying.{guard_passes, guard_stops, guard_takes}
-use borrow.Author.Rules.{rules}
 use Rattle.calls.proofs.select.by_truth.Goals as goal
 
 pub returns-in-True : goal.returns-in-True

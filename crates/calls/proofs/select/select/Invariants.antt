@@ -1,11 +1,7 @@
 -- `calls::select::select` meets its contract: the loop says that the selection from its node on is the whole selection.
 -- Assumes nothing.
 use Prim.Native.Nat.{◌-◌}
-use native.Mathlib.Omega.{arith}
-use borrow.Author.Rules.{rules}
-use Rattle.members.proofs.Walks.{room}
-use Rattle.calls.proofs.Trying.{Trying, falls_after, none_left, outcome_known, refuses, room_after, takes, tries_on, trying}
-use Rattle.rules.proofs.Walking.{element_room}
+use Rattle.calls.proofs.Trying.{Trying}
 use Rattle.calls.proofs.select.select.Given as goal
 
 abbrev pub invariant-loop-k : goal.invariant-loop-k

@@ -3,7 +3,6 @@
 use Rattle.rules.proofs.Settling.{expression_room}
 use Rattle.calls.proofs.Trying.{by_judged, guard_there, no_guard, stops_expression, stops_no_id}
 use Rattle.rules.proofs.Unmarking.{still_given}
-use borrow.Author.Rules.{rules}
 use Rattle.calls.proofs.select.try_guard.Goals as goal
 
 pub evaluate_alone-requires : goal.evaluate_alone-requires

@@ -3,7 +3,6 @@
 use Rattle.members.proofs.Walks.{room}
 use Rattle.rules.proofs.Starting.{members_behind, outcome_here, outcome_members}
 use Rattle.calls.proofs.Trying.{by_its_guard, passed_over}
-use borrow.Author.Rules.{rules}
 use Rattle.calls.proofs.select.try_outcome.Goals as goal
 
 pub after_at-end-requires : goal.after_at-end-requires
