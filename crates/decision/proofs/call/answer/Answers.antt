@@ -3,7 +3,6 @@
 use Rattle.decision.proofs.Calls.{by_case}
 use Rattle.rules.proofs.Checking.{answered_over}
 use Rattle.rules.proofs.Unmarking.{marks_none}
-use borrow.Author.Rules.{rules}
 use Rattle.decision.proofs.call.answer.Goals as goal
 
 pub returns-in-Evaluate : goal.returns-in-Evaluate

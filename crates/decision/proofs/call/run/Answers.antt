@@ -1,7 +1,6 @@
 -- `decision::call::run` meets its contract: refused on opening the sheet, or answered by the call on it.
 -- Assumes nothing.
 use Rattle.decision.proofs.Entries.{called_refused, called_sheet, held_answer, opened_large, still_bounded}
-use borrow.Author.Rules.{rules}
 use Rattle.decision.proofs.call.run.Goals as goal
 
 pub answer-a-requires : goal.answer-a-requires

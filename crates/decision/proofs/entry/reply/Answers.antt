@@ -1,7 +1,6 @@
 -- `decision::entry::reply` meets its contract: the case of the number that the call gives.
 -- Assumes nothing.
 use Rattle.decision.proofs.Numbers.{ends, told_called}
-use borrow.Author.Rules.{rules}
 use Rattle.decision.proofs.entry.reply.Goals as goal
 
 pub case_of-requires : goal.case_of-requires
