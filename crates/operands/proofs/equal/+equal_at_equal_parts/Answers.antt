@@ -1,35 +1,14 @@
 -- Equality and the walk over parts meet their contracts: classes first, then part by part. What falls is the number of layers left.
 -- Assumes nothing.
-use Prim.Native.Nat.{ℕ, ◌<◌}
 use mathlib.Core.Path.{ap, sym, ◌∙◌}
 use mathlib.Core.Bool.{not}
-use Prim.Native.Nat.{ℕ, ◌<◌, ◌+◌, ◌*◌, ◌-◌}
 use Rattle.paths.specs.Comparing.{alike}
-use Rattle.paths.specs.Layered.{alike_nodes, kids, part_at}
+use Rattle.paths.specs.Layered.{part_at}
 use Rattle.members.specs.Sheet.{sheet_in}
 use Rattle.paths.specs.Stored.{frames_of, table}
-use Rattle.resolving.proofs.Alike.{
-  Comparing,
-  begin_room,
-  both_end,
-  compare_begins,
-  equal_apart,
-  equal_leaves,
-  equal_none,
-  equal_paired,
-  equal_whole,
-  first_child,
-  first_ends,
-  names_differ,
-  parts_differ,
-  parts_same,
-  second_child,
-  second_ends,
-  value_there,
-}
+use Rattle.resolving.proofs.Alike.{begin_room, both_end, compare_begins, equal_apart, equal_leaves, equal_none, equal_paired, equal_whole, first_child, first_ends, names_differ, parts_differ, parts_same, second_child, second_ends, value_there}
 use Rattle.paths.proofs.Ordered.{child_end, child_given}
 use Rattle.resolving.proofs.Slices.{layer_falls, one_less, part_falls}
-use borrow.Author.Rules.{rules}
 use native.Mathlib.Omega.{arith}
 use Rattle.operands.proofs.equal.+equal_at_equal_parts.Goals as goal
 

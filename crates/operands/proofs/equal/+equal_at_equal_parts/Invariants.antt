@@ -1,35 +1,11 @@
 -- Equality and the walk over parts meet their contracts: classes first, then part by part. What falls is the number of layers left.
 -- Assumes nothing.
-use Prim.Native.Nat.{ℕ, ◌<◌}
-use mathlib.Core.Path.{sym, ◌∙◌}
-use Prim.Native.Nat.{ℕ, ◌<◌, ◌+◌, ◌*◌, ◌-◌}
+use Prim.Native.Nat.{◌+◌, ◌*◌}
 use Rattle.paths.specs.Comparing.{alike}
 use Rattle.paths.specs.Layered.{alike_nodes, kids, part_at}
 use Rattle.members.specs.Sheet.{sheet_in}
 use Rattle.paths.specs.Stored.{frames_of, table}
-use Rattle.resolving.proofs.Alike.{
-  Comparing,
-  begin_room,
-  both_end,
-  compare_begins,
-  equal_apart,
-  equal_leaves,
-  equal_none,
-  equal_paired,
-  equal_whole,
-  first_child,
-  first_ends,
-  names_differ,
-  parts_differ,
-  parts_same,
-  second_child,
-  second_ends,
-  value_there,
-}
-use Rattle.paths.proofs.Ordered.{child_end, child_given}
-use Rattle.resolving.proofs.Slices.{layer_falls, one_less, part_falls}
-use borrow.Author.Rules.{rules}
-use native.Mathlib.Omega.{arith}
+use Rattle.resolving.proofs.Alike.{Comparing}
 use Rattle.operands.proofs.equal.+equal_at_equal_parts.Given as goal
 
 abbrev pub decreases-equal_at : goal.decreases-equal_at

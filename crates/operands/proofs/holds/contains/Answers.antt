@@ -1,6 +1,5 @@
 -- `operands::holds::contains` meets its contract: by the class of the first.
 -- Assumes nothing.
-use borrow.Author.Rules.{rules}
 use mathlib.Core.Path.{ap, sym, ◌∙◌}
 use Rattle.paths.specs.Comparing.{nesting}
 use Rattle.members.specs.Sheet.{sheet_in}

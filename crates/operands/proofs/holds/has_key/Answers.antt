@@ -1,15 +1,11 @@
 -- `operands::holds::has_key` meets its contract: the key is looked for among the names left.
 -- Assumes nothing.
 use mathlib.Core.Bool.{true}
-use Rattle.json_text.specs.Bytes.{is_one_of}
 use Rattle.json_text.specs.Spans.{text_at}
-use Rattle.paths.specs.Layered.{kids}
-use Rattle.paths.specs.Matched.{names_of}
 use Rattle.paths.specs.Stored.{table}
 use Rattle.resolving.proofs.Alike.{begin_room}
 use Rattle.paths.proofs.Ordered.{child_end, child_given, name_room, on_name}
-use Rattle.operands.proofs.Pairs.{Looking, child_named, key_here, key_none, key_on, look_begins, looked_all, looked_at, looked_here, looked_on}
-use borrow.Author.Rules.{rules}
+use Rattle.operands.proofs.Pairs.{child_named, key_here, key_none, key_on, look_begins, looked_all, looked_at, looked_here, looked_on}
 use Rattle.operands.proofs.holds.has_key.Goals as goal
 
 pub of-c-requires : goal.of-c-requires

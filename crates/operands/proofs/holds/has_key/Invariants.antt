@@ -6,10 +6,7 @@ use Rattle.json_text.specs.Spans.{text_at}
 use Rattle.paths.specs.Layered.{kids}
 use Rattle.paths.specs.Matched.{names_of}
 use Rattle.paths.specs.Stored.{table}
-use Rattle.resolving.proofs.Alike.{begin_room}
-use Rattle.paths.proofs.Ordered.{child_end, child_given, name_room, on_name}
-use Rattle.operands.proofs.Pairs.{Looking, child_named, key_here, key_none, key_on, look_begins, looked_all, looked_at, looked_here, looked_on}
-use borrow.Author.Rules.{rules}
+use Rattle.operands.proofs.Pairs.{Looking}
 use Rattle.operands.proofs.holds.has_key.Given as goal
 
 abbrev pub invariant-loop-x : goal.invariant-loop-x

@@ -1,6 +1,5 @@
 -- `operands::holds::holds` meets its contract: form by form.
 -- Assumes nothing.
-use borrow.Author.Rules.{rules}
 use mathlib.Core.Path.{ap, sym, ◌∙◌}
 use Rattle.members.specs.Answers.{form_of}
 use Rattle.paths.specs.Comparing.{nesting}

@@ -6,11 +6,7 @@ use Rattle.paths.specs.Layered.{each_node, kids, part_at}
 use Rattle.members.specs.Sheet.{sheet_in}
 use Rattle.paths.specs.Shape.{one_alike}
 use Rattle.paths.specs.Stored.{frames_of, operand_of, table}
-use Rattle.resolving.proofs.Alike.{begin_room}
-use Rattle.paths.proofs.Ordered.{child_end, child_given}
-use Rattle.operands.proofs.Pairs.{Looking, child_node, element_here, element_none, element_on, look_begins, looked_all, looked_at, looked_here, looked_on}
-use borrow.Author.Rules.{rules}
-use native.Mathlib.Omega.{arith}
+use Rattle.operands.proofs.Pairs.{Looking}
 use Rattle.operands.proofs.holds.is_element.Given as goal
 
 abbrev pub invariant-loop-x : goal.invariant-loop-x

@@ -1,6 +1,5 @@
 -- `operands::holds::two_numbers` meets its contract: by the classes, then by the order.
 -- Assumes nothing.
-use borrow.Author.Rules.{rules}
 use mathlib.Core.Path.{ap, sym, subst, ◌∙◌}
 use mathlib.Core.Bool.{Bool}
 use Rattle.number.specs.Compared.{order_of}

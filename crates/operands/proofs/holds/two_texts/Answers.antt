@@ -1,6 +1,5 @@
 -- `operands::holds::two_texts` meets its contract: by the classes, then by where the part is looked for.
 -- Assumes nothing.
-use borrow.Author.Rules.{rules}
 use mathlib.Core.Path.{sym, ◌∙◌}
 use Rattle.paths.specs.Stored.{table}
 use Rattle.operands.proofs.Pairs.{first_no_text, second_no_text, texts_found}
