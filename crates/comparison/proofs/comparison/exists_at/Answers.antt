@@ -1,6 +1,5 @@
 -- `evaluation::comparison::exists_at` meets its contract: by what its operand is, quietly.
 -- Assumes nothing.
-use borrow.Author.Rules.{rules}
 use Rattle.members.specs.Sheet.{sheet_in}
 use Rattle.paths.specs.Stored.{frames_of, table, tree}
 use Rattle.comparison.proofs.Judging.{exists_false, exists_refused, exists_true, no_id_first, unknown_first}

@@ -1,6 +1,5 @@
 -- `evaluation::comparison::pair_at` meets its contract: by what the two operands are, left before right.
 -- Assumes nothing.
-use borrow.Author.Rules.{rules}
 use mathlib.Core.Path.{◌∙◌}
 use Rattle.members.specs.Sheet.{sheet_in}
 use Rattle.paths.specs.Stored.{frames_of, table, tree}
