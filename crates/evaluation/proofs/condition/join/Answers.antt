@@ -1,6 +1,5 @@
 -- `evaluation::condition::join` meets its contract: by the mode.
 -- Assumes nothing.
-use borrow.Author.Rules.{rules}
 use Rattle.members.specs.Answers.{mode_of}
 use Rattle.evaluation.proofs.condition.join.Goals as goal
 

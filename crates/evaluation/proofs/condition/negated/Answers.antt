@@ -1,7 +1,6 @@
 -- `evaluation::condition::negated` meets its contract: by the outcome.
 -- Assumes nothing.
 use mathlib.Core.Path.{refl}
-use borrow.Author.Rules.{rules}
 use Rattle.evaluation.proofs.condition.negated.Goals as goal
 
 pub returns-in-Judged : goal.returns-in-Judged

@@ -1,6 +1,5 @@
 -- The parts of a quantifier meet their contract: each is the node of the member that its word names.
 -- Assumes nothing.
-use borrow.Author.Rules.{rules}
 use Rattle.evaluation.proofs.Quantifiers.{quantifier_members, quantifier_parts}
 use Rattle.evaluation.proofs.condition.quantifier_at.Goals as goal
 

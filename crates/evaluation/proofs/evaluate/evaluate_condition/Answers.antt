@@ -1,7 +1,6 @@
 -- `evaluation::evaluate::evaluate_condition` meets its contract: the sheet is ready, and judged is what is defined.
 -- Assumes nothing.
 use native.Mathlib.Omega.{arith}
-use borrow.Author.Rules.{rules}
 use Rattle.evaluation.proofs.After.{gives_table}
 use Rattle.evaluation.proofs.Entering.{given_here, judged_as, ready_for}
 use Rattle.evaluation.proofs.evaluate.evaluate_condition.Goals as goal

@@ -1,6 +1,5 @@
 -- `evaluation::evaluate::roots_of` meets its contract: each member by its node.
 -- Assumes nothing.
-use borrow.Author.Rules.{rules}
 use Rattle.evaluation.proofs.Entering.{same_roots}
 use Rattle.evaluation.proofs.evaluate.roots_of.Goals as goal
 
