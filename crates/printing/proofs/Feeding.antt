@@ -1,9 +1,9 @@
 -- An input that is read chunk by chunk gets the answers to its lines, however it is cut.
 -- Assumes nothing.
 use mathlib.Core.Bool.{Bool, false, true}
-use mathlib.Core.List.{[], append_assoc, append-nil, ◌++◌, ◌∷◌}
+use mathlib.Core.List.{[], append_assoc, append-nil, ◌++◌}
 use mathlib.Core.Path.{ap, refl, sym, ◌∙◌, ◌≡◌}
-use Prim.Native.Nat.{suc, ℕ, ◌<◌}
+use Prim.Native.Nat.{suc, ◌<◌}
 use native.Mathlib.Omega.{arith}
 use lib.Dec.{leb}
 use lib.ListN.{drop, length, length-take, take}
@@ -11,7 +11,7 @@ use lib.Seq.{take_all}
 use borrow.Author.Tests.{leb-false, leb-true}
 use Rattle.json_text.specs.Bytes.{Bytes}
 use Rattle.printing.proofs.Splitting.{first_line, line_goes_on, long_alike, unended_part}
-use Rattle.printing.specs.Lines.{answers, each, last_line, line_length, lines, lines_from}
+use Rattle.printing.specs.Lines.{answers, each, last_line, line_length, lines_from}
 use Rattle.printing.specs.Printed.{intake}
 use Rattle.printing.specs.Progress.{Fed, StandsFor, Unended, answer, cut, read, shorten, start}
 

@@ -22,7 +22,7 @@ use Rattle.json_text.specs.Refusal.{Result, refused, too_long, ◌>>=◌}
 use Rattle.members.specs.Condition.{Condition}
 use Rattle.members.specs.Sheet.{Sheet, checked, read_sheet}
 use Rattle.printing.proofs.Printing.{as_call, verdict_for}
-use Rattle.printing.specs.Printed.{answer_to, intake, printed, reply_for}
+use Rattle.printing.specs.Printed.{answer_to, intake, printed}
 
 long_text : (s : Bytes) → 32768 < length s → json s ≡ refused too_long
 unfolding json

@@ -3,7 +3,6 @@
 use mathlib.Core.List.{List, ◌++◌}
 use mathlib.Core.Option.{Option, some}
 use mathlib.Core.Path.{ap, sym, ◌∙◌, ◌≡◌}
-use Prim.Native.Nat.{ℕ}
 use lib.ListN.{take}
 use Rattle.arguments.specs.Asked.{ask}
 use Rattle.arguments.specs.declared.asked.Asked.{Asked}

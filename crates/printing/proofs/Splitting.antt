@@ -2,9 +2,8 @@
 -- Assumes nothing.
 use mathlib.Core.Bool.{Bool, false, true}
 use mathlib.Core.List.{[], append_assoc, append-nil, ◌++◌, ◌∷◌}
-use mathlib.Core.Path.{ap, refl, sym, ◌∙◌, ◌≡◌}
+use mathlib.Core.Path.{ap, refl, ◌∙◌, ◌≡◌}
 use Prim.Native.Nat.{suc, zero, ℕ, ◌+◌, ◌<◌, ◌≤◌}
-use native.Mathlib.Numerals.{add-one}
 use native.Mathlib.Omega.{arith}
 use lib.Dec.{eqb}
 use lib.ListN.{drop, drop_of_length-le, get_or, length, length-append, take}
@@ -14,7 +13,6 @@ use Rattle.members.proofs.Words.{here}
 use Rattle.printing.proofs.Overlong.{long_intake}
 use Rattle.printing.specs.Lines.{each, last_line, line_length, lines_from}
 use Rattle.printing.specs.Progress.{Unended}
-use Rattle.printing.specs.Printed.{intake}
 
 pub first_line : (l s rest : Bytes) → line_length s < length s → lines_from l (s ++ rest) ≡ (l ++ take (line_length s) s) ∷ lines_from [] (drop (suc (line_length s)) s ++ rest)
 unfolding lines_from line_length

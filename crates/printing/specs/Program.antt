@@ -1,7 +1,7 @@
 -- What the program prints for its arguments and the bytes of the input that they name: the answer to a call, or to each line. Where it is asked about
 -- itself, or the arguments are wrong, there is no answer.
 -- Assumes nothing.
-use Rattle.std.specs.Prelude.{List, ℕ}
+use Rattle.std.specs.Prelude.{List}
 use Rattle.std.proofs.Math.Option.{Option, none, some}
 use Rattle.arguments.specs.Asked.{ask}
 use Rattle.arguments.specs.declared.asked.Asked.{Asked}

@@ -1,7 +1,7 @@
 -- An input that is answered part by part. Bytes that were handed on and bytes that are kept stand for an input if the answers to it, however it goes
 -- on, are those handed on and then the answers to what is kept, going on in the same way.
 -- Assumes nothing.
-use Rattle.std.specs.Prelude.{false, true, List, [], ◌++◌, ◌∷◌, ◌≡◌, min, ℕ, ◌-◌, ◌<◌, ◌≤◌, drop, length, take}
+use Rattle.std.specs.Prelude.{false, true, [], ◌++◌, ◌≡◌, min, ℕ, ◌-◌, ◌<◌, ◌≤◌, drop, length, take}
 use Rattle.json_text.specs.Bytes.{Bytes}
 use Rattle.printing.specs.Lines.{answers, line_length}
 use Rattle.printing.specs.declared.lines.Progress.{Progress}

@@ -1,7 +1,6 @@
 -- `printing::lines::answer_last` meets its contract: nothing where nothing is left, or else the answer to the line.
 -- Assumes nothing.
 use Rattle.printing.proofs.Answering.{no_last, one_last}
-use borrow.Author.Rules.{rules}
 use Rattle.printing.proofs.lines.answer_last.Goals as goal
 
 pub returns-then-line-eq0 : goal.returns-then-line-eq0

@@ -1,12 +1,11 @@
 -- `printing::lines::answer_lines` meets its contract: the answers put so far stand for what was used.
 -- Assumes nothing.
-use mathlib.Core.Path.{refl, ◌∙◌, ◌≡◌}
+use mathlib.Core.Path.{refl, ◌∙◌}
 use Prim.Native.Nat.{◌+◌, ◌-◌, ◌≤◌}
 use native.Mathlib.Omega.{arith}
 use lib.ListN.{length, length-drop, length-take}
-use Rattle.printing.proofs.Answering.{Answering, all_lines, answering, full, line_inside, one_line, part_back}
+use Rattle.printing.proofs.Answering.{all_lines, answering, full, line_inside, one_line, part_back}
 use Rattle.printing.proofs.Printing.{shown_fits}
-use borrow.Author.Rules.{rules}
 use Rattle.printing.proofs.lines.answer_lines.Goals as goal
 
 pub loop-out-init : goal.loop-out-init

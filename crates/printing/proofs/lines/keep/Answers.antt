@@ -1,9 +1,7 @@
 -- `printing::lines::keep` meets its contract: what was moved stands at the start.
 -- Assumes nothing.
-use Prim.Native.Nat.{◌-◌}
 use native.Mathlib.Omega.{arith}
-use Rattle.printing.proofs.Keeping.{Moving, kept, moved_size, moves, moving}
-use borrow.Author.Rules.{rules}
+use Rattle.printing.proofs.Keeping.{kept, moved_size, moves, moving}
 use Rattle.printing.proofs.lines.keep.Goals as goal
 
 pub overflow_sub-end : goal.overflow_sub-end

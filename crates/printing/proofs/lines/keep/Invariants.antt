@@ -1,9 +1,7 @@
 -- `printing::lines::keep` meets its contract: what was moved stands at the start.
 -- Assumes nothing.
 use Prim.Native.Nat.{◌-◌}
-use native.Mathlib.Omega.{arith}
-use Rattle.printing.proofs.Keeping.{Moving, kept, moved_size, moves, moving}
-use borrow.Author.Rules.{rules}
+use Rattle.printing.proofs.Keeping.{Moving}
 use Rattle.printing.proofs.lines.keep.Given as goal
 
 abbrev pub invariant-loop-i : goal.invariant-loop-i

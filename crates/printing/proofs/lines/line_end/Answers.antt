@@ -1,10 +1,7 @@
 -- `printing::lines::line_end` meets its contract: what was passed has no LF.
 -- Assumes nothing.
 use mathlib.Core.Path.{refl}
-use Prim.Native.Nat.{◌-◌}
-use lib.ListN.{length}
-use Rattle.printing.proofs.Splitting.{Passed, ends_here, never_ends, passes}
-use borrow.Author.Rules.{rules}
+use Rattle.printing.proofs.Splitting.{ends_here, never_ends, passes}
 use Rattle.printing.proofs.lines.line_end.Goals as goal
 
 pub loop-at-init : goal.loop-at-init

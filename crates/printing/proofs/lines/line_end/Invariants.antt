@@ -1,10 +1,8 @@
 -- `printing::lines::line_end` meets its contract: what was passed has no LF.
 -- Assumes nothing.
-use mathlib.Core.Path.{refl}
 use Prim.Native.Nat.{◌-◌}
 use lib.ListN.{length}
-use Rattle.printing.proofs.Splitting.{Passed, ends_here, never_ends, passes}
-use borrow.Author.Rules.{rules}
+use Rattle.printing.proofs.Splitting.{Passed}
 use Rattle.printing.proofs.lines.line_end.Given as goal
 
 abbrev pub invariant-loop-at : goal.invariant-loop-at

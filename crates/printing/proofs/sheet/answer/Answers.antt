@@ -2,7 +2,6 @@
 -- Assumes nothing.
 use mathlib.Core.Path.{sym, ◌∙◌}
 use Rattle.printing.proofs.Printing.{as_answer, no_line_lem, with_line, with_number}
-use borrow.Author.Rules.{rules}
 use Rattle.printing.proofs.sheet.answer.Goals as goal
 
 pub returns-then-size-eq0 : goal.returns-then-size-eq0

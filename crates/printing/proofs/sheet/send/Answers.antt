@@ -1,6 +1,5 @@
 -- `printing::sheet::send` meets its contract: by the call.
 -- Assumes nothing.
-use borrow.Author.Rules.{rules}
 use Rattle.printing.proofs.sheet.send.Goals as goal
 
 pub returns-in-Evaluate : goal.returns-in-Evaluate
