@@ -3,25 +3,22 @@
 #![tactic(auto)]
 
 use decision::sent::evaluate;
-use libc::STDOUT_FILENO;
 use records::{behind, find, is_line, more, whole};
-use std::num::wrapping_add_u64;
+use std::io::Read;
 
 // Whether the sheet's condition is answered with the record's line.
 fn agrees(text: &[u8]) -> bool {
     let mut work = [0u32; 16384];
-    let mut out = io::large_buffer();
+    let mut out = [0u8; 65536];
     let stop = find(text, 0, b'\t');
     let from = behind(text, stop);
     let sent = evaluate(&text[..stop], &mut work, &mut out);
     is_line(&out, sent.size, &text[from..])
 }
 
-// Names a record by its line in the list.
-fn report(place: u64) {
-    io::write_all(STDOUT_FILENO, b"record ");
-    io::print_decimal(STDOUT_FILENO, place);
-    io::write_all(STDOUT_FILENO, b" differs\n");
+// Names a record by its line in the list. A write that fails is passed over.
+fn report(rt: &impl Print, place: u64) {
+    let _ = println!(rt; "record {place} differs");
 }
 
 // How many records ran, and how many of them differ.
@@ -31,8 +28,8 @@ struct Tally {
     differ: u64,
 }
 
-fn counted(before: Tally, agrees: bool) -> Tally {
-    let ran = wrapping_add_u64(before.ran, 1);
+fn counted(rt: &impl Print, before: Tally, agrees: bool) -> Tally {
+    let ran = before.ran.wrapping_add(1);
     if agrees {
         return Tally {
             ran: ran,
@@ -40,36 +37,36 @@ fn counted(before: Tally, agrees: bool) -> Tally {
         };
     }
     if before.differ < 20 {
-        report(ran);
+        report(rt, ran);
     }
     Tally {
         ran: ran,
-        differ: wrapping_add_u64(before.differ, 1),
+        differ: before.differ.wrapping_add(1),
     }
 }
 
 // Runs records, and names the first 20 that differ.
-fn run_all(list: &[u8], before: Tally) -> Tally {
+fn run_all(rt: &impl Print, list: &[u8], before: Tally) -> Tally {
     let mut all = before;
     let mut at = 0;
     while at < list.len() {
         let stop = find(list, at, b'\n');
         let good = agrees(&list[at..stop]);
-        all = counted(all, good);
+        all = counted(rt, all, good);
         at = behind(list, stop);
     }
     all
 }
 
 // Runs the list on standard input, in parts as long as the buffer.
-fn run(list: &mut [u8]) -> Tally {
+fn run<R: Read>(rt: &impl Print, input: &mut R, list: &mut [u8]) -> Tally {
     let mut all = Tally { ran: 0, differ: 0 };
-    let mut n = more(list, 0, 0);
+    let mut n = more(input, list, 0, 0);
     let mut parts: usize = 1000;
     while 0 < parts {
         let used = whole(list, n);
-        all = run_all(&list[..used], all);
-        n = more(list, used, n);
+        all = run_all(rt, &list[..used], all);
+        n = more(input, list, used, n);
         if n == 0 {
             return all;
         }
@@ -78,11 +75,10 @@ fn run(list: &mut [u8]) -> Tally {
     all
 }
 
-fn main() {
+fn main(rt: HostRuntime) {
     let mut list = [0u8; 262144];
-    let all = run(&mut list);
-    io::print_decimal(STDOUT_FILENO, all.ran);
-    io::write_all(STDOUT_FILENO, b" records, ");
-    io::print_decimal(STDOUT_FILENO, all.differ);
-    io::write_all(STDOUT_FILENO, b" differ\n");
+    let all = run(&rt, &mut rt.stdin(), &mut list);
+    let ran = all.ran;
+    let differ = all.differ;
+    let _ = println!(rt; "{ran} records, {differ} differ");
 }
