@@ -7,9 +7,8 @@ ghost use Rattle.std.specs.Prelude.{◌<◌, ◌≤◌, length};
 use decision::sent::{
     admit_state, check_invariants, check_preconditions, decide, evaluate, select_outcome,
 };
-use libc::STDOUT_FILENO;
 use records::{behind, end, find, is_line, more, number, start, whole};
-use std::num::wrapping_add_u64;
+use std::io::Read;
 use writer::answer::Sent;
 
 // What stands in the output and in the work table before a call.
@@ -206,28 +205,26 @@ fn compared(text: &[u8], sheet: &[u8], work: &mut [u32], out: &mut [u8]) -> Diff
 
 // Runs a record, and answers what differs.
 fn run(text: &[u8]) -> Difference {
-    let mut sheet = io::large_buffer();
+    let mut sheet = [0u8; 65536];
     let mut work = [WORD; 20480];
     let mut out = [BYTE; 65536];
     let n = sheet_of(text, &mut sheet);
     compared(text, &sheet[..n], &mut work, &mut out)
 }
 
-// Names a record, by its line in the list, and what differs.
-fn report(place: u64, what: &[u8]) {
-    io::write_all(STDOUT_FILENO, b"record ");
-    io::print_decimal(STDOUT_FILENO, place);
-    io::write_all(STDOUT_FILENO, what);
+// Names a record, by its line in the list, and what differs. A write that fails is passed over.
+fn report(rt: &impl Print, place: u64, what: &str) {
+    let _ = println!(rt; "record {place}: {what}");
 }
 
-fn report_difference(place: u64, what: Difference) {
+fn report_difference(rt: &impl Print, place: u64, what: Difference) {
     match what {
         Difference::Nothing => {}
-        Difference::Number => report(place, b": the number differs\n"),
-        Difference::Line => report(place, b": the line differs\n"),
-        Difference::Output => report(place, b": the output past the line differs\n"),
-        Difference::Work => report(place, b": the work table differs\n"),
-        Difference::NoRecord => report(place, b": no record\n"),
+        Difference::Number => report(rt, place, "the number differs"),
+        Difference::Line => report(rt, place, "the line differs"),
+        Difference::Output => report(rt, place, "the output past the line differs"),
+        Difference::Work => report(rt, place, "the work table differs"),
+        Difference::NoRecord => report(rt, place, "no record"),
     }
 }
 
@@ -238,8 +235,8 @@ struct Tally {
     differ: u64,
 }
 
-fn counted(before: Tally, what: Difference) -> Tally {
-    let ran = wrapping_add_u64(before.ran, 1);
+fn counted(rt: &impl Print, before: Tally, what: Difference) -> Tally {
+    let ran = before.ran.wrapping_add(1);
     if let Difference::Nothing = what {
         return Tally {
             ran: ran,
@@ -247,36 +244,36 @@ fn counted(before: Tally, what: Difference) -> Tally {
         };
     }
     if before.differ < 20 {
-        report_difference(ran, what);
+        report_difference(rt, ran, what);
     }
     Tally {
         ran: ran,
-        differ: wrapping_add_u64(before.differ, 1),
+        differ: before.differ.wrapping_add(1),
     }
 }
 
 // Runs records, and names the first 20 that differ.
-fn run_all(list: &[u8], before: Tally) -> Tally {
+fn run_all(rt: &impl Print, list: &[u8], before: Tally) -> Tally {
     let mut all = before;
     let mut at = 0;
     while at < list.len() {
         let stop = find(list, at, b'\n');
         let what = run(&list[at..stop]);
-        all = counted(all, what);
+        all = counted(rt, all, what);
         at = behind(list, stop);
     }
     all
 }
 
 // Runs the list on standard input, in parts as long as the buffer.
-fn replay(list: &mut [u8]) -> Tally {
+fn replay<R: Read>(rt: &impl Print, input: &mut R, list: &mut [u8]) -> Tally {
     let mut all = Tally { ran: 0, differ: 0 };
-    let mut n = more(list, 0, 0);
+    let mut n = more(input, list, 0, 0);
     let mut parts: usize = 1000;
     while 0 < parts {
         let used = whole(list, n);
-        all = run_all(&list[..used], all);
-        n = more(list, used, n);
+        all = run_all(rt, &list[..used], all);
+        n = more(input, list, used, n);
         if n == 0 {
             return all;
         }
@@ -285,11 +282,10 @@ fn replay(list: &mut [u8]) -> Tally {
     all
 }
 
-fn main() {
+fn main(rt: HostRuntime) {
     let mut list = [0u8; 262144];
-    let all = replay(&mut list);
-    io::print_decimal(STDOUT_FILENO, all.ran);
-    io::write_all(STDOUT_FILENO, b" records, ");
-    io::print_decimal(STDOUT_FILENO, all.differ);
-    io::write_all(STDOUT_FILENO, b" differ\n");
+    let all = replay(&rt, &mut rt.stdin(), &mut list);
+    let ran = all.ran;
+    let differ = all.differ;
+    let _ = println!(rt; "{ran} records, {differ} differ");
 }
