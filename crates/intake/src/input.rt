@@ -1,36 +1,42 @@
 // Reading, such that a read that fails is told from the end of the input.
 ghost use Rattle.std.specs.Prelude.{◌≤◌, length};
 
-// How many bytes stand at the start of the buffer, and whether a read has failed.
+use std::io::{Error, Read};
+
+// How many bytes stand at the start of the buffer, and why a read has failed, if one has.
 #[derive(Clone, Copy)]
 pub struct Got {
     pub bytes: usize,
-    pub failed: bool,
+    pub failed: Option<Error>,
 }
 
 // One read: no bytes at the end of the input.
-pub fn read_some(fd: i32, buf: &mut [u8]) -> Got
+pub fn read_some<R: Read>(input: &mut R, buf: &mut [u8]) -> Got
     ensures { result.bytes ≤ length buf.new }
 {
-    let got = libc::read(fd, buf);
-    let n = io::count(got, buf);
-    Got {
-        bytes: n,
-        failed: got < 0,
+    match input.read(buf) {
+        Ok(n) => Got {
+            bytes: n,
+            failed: None,
+        },
+        Err(error) => Got {
+            bytes: 0,
+            failed: Some(error),
+        },
     }
 }
 
 // Reads until the buffer is full or the input ends.
-pub fn read_all(fd: i32, buf: &mut [u8]) -> Got
+pub fn read_all<R: Read>(input: &mut R, buf: &mut [u8]) -> Got
     ensures { result.bytes ≤ length buf.new }
 {
     let mut done = 0;
     while done < buf.len() {
-        let got = read_some(fd, &mut buf[done..]);
-        if got.failed {
+        let got = read_some(input, &mut buf[done..]);
+        if got.failed.is_some() {
             return Got {
                 bytes: 0,
-                failed: true,
+                failed: got.failed,
             };
         }
         let n = got.bytes;
@@ -41,6 +47,6 @@ pub fn read_all(fd: i32, buf: &mut [u8]) -> Got
     }
     Got {
         bytes: done,
-        failed: false,
+        failed: None,
     }
 }

@@ -1,4 +1,4 @@
-// The program: what its arguments ask, of a file or of standard input. The language has no exit status: what went wrong is said on standard error, and then
+// The program: what its arguments ask, of a file or of standard input. It has no exit status: what went wrong is said on standard error, and then
 // no further line stands on standard output.
 #![tactic(auto)]
 
@@ -9,29 +9,18 @@ mod said;
 
 use arguments::asked::read;
 use run::run;
-use said::complain;
+use said::{argument, complain, count};
 
-// How many arguments stand behind the program's name.
-fn count() -> usize {
-    let all = os::arg_count();
-    if all == 0 {
-        return 0;
-    }
-    all - 1
-}
-
-fn main() {
-    let mut first = io::buffer();
-    let a = os::arg(1, &mut first);
-    if os::errno() == libc::ENAMETOOLONG {
-        complain(b"the first argument", b"too long");
+fn main(rt: HostRuntime) {
+    let mut first = [0u8; 4096];
+    let Some(a) = argument(&rt, 0, &mut first) else {
+        complain(&rt, b"the first argument", b"too long");
         return;
-    }
-    let mut second = io::buffer();
-    let b = os::arg(2, &mut second);
-    if os::errno() == libc::ENAMETOOLONG {
-        complain(b"the second argument", b"too long");
+    };
+    let mut second = [0u8; 4096];
+    let Some(b) = argument(&rt, 1, &mut second) else {
+        complain(&rt, b"the second argument", b"too long");
         return;
-    }
-    run(read(count(), &first[..a], &second[..b]));
+    };
+    run(&rt, read(count(&rt), &first[..a], &second[..b]));
 }
