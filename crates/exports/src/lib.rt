@@ -1,4 +1,4 @@
-// The calls for C and Rust, in a static library (include/intake.h). A slice crosses as a pointer and a length.
+// The calls for C and Rust (include/intake.h). The crate exports_c gives them to C.
 #![tactic(auto)]
 
 ghost use Rattle.std.specs.Prelude.{◌≡◌, ◌<◌, ◌≤◌, length};
@@ -22,56 +22,49 @@ fn word_of(sent: Sent) -> u64
 }
 
 // The truth of the sheet's condition, with its names.
-#[unsafe(no_mangle)]
-pub extern "C" fn intake_evaluate(sheet: &[u8], work: &mut [u32], out: &mut [u8]) -> u64
+pub fn intake_evaluate(sheet: &[u8], work: &mut [u32], out: &mut [u8]) -> u64
     ensures { Exported (evaluate sheet.now (length work.old) (length out.old)) work.old work.new out.old out.new result }
 {
     word_of(evaluate(sheet, work, out))
 }
 
 // Whether the preconditions hold.
-#[unsafe(no_mangle)]
-pub extern "C" fn intake_preconditions(sheet: &[u8], work: &mut [u32], out: &mut [u8]) -> u64
+pub fn intake_preconditions(sheet: &[u8], work: &mut [u32], out: &mut [u8]) -> u64
     ensures { Exported (check_preconditions sheet.now (length work.old) (length out.old)) work.old work.new out.old out.new result }
 {
     word_of(check_preconditions(sheet, work, out))
 }
 
 // Whether the invariants hold.
-#[unsafe(no_mangle)]
-pub extern "C" fn intake_invariants(sheet: &[u8], work: &mut [u32], out: &mut [u8]) -> u64
+pub fn intake_invariants(sheet: &[u8], work: &mut [u32], out: &mut [u8]) -> u64
     ensures { Exported (check_invariants sheet.now (length work.old) (length out.old)) work.old work.new out.old out.new result }
 {
     word_of(check_invariants(sheet, work, out))
 }
 
 // The first eligible outcome whose guard holds.
-#[unsafe(no_mangle)]
-pub extern "C" fn intake_select(sheet: &[u8], work: &mut [u32], out: &mut [u8]) -> u64
+pub fn intake_select(sheet: &[u8], work: &mut [u32], out: &mut [u8]) -> u64
     ensures { Exported (select sheet.now (length work.old) (length out.old)) work.old work.new out.old out.new result }
 {
     word_of(select_outcome(sheet, work, out))
 }
 
 // Whether the outcome at a place is kept in the sheet's state.
-#[unsafe(no_mangle)]
-pub extern "C" fn intake_admit(place: u64, sheet: &[u8], work: &mut [u32], out: &mut [u8]) -> u64
+pub fn intake_admit(place: u64, sheet: &[u8], work: &mut [u32], out: &mut [u8]) -> u64
     ensures { Exported (admit place sheet.now (length work.old) (length out.old)) work.old work.new out.old out.new result }
 {
     word_of(admit_state(sheet, work, out, place as usize))
 }
 
 // The whole decision: preconditions, selection, admission.
-#[unsafe(no_mangle)]
-pub extern "C" fn intake_decide(sheet: &[u8], work: &mut [u32], out: &mut [u8]) -> u64
+pub fn intake_decide(sheet: &[u8], work: &mut [u32], out: &mut [u8]) -> u64
     ensures { Exported (decide sheet.now (length work.old) (length out.old)) work.old work.new out.old out.new result }
 {
     word_of(decide(sheet, work, out))
 }
 
 // The library's version.
-#[unsafe(no_mangle)]
-pub extern "C" fn intake_version() -> u32
+pub fn intake_version() -> u32
     ensures { result ≡ version }
 {
     100

@@ -1,0 +1,63 @@
+// The static library for C and Rust (include/intake.h): the calls of exports under the names that C links. A slice crosses as a pointer and a length.
+#![tactic(auto)]
+
+ghost use Rattle.std.specs.Prelude.{◌≡◌, length};
+ghost use Rattle.answers.specs.Entry.{admit, check_invariants, check_preconditions, decide, evaluate, select};
+ghost use Rattle.exports.specs.Exported.{Exported};
+ghost use Rattle.exports.specs.Version.{version};
+
+// The truth of the sheet's condition, with its names.
+#[unsafe(no_mangle)]
+pub extern "C" fn intake_evaluate(sheet: &[u8], work: &mut [u32], out: &mut [u8]) -> u64
+    ensures { Exported (evaluate sheet.now (length work.old) (length out.old)) work.old work.new out.old out.new result }
+{
+    exports::intake_evaluate(sheet, work, out)
+}
+
+// Whether the preconditions hold.
+#[unsafe(no_mangle)]
+pub extern "C" fn intake_preconditions(sheet: &[u8], work: &mut [u32], out: &mut [u8]) -> u64
+    ensures { Exported (check_preconditions sheet.now (length work.old) (length out.old)) work.old work.new out.old out.new result }
+{
+    exports::intake_preconditions(sheet, work, out)
+}
+
+// Whether the invariants hold.
+#[unsafe(no_mangle)]
+pub extern "C" fn intake_invariants(sheet: &[u8], work: &mut [u32], out: &mut [u8]) -> u64
+    ensures { Exported (check_invariants sheet.now (length work.old) (length out.old)) work.old work.new out.old out.new result }
+{
+    exports::intake_invariants(sheet, work, out)
+}
+
+// The first eligible outcome whose guard holds.
+#[unsafe(no_mangle)]
+pub extern "C" fn intake_select(sheet: &[u8], work: &mut [u32], out: &mut [u8]) -> u64
+    ensures { Exported (select sheet.now (length work.old) (length out.old)) work.old work.new out.old out.new result }
+{
+    exports::intake_select(sheet, work, out)
+}
+
+// Whether the outcome at a place is kept in the sheet's state.
+#[unsafe(no_mangle)]
+pub extern "C" fn intake_admit(place: u64, sheet: &[u8], work: &mut [u32], out: &mut [u8]) -> u64
+    ensures { Exported (admit place sheet.now (length work.old) (length out.old)) work.old work.new out.old out.new result }
+{
+    exports::intake_admit(place, sheet, work, out)
+}
+
+// The whole decision: preconditions, selection, admission.
+#[unsafe(no_mangle)]
+pub extern "C" fn intake_decide(sheet: &[u8], work: &mut [u32], out: &mut [u8]) -> u64
+    ensures { Exported (decide sheet.now (length work.old) (length out.old)) work.old work.new out.old out.new result }
+{
+    exports::intake_decide(sheet, work, out)
+}
+
+// The library's version.
+#[unsafe(no_mangle)]
+pub extern "C" fn intake_version() -> u32
+    ensures { result ≡ version }
+{
+    exports::intake_version()
+}
