@@ -2,7 +2,7 @@
 -- Assumes nothing.
 use mathlib.Core.Path.{sym, ◌∙◌}
 use Rattle.printing.proofs.Printing.{as_answer, no_line_lem, with_line, with_number}
-use Rattle.printing.proofs.sheet.answer.Goals as goal
+use Rattle.printing.proofs.call.answer.Goals as goal
 
 pub returns-then-size-eq0 : goal.returns-then-size-eq0
 returns-then-size-eq0 c =

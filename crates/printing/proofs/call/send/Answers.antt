@@ -1,6 +1,6 @@
 -- `printing::sheet::send` meets its contract: by the call.
 -- Assumes nothing.
-use Rattle.printing.proofs.sheet.send.Goals as goal
+use Rattle.printing.proofs.call.send.Goals as goal
 
 pub returns-in-Evaluate : goal.returns-in-Evaluate
 returns-in-Evaluate c =
