@@ -1,4 +1,4 @@
--- `printing::sheet::answer` meets its contract: the line that the call has written, or the number where it has written none.
+-- `printing::call::answer` meets its contract: the line that the call has written, or the number where it has written none.
 -- Assumes nothing.
 use mathlib.Core.Path.{sym, ◌∙◌}
 use Rattle.printing.proofs.Printing.{as_answer, no_line_lem, with_line, with_number}

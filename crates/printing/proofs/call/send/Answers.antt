@@ -1,4 +1,4 @@
--- `printing::sheet::send` meets its contract: by the call.
+-- `printing::call::send` meets its contract: by the call.
 -- Assumes nothing.
 use Rattle.printing.proofs.call.send.Goals as goal
 
