@@ -107,7 +107,9 @@ effect_nine v = go (as_text v)
               (an_object v >>= (λ ms. only (ascii "moves" ∷ []) (keys ms) >>= (λ _. required a_move (ascii "moves") ms)))
         ])
     go (some s) = else (find s effect_words)
-    go none = bind (an_object v) _ (object_nine v) (λ ms. bind (only (ascii "moves" ∷ []) (keys ms)) _ (only_nine (ascii "moves" ∷ []) (keys ms)) (λ _. required_nine a_move move_nine (ascii "moves") ms))
+    go none =
+        bind (an_object v) _ (object_nine v)
+        (λ ms. bind (only (ascii "moves" ∷ []) (keys ms)) _ (only_nine (ascii "moves" ∷ []) (keys ms)) (λ _. required_nine a_move move_nine (ascii "moves") ms))
 
 rule_nine : (v : Value) → OnlyNine (a_rule not_null v)
 unfolding a_rule

@@ -10,8 +10,66 @@ use Rattle.resolving.proofs.Slices.{node_room}
 use Rattle.paths.proofs.Trees.{text_row}
 use Rattle.members.specs.Sheet.{sheet_in}
 use Rattle.paths.specs.Stored.{frames_of, table}
-use Rattle.evaluation.proofs.Junctions.{a_junction, a_negation, a_pair, child, child_below, child_falls, child_shallow, collect_begin, collect_end, collect_less, collect_long, collect_no_id, collect_on, collect_one, collect_unknown, element_falls, inner_falls, inner_node, inner_shallow, judged_exists, judged_false, judged_junction, judged_negation, judged_pair, judged_quantifier, judged_true, known_quantifier, operands_shallow, the_member}
-use Rattle.evaluation.proofs.Quantifiers.{body_known, body_shallow, body_under, each_falls, each_holds, each_unknown, over_fits, part_falls, part_small, pushed, quantify_each, quantify_falls, quantify_long, quantify_missing, quantify_no_id, quantify_unknown, turn_begin, turn_below, turn_end, turn_given, turn_gives, turn_long, turn_no_id, turn_node, turn_on, turn_settled, turn_unknown}
+use Rattle.evaluation.proofs.Junctions.{
+  a_junction,
+  a_negation,
+  a_pair,
+  child,
+  child_below,
+  child_falls,
+  child_shallow,
+  collect_begin,
+  collect_end,
+  collect_less,
+  collect_long,
+  collect_no_id,
+  collect_on,
+  collect_one,
+  collect_unknown,
+  element_falls,
+  inner_falls,
+  inner_node,
+  inner_shallow,
+  judged_exists,
+  judged_false,
+  judged_junction,
+  judged_negation,
+  judged_pair,
+  judged_quantifier,
+  judged_true,
+  known_quantifier,
+  operands_shallow,
+  the_member,
+}
+use Rattle.evaluation.proofs.Quantifiers.{
+  body_known,
+  body_shallow,
+  body_under,
+  each_falls,
+  each_holds,
+  each_unknown,
+  over_fits,
+  part_falls,
+  part_small,
+  pushed,
+  quantify_each,
+  quantify_falls,
+  quantify_long,
+  quantify_missing,
+  quantify_no_id,
+  quantify_unknown,
+  turn_begin,
+  turn_below,
+  turn_end,
+  turn_given,
+  turn_gives,
+  turn_long,
+  turn_no_id,
+  turn_node,
+  turn_on,
+  turn_settled,
+  turn_unknown,
+}
 use Rattle.evaluation.proofs.condition.+each_evaluate_junction_quantify_with_part.Goals as goal
 
 pub each-returns-then-class-lt5 : goal.each-returns-then-class-lt5

@@ -6,7 +6,24 @@ use Rattle.paths.specs.Comparing.{alike}
 use Rattle.paths.specs.Layered.{part_at}
 use Rattle.members.specs.Sheet.{sheet_in}
 use Rattle.paths.specs.Stored.{frames_of, table}
-use Rattle.resolving.proofs.Alike.{begin_room, both_end, compare_begins, equal_apart, equal_leaves, equal_none, equal_paired, equal_whole, first_child, first_ends, names_differ, parts_differ, parts_same, second_child, second_ends, value_there}
+use Rattle.resolving.proofs.Alike.{
+  begin_room,
+  both_end,
+  compare_begins,
+  equal_apart,
+  equal_leaves,
+  equal_none,
+  equal_paired,
+  equal_whole,
+  first_child,
+  first_ends,
+  names_differ,
+  parts_differ,
+  parts_same,
+  second_child,
+  second_ends,
+  value_there,
+}
 use Rattle.paths.proofs.Ordered.{child_end, child_given}
 use Rattle.resolving.proofs.Slices.{layer_falls, one_less, part_falls}
 use native.Mathlib.Omega.{arith}

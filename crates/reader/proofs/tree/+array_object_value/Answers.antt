@@ -11,7 +11,25 @@ use Rattle.leaves.specs.declared.bracket.Sep.TheVariants as seps
 use Rattle.reader.proofs.ArrayLoop.{array_end, array_here, array_laid, array_long, array_neither, array_on, array_past, array_refused, array_starts, array_turn, reach_falls, was_bad, was_done}
 use Rattle.leaves.proofs.Loops.{array_full, object_full}
 use Rattle.leaves.proofs.MemberName.{byte_inside}
-use Rattle.reader.proofs.ObjectLoop.{name_was_bad, name_was, object_end, object_here, object_laid, object_long, object_members, object_name_bad, object_neither, object_noted, object_on, object_past, object_starts, object_turn, object_value_bad, object_value_here, object_value_long}
+use Rattle.reader.proofs.ObjectLoop.{
+  name_was_bad,
+  name_was,
+  object_end,
+  object_here,
+  object_laid,
+  object_long,
+  object_members,
+  object_name_bad,
+  object_neither,
+  object_noted,
+  object_on,
+  object_past,
+  object_starts,
+  object_turn,
+  object_value_bad,
+  object_value_here,
+  object_value_long,
+}
 use Rattle.leaves.proofs.Values.{told_bad, value_array, value_leaf, value_object}
 use Rattle.reader.proofs.tree.+array_object_value.Goals as goal
 
