@@ -264,8 +264,8 @@ module _ (old new : Sheet Condition) (same : SameRules old new) where
         old_select : decide_call old ≡ (select old 0 old.outcomes >>= admitted_from old.states old.outcomes x)
         old_select = old_parts (some x) st ∙ passed_rules old x _ _ _ pass
 
-        at-guard : GuardRefused (Erased old new) (select old 0 old.outcomes) (select new 0 old.outcomes) → RefusedAgain old new
-        at-guard r =
+        at_guard_lem : GuardRefused (Erased old new) (select old 0 old.outcomes) (select new 0 old.outcomes) → RefusedAgain old new
+        at_guard_lem r =
             record {
               refusal = _;
               step = guard r.place;
@@ -287,17 +287,17 @@ module _ (old new : Sheet Condition) (same : SameRules old new) where
             by (inl l) = inl (vanished_named r.names l)
             by (inr l) = inr (_, l.0, old_select ∙ ap (λ (y : Result Placed). y >>= admitted_from old.states old.outcomes x) l.1, at_guard)
 
-        by-guards : (select new 0 old.outcomes ≡ select old 0 old.outcomes) ⊎
+        by_guards : (select new 0 old.outcomes ≡ select old 0 old.outcomes) ⊎
             GuardRefused (Erased old new) (select old 0 old.outcomes) (select new 0 old.outcomes) →
             (decide_call new ≡ decide_call old) ⊎ RefusedAgain old new
-        by-guards (inl e) = inl (new_select ∙ ap (λ (y : Result Placed). y >>= admitted_from old.states old.outcomes x) e ∙ sym old_select)
-        by-guards (inr r) = inr (at-guard r)
+        by_guards (inl e) = inl (new_select ∙ ap (λ (y : Result Placed). y >>= admitted_from old.states old.outcomes x) e ∙ sym old_select)
+        by_guards (inr r) = inr (at_guard_lem r)
 
       by_rules : RuleShape 0 (check old preconditions 0 old.preconditions) →
           (check new preconditions 0 old.preconditions ≡ check old preconditions 0 old.preconditions) ⊎
           RuleRefused (Erased old new) (check old preconditions 0 old.preconditions) (check new preconditions 0 old.preconditions) →
           (decide_call new ≡ decide_call old) ⊎ RefusedAgain old new
-      by_rules (inl p) (inl e) = by-guards p (e ∙ p) G.later
+      by_rules (inl p) (inl e) = by_guards p (e ∙ p) G.later
       by_rules (inr t) (inl e) = inl (new_parts (some x) st ∙ refused_rules new x _ _ _ t.0 (e ∙ t.2) ∙ sym (old_parts (some x) st ∙ refused_rules old x _ _ _ t.0 t.2))
       by_rules p (inr r) = inr (at_rule_lem r)
 

@@ -59,7 +59,7 @@ use Rattle.paths.specs.declared.children.Children.{Children}
 use Rattle.paths.specs.declared.children.Next.{Next}
 use Rattle.paths.specs.declared.frames.Frames.{Frames}
 use Rattle.paths.specs.declared.operand.Operand.{Operand}
-use Rattle.paths.specs.declared.operand.Resolved as code-resolved
+use Rattle.paths.specs.declared.operand.Resolved as code_resolved
 use Rattle.paths.specs.declared.operand.Resolved.TheVariants as answers
 use Rattle.paths.specs.declared.roots.Roots.{Roots}
 use Rattle.comparison.specs.Answers.{EvaluatedAs, Marks, outcome_of}
@@ -416,11 +416,11 @@ module _ {s : Bytes} {w₀ : List ℕ} {sheet : Sheet Condition} {f : Frames} {m
         first : body (part k) ≡ ok now
         first = sym (ap (outcome_of s (table w₀) a.names) (sym e) ∙ answered)
 
-        left-now : Left s w₀ w' (g.names ++ a.names)
-        left-now = subst (λ (ns : Names). Left s w₀ w' (g.names ++ ns)) (subst (Marks s (table w₀) a.names a.met) e marked) (left_then g.left a.left)
+        left_now : Left s w₀ w' (g.names ++ a.names)
+        left_now = subst (λ (ns : Names). Left s w₀ w' (g.names ++ ns)) (subst (Marks s (table w₀) a.names a.met) e marked) (left_then g.left a.left)
 
-        answer-is : joined m so_far now ≡ record { truth = truth_of t'; names = g.names ++ a.names }
-        answer-is = ap (λ (y : Truth). record { truth = y; names = g.names ++ a.names }) (sym is_join)
+        answer_is : joined m so_far now ≡ record { truth = truth_of t'; names = g.names ++ a.names }
+        answer_is = ap (λ (y : Truth). record { truth = y; names = g.names ++ a.names }) (sym is_join)
 
         pub turn_settled : b ≡ true → EachAs s w₀ w' sheet f m name node o (outcomes.Judged t')
         turn_settled q =
@@ -429,8 +429,8 @@ module _ {s : Bytes} {w₀ : List ℕ} {sheet : Sheet Condition} {f : Frames} {m
               names = g.names ++ a.names;
               met = g.names ++ a.names;
               means = sym
-                  (turn (first_settles m body (part k) _ now first (sym is_settled ∙ q)) ∙ ap {B = Result Answer} (λ y. ok y) answer-is);
-              left = left-now;
+                  (turn (first_settles m body (part k) _ now first (sym is_settled ∙ q)) ∙ ap {B = Result Answer} (λ y. ok y) answer_is);
+              left = left_now;
               marks = refl;
             })
 
@@ -439,10 +439,10 @@ module _ {s : Bytes} {w₀ : List ℕ} {sheet : Sheet Condition} {f : Frames} {m
           that = g.that;
           gives = g.gives;
           names = g.names ++ a.names;
-          left = left-now;
+          left = left_now;
           walk = x.walk;
           over = x.same ∙ g.over;
-          rest = turn (first_joins m body (part k) _ now first (sym is_settled ∙ q)) ∙ joining_twice m so_far now others ∙ ap (λ (y : Answer). Joining m y others) answer-is;
+          rest = turn (first_joins m body (part k) _ now first (sym is_settled ∙ q)) ∙ joining_twice m so_far now others ∙ ap (λ (y : Answer). Joining m y others) answer_is;
         }
 
 -- what falls: the brackets left
@@ -496,7 +496,7 @@ after_none {s} {w} {w'} {w''} {ns} {r} l e a = record {
 }
 
 module _ {s : Bytes} {w w' : List ℕ} (sheet : Sheet Condition) (f : Frames) {m : Mode} {n : ℕ} {q : Quantifier} {c : Condition}
-    (p : QuantifierParts s (table w) m n q c) {r : code-resolved.Resolved}
+    (p : QuantifierParts s (table w) m n q c) {r : code_resolved.Resolved}
     (a : ResolvedAs false s w w' r (operand sheet (frames_of s (table w) f) (tree s (table w) q.over))) where
   abbrev frames : lazy.Frames
   frames = frames_of s (table w) f
