@@ -1,9 +1,9 @@
 /* intake: decisions on JSON sheets, for C and C++. `scripts/install PREFIX` installs this header with libintake.a, libintake.so and intake.pc (x86-64
- * Linux): `cc program.c $(pkg-config --cflags --libs intake)`. Uninstalled, the library is target/staticlib/libexports.a, which `rt staticlib exports` makes.
+ * Linux): `cc program.c $(pkg-config --cflags --libs intake)`. Uninstalled, the library is the archive whose path `scripts/built archive` prints.
  *
  * Every call reads one sheet, works in a table that the caller lends, and writes at most one line. Any bytes may be given; nothing is kept from call
  * to call, nothing is allocated, no input or output is done, and calls on different tables and outputs may run at once. Each is proved against its
- * contract (crates/exports/src/lib.rt).
+ * contract (crates/exports_c/src/lib.rt).
  *
  *   sheet, sheet_length    the JSON text; one of more than 32,768 bytes is refused
  *   work, work_length      at least INTAKE_WORK_WORDS words, whatever they hold. After the call the first 16,384 are zero and further ones as before;
