@@ -5,8 +5,8 @@ use crate::input::{Got, read_all, read_some};
 use crate::output::{help, print, version};
 use crate::said::{argument, complain, complain_of, failed};
 use arguments::asked::{Asked, Call, Source, Task};
+use printing::call::answer;
 use printing::lines::{answer_last, answer_lines, keep};
-use printing::one_sheet::answer;
 use std::fs;
 use std::io::{Error, Read};
 

@@ -4,7 +4,7 @@ ghost use Rattle.writer.specs.Laid.{Shown};
 ghost use Rattle.printing.specs.Lines.{each, last_line, line_length};
 ghost use Rattle.printing.specs.Progress.{Advanced, Kept};
 
-use crate::one_sheet::answer;
+use crate::call::answer;
 use arguments::asked::Call;
 
 // How far the input was answered, how many bytes the answers have, and whether no whole line is left.

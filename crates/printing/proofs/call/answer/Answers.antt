@@ -1,8 +1,8 @@
--- `printing::one_sheet::answer` meets its contract: the line that the call has written, or the number where it has written none.
+-- `printing::call::answer` meets its contract: the line that the call has written, or the number where it has written none.
 -- Assumes nothing.
 use mathlib.Core.Path.{sym, ◌∙◌}
 use Rattle.printing.proofs.Printing.{as_answer, no_line_lem, with_line, with_number}
-use Rattle.printing.proofs.one_sheet.answer.Goals as goal
+use Rattle.printing.proofs.call.answer.Goals as goal
 
 pub returns-then-size-eq0 : goal.returns-then-size-eq0
 returns-then-size-eq0 c =
