@@ -47,7 +47,7 @@ extern "C" {
 /* The words of a work table. */
 #define INTAKE_WORK_WORDS 16384
 
-/* An output that no line exceeds (`longest-line`, crates/exports/proofs/Longest.antt): with it, 23 is never given. */
+/* An output that no line exceeds (`longest_line`, crates/exports/proofs/Longest.antt): with it, 23 is never given. */
 #define INTAKE_OUTPUT_BYTES 294976
 
 /* Stack for a call: twice the most that was measured, on sheets that nest as deep as sheets can (`scripts/stack`). */

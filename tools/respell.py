@@ -51,7 +51,7 @@ def declared(text):
 
 
 def snake(name):
-    return re.sub(r"(?<=[a-z0-9'])([A-Z])", lambda m: "_" + m.group(1).lower(), name[0] + re.sub(r"([A-Z])([A-Z]+)", lambda m: m.group(1) + m.group(2).lower(), name[1:])).replace("-", "_").lower()
+    return re.sub(r"([A-Z])", lambda m: "_" + m.group(1), name).replace("-", "_").lower()
 
 
 def renamings(texts):

@@ -14,7 +14,7 @@ use Rattle.writer.specs.declared.answer.Answer.TheVariants as answers
 use Rattle.writer.specs.declared.answer.Outcome.{Outcome as Entry}
 use Rattle.json_text.specs.Bytes.{Bytes, is_one_of}
 use Rattle.json_text.specs.Cursor.{OnText}
-use Rattle.json_text.specs.Refusal.{Result, not_asource, ok, or_else, refused, wrong_state}
+use Rattle.json_text.specs.Refusal.{Result, not_a_source, ok, or_else, refused, wrong_state}
 use Rattle.json_text.specs.Spans.{text_at}
 use Rattle.json_text.specs.Table.{after_at, members_at, start_at, value_at}
 use Rattle.strings.specs.declared.rows.Found.{Found}
@@ -107,7 +107,7 @@ texts_listed {s} {w} {n} g = sym (some_texts_sorted (value_at s w n)) ∙ g.is
 
 told_not_a_source : (s : Bytes) (w : List ℕ) {n state place : ℕ} {us : List Bytes} → Gives some_texts s w n us → OnText s state 0 →
     (name : Bytes) {x : Entry} → Entered s place name x →
-    Told s w (refused (not_asource place name (text_at s state) us)) (answers.NotASource (record { outcome = x; state = state; from = n }))
+    Told s w (refused (not_a_source place name (text_at s state) us)) (answers.NotASource (record { outcome = x; state = state; from = n }))
 unfolding meaning Held texts_in
 told_not_a_source s w {n} {state} {place} {us} g y name {x} e =
     record {
@@ -116,12 +116,12 @@ told_not_a_source s w {n} {state} {place} {us} g y name {x} e =
     }
   where
     it : x.place ≡ place → text_at s x.name ≡ name → texts_in (value_at s w n) ≡
-        us → ◌≡◌ {A = Result Verdict} (refused (not_asource x.place (text_at s x.name) (text_at s state) (texts_in (value_at s w n))))
-        (refused (not_asource place name (text_at s state) us))
+        us → ◌≡◌ {A = Result Verdict} (refused (not_a_source x.place (text_at s x.name) (text_at s state) (texts_in (value_at s w n))))
+        (refused (not_a_source place name (text_at s state) us))
     it p q r =
-        ap {B = Result Verdict} (λ (i : ℕ). refused (not_asource i (text_at s x.name) (text_at s state) (texts_in (value_at s w n)))) p ∙
-        ap {B = Result Verdict} (λ (m : Bytes). refused (not_asource place m (text_at s state) (texts_in (value_at s w n)))) q ∙
-        ap {B = Result Verdict} (λ (us' : List Bytes). refused (not_asource place name (text_at s state) us')) r
+        ap {B = Result Verdict} (λ (i : ℕ). refused (not_a_source i (text_at s x.name) (text_at s state) (texts_in (value_at s w n)))) p ∙
+        ap {B = Result Verdict} (λ (m : Bytes). refused (not_a_source place m (text_at s state) (texts_in (value_at s w n)))) q ∙
+        ap {B = Result Verdict} (λ (us' : List Bytes). refused (not_a_source place name (text_at s state) us')) r
 
 -- ---- admission
 pub sources_of :
@@ -132,7 +132,7 @@ sources_of s w p named r h o g = let x = outcome_members p named g in subst (λ 
 
 module _ (ts : List Bytes) (os : List (Outcome Condition)) (t : Bytes) (p : Placed) where
   abbrev by_wrong : List Bytes → Bool → Result Placed
-  by_wrong from c = elim c [ true ↦ or_else (first_from (λ o. o.wrong_state) 0 os) (wrong_state t) | false ↦ refused (not_asource p.place p.outcome.name t from) ]
+  by_wrong from c = elim c [ true ↦ or_else (first_from (λ o. o.wrong_state) 0 os) (wrong_state t) | false ↦ refused (not_a_source p.place p.outcome.name t from) ]
 
   abbrev by_source : List Bytes → Bool → Result Placed
   by_source from b = elim b [ true ↦ ok p | false ↦ by_wrong from (is_wrong ts os t) ]
@@ -179,4 +179,4 @@ module _ (s : Bytes) (w : List ℕ) (ts : List Bytes) (os : List (Outcome Condit
 
       pub has_no_source : c ≡ false → OnText s state 0 → {x : Entry} → Entered s place o.name x →
           Told s w (admission (admit ts os (text_at s state) here)) (answers.NotASource (record { outcome = x; state = state; from = n }))
-      has_no_source k y {x} e = told_by (refused (not_asource place o.name (text_at s state) its_move.1)) (by_wrong_lem false k) (told_not_a_source s w its_move.3 y o.name e)
+      has_no_source k y {x} e = told_by (refused (not_a_source place o.name (text_at s state) its_move.1)) (by_wrong_lem false k) (told_not_a_source s w its_move.3 y o.name e)

@@ -19,7 +19,7 @@ use Rattle.answers.specs.Verdict.{Verdict, admitted, answered, passed, selected}
 use Rattle.semantics.proofs.Parts.{none_some}
 use Rattle.semantics.specs.Truth.{False, True, Truth, Unknown}
 use Rattle.json_text.specs.Bytes.{Bytes, ascii, same_bytes}
-use Rattle.json_text.specs.Refusal.{Refusal, Result, Rules, guard_unknown, invariants, line_too_long, no_id, no_input, no_outcome, not_asource, not_carried, not_json, not_utf8, number_too_long}
+use Rattle.json_text.specs.Refusal.{Refusal, Result, Rules, guard_unknown, invariants, line_too_long, no_id, no_input, no_outcome, not_a_source, not_carried, not_json, not_utf8, number_too_long}
 use Rattle.json_text.specs.Refusal.{
   ok,
   preconditions,
@@ -266,7 +266,7 @@ refusal_back (guard_unknown i n ns) h =
     let p = piece (number_gives i) (piece (text_gives n) (piece (names_give ns) done)) in
     here (as_it_is_lem (refused_gives 20 (omega arith) p ∙ rw (reads_back i h, texts_back ns)))
 refusal_back (wrong_state s) h = here (as_it_is_lem (refused_gives 21 (omega arith) (piece (text_gives s) done)))
-refusal_back (not_asource i n s from) h =
+refusal_back (not_a_source i n s from) h =
     let p = piece (number_gives i) (piece (text_gives n) (piece (text_gives s) (piece (from_gives from) done))) in
     here (as_it_is_lem (refused_gives 22 (omega arith) p ∙ rw (reads_back i h, texts_back from)))
 refusal_back line_too_long h = no_line_lem

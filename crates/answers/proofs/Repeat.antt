@@ -85,7 +85,7 @@ admit_shape states os s p = by p.outcome.effect
     first (some q) = inl (q, refl)
 
     wrong : List Bytes → Bool → Result Placed
-    wrong from b = elim b [ true ↦ or_else (first_from (λ o. o.wrong_state) 0 os) (Refusal.wrong_state s) | false ↦ refused (Refusal.not_asource p.place p.outcome.name s from) ]
+    wrong from b = elim b [ true ↦ or_else (first_from (λ o. o.wrong_state) 0 os) (Refusal.wrong_state s) | false ↦ refused (Refusal.not_a_source p.place p.outcome.name s from) ]
 
     inner : (from : List Bytes) (b : Bool) → AdmitShape (wrong from b)
     inner from true = first (first_from (λ o. o.wrong_state) 0 os)

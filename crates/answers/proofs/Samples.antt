@@ -9,7 +9,7 @@ use Rattle.answers.specs.Line.{end_line}
 use Rattle.answers.specs.Reply.{reply}
 use Rattle.answers.specs.Verdict.{Verdict, admitted, answered, passed, selected}
 use Rattle.json_text.specs.Bytes.{Bytes, ascii}
-use Rattle.json_text.specs.Refusal.{Result, guard_unknown, invariants, no_id, no_input, no_outcome, not_asource, ok, preconditions, refused, rule_false, rule_unknown, unknown_expression, wrong_state}
+use Rattle.json_text.specs.Refusal.{Result, guard_unknown, invariants, no_id, no_input, no_outcome, not_a_source, ok, preconditions, refused, rule_false, rule_unknown, unknown_expression, wrong_state}
 
 unfoldable pub line_of : Result Verdict → Option Bytes
 unfolding reply
@@ -33,8 +33,8 @@ cases =
     (refused no_outcome, "(refused 19)") ∷
     (refused (guard_unknown 0 (ascii "scrap") (ascii "$args.v" ∷ [])), "(refused 20 0 \"scrap\" (names \"$args.v\"))") ∷
     (refused (wrong_state (ascii "state")), "(refused 21 \"state\")") ∷
-    (refused (not_asource 0 (ascii "scrap") (ascii "state") (ascii "a" ∷ [])), "(refused 22 0 \"scrap\" \"state\" (from \"a\"))") ∷
-    (refused (not_asource 0 [] [] []), "(refused 22 0 \"\" \"\" (from))") ∷
+    (refused (not_a_source 0 (ascii "scrap") (ascii "state") (ascii "a" ∷ [])), "(refused 22 0 \"scrap\" \"state\" (from \"a\"))") ∷
+    (refused (not_a_source 0 [] [] []), "(refused 22 0 \"\" \"\" (from))") ∷
     (refused (wrong_state (34 ∷ 92 ∷ 0 ∷ 31 ∷ 32 ∷ 127 ∷ [])), "(refused 21 \"\\\"\\\\\\u0000\\u001f \u{7f}\")") ∷
     []
 

@@ -3,7 +3,7 @@
 use Rattle.std.specs.Prelude.{Bool, ◌&&◌, false, not, true, List, [], ◌∷◌}
 use Rattle.answers.specs.Outcomes.{Placed, first_from}
 use Rattle.json_text.specs.Bytes.{Bytes, is_one_of}
-use Rattle.json_text.specs.Refusal.{Result, not_asource, ok, or_else, refused, wrong_state}
+use Rattle.json_text.specs.Refusal.{Result, not_a_source, ok, or_else, refused, wrong_state}
 use Rattle.members.specs.Condition.{Condition}
 use Rattle.members.specs.Outcome.{Effect, Outcome, moves, stays}
 
@@ -40,7 +40,7 @@ admit states os s p =
                   | true ↦
                       or_else (first_from (λ o. o.wrong_state) 0 os) (wrong_state s)
                   | false ↦
-                      refused (not_asource p.place p.outcome.name s from)
+                      refused (not_a_source p.place p.outcome.name s from)
                 ]
           ]
     ]

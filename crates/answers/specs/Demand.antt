@@ -93,7 +93,7 @@ settler (rule_unknown k i n m ns) = at_place (rule i)
 settler no_outcome = everything
 settler (guard_unknown i n ns) = at_place (guard i)
 settler (Refusal.wrong_state s) = selection
-settler (Refusal.not_asource i n s from) = selection
+settler (Refusal.not_a_source i n s from) = selection
 settler Refusal.line_too_long = nothing
 
 -- the order in which steps are tried: rules before guards, each by place

@@ -15,7 +15,7 @@ use Rattle.json_text.specs.Refusal.{
   no_id,
   no_input,
   no_outcome,
-  not_asource,
+  not_a_source,
   not_carried,
   not_json,
   not_utf8,
@@ -63,7 +63,7 @@ refusal_number (rule_unknown k i n m ns) = unknown_number k
 refusal_number no_outcome = 19
 refusal_number (guard_unknown i n ns) = 20
 refusal_number (wrong_state s) = 21
-refusal_number (not_asource i n s from) = 22
+refusal_number (not_a_source i n s from) = 22
 refusal_number line_too_long = 23
 
 -- a number in decimal digits; the first argument bounds how many
@@ -174,7 +174,7 @@ refusal_form (rule_unknown k i n m ns) = some (refused_form (unknown_number k) (
 refusal_form no_outcome = some (refused_form 19 [])
 refusal_form (guard_unknown i n ns) = some (refused_form 20 (decimal_digits i ∷ quoted n ∷ names ns ∷ []))
 refusal_form (wrong_state s) = some (refused_form 21 (quoted s ∷ []))
-refusal_form (not_asource i n s from) = some (refused_form 22 (decimal_digits i ∷ quoted n ∷ quoted s ∷ listed (ascii "from") from ∷ []))
+refusal_form (not_a_source i n s from) = some (refused_form 22 (decimal_digits i ∷ quoted n ∷ quoted s ∷ listed (ascii "from") from ∷ []))
 refusal_form line_too_long = none
 
 abbrev pub each_line : Option Bytes → Option Bytes

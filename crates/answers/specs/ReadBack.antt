@@ -7,7 +7,7 @@ use Rattle.answers.specs.Verdict.{Verdict, admitted, answered, passed, selected}
 use Rattle.semantics.specs.Names.{Names}
 use Rattle.semantics.specs.Truth.{False, True, Truth, Unknown}
 use Rattle.json_text.specs.Bytes.{Bytes, ascii, choose, natural, same_bytes}
-use Rattle.json_text.specs.Refusal.{Refusal, Result, Rules, guard_unknown, invariants, line_too_long, no_id, no_input, no_outcome, not_asource, not_carried, not_json, not_utf8, number_too_long}
+use Rattle.json_text.specs.Refusal.{Refusal, Result, Rules, guard_unknown, invariants, line_too_long, no_id, no_input, no_outcome, not_a_source, not_carried, not_json, not_utf8, number_too_long}
 use Rattle.json_text.specs.Refusal.{
   ok,
   preconditions,
@@ -133,7 +133,7 @@ refusal_of n ts =
     (eqb n 19, some (refused no_outcome)) ∷
     (eqb n 20, some (refused (guard_unknown (number_at 3 ts) (bytes_at 4 ts) (texts_from 5 ts)))) ∷
     (eqb n 21, some (refused (wrong_state (bytes_at 3 ts)))) ∷
-    (eqb n 22, some (refused (not_asource (number_at 3 ts) (bytes_at 4 ts) (bytes_at 5 ts) (texts_from 6 ts)))) ∷
+    (eqb n 22, some (refused (not_a_source (number_at 3 ts) (bytes_at 4 ts) (bytes_at 5 ts) (texts_from 6 ts)))) ∷
     [])
     none
 
@@ -202,7 +202,7 @@ refusal_place (rule_unknown k i n m ns) = i
 refusal_place no_outcome = 0
 refusal_place (guard_unknown i n ns) = i
 refusal_place (wrong_state s) = 0
-refusal_place (not_asource i n s from) = i
+refusal_place (not_a_source i n s from) = i
 refusal_place line_too_long = 0
 
 abbrev pub place_of : Result Verdict → ℕ

@@ -23,7 +23,7 @@ use Rattle.json_text.specs.Refusal.{
   no_id,
   no_input,
   no_outcome,
-  not_asource,
+  not_a_source,
   not_carried,
   not_json,
   not_utf8,
@@ -91,7 +91,7 @@ lined (rule_unknown invariants i n m ns) = (omega arith, omega arith)
 lined no_outcome = (omega arith, omega arith)
 lined (guard_unknown i n ns) = (omega arith, omega arith)
 lined (wrong_state s) = (omega arith, omega arith)
-lined (not_asource i n s from) = (omega arith, omega arith)
+lined (not_a_source i n s from) = (omega arith, omega arith)
 lined refusals.line_too_long = inr refl
 
 fitted_ended : (output n : ℕ) (l : Option Bytes) → Lined n l → Ended (fitted output n l)

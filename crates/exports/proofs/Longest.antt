@@ -52,7 +52,7 @@ use Rattle.json_text.specs.Refusal.{
   line_too_long,
   no_input,
   no_outcome,
-  not_asource,
+  not_a_source,
   ok,
   or_else,
   refused,
@@ -385,14 +385,14 @@ module _ (sheet : Sheet Condition) (k : LightSheet sheet) where
           (elim b [
             | true ↦ or_else (first_from (λ o. o.wrong_state) 0 sheet.outcomes) (wrong_state s)
             | false ↦ refused
-                (not_asource p.place p.outcome.name s from)
+                (not_a_source p.place p.outcome.name s from)
           ])
       wrong true from n =
           or_shown (first_from (λ o. o.wrong_state) 0 sheet.outcomes) (wrong_state s)
           (first_light (λ o. o.wrong_state) 0 sheet.outcomes k.has.outcomes)
           (omega (arith, form_short (ascii "refused" ∷ decimal_digits 21 ∷ quoted s ∷ []), digits 21))
       wrong false from n =
-          shown {r = not_asource p.place p.outcome.name s from}
+          shown {r = not_a_source p.place p.outcome.name s from}
           (omega (
             arith,
             form_short
@@ -411,7 +411,7 @@ module _ (sheet : Sheet Condition) (k : LightSheet sheet) where
             | false ↦ elim (is_wrong sheet.states sheet.outcomes s) [
               | true ↦ or_else (first_from (λ o. o.wrong_state) 0 sheet.outcomes) (wrong_state s)
               | false ↦ refused
-                  (not_asource p.place p.outcome.name s from)
+                  (not_a_source p.place p.outcome.name s from)
             ]
           ])
       moved true from n = fine {a = p} l
@@ -428,7 +428,7 @@ module _ (sheet : Sheet Condition) (k : LightSheet sheet) where
               | false ↦ elim (is_wrong sheet.states sheet.outcomes s) [
                 | true ↦ or_else (first_from (λ o. o.wrong_state) 0 sheet.outcomes) (wrong_state s)
                 | false ↦ refused
-                    (not_asource p.place p.outcome.name s from)
+                    (not_a_source p.place p.outcome.name s from)
               ]
             ]
           ])

@@ -23,7 +23,7 @@ pub data Refusal : Type 0 where
   guard_unknown : ℕ → Bytes → List Bytes → Refusal
   -- 21: state; 22: place, name, state, sources
   wrong_state : Bytes → Refusal
-  not_asource : ℕ → Bytes → Bytes → List Bytes → Refusal
+  not_a_source : ℕ → Bytes → Bytes → List Bytes → Refusal
   -- 23
   line_too_long : Refusal
 

@@ -37,7 +37,7 @@ use Rattle.json_text.specs.Refusal.{
   no_id,
   no_input,
   no_outcome,
-  not_asource,
+  not_a_source,
   not_carried,
   not_json,
   not_utf8,
@@ -201,7 +201,7 @@ refusal_small (rule_unknown invariants i n m ns) = omega arith
 refusal_small no_outcome = omega arith
 refusal_small (guard_unknown i n ns) = omega arith
 refusal_small (wrong_state s) = omega arith
-refusal_small (not_asource i n s from) = omega arith
+refusal_small (not_a_source i n s from) = omega arith
 refusal_small line_too_long = omega arith
 
 abbrev Small : Reply → Type 0

@@ -7,7 +7,7 @@ use Prim.Native.Nat.{min, ℕ, ◌+◌, ◌-◌, ◌<◌, ◌≤◌}
 use native.Mathlib.Numerals.{add-one}
 use native.Mathlib.Omega.{arith}
 use lib.Dec.{leb}
-use lib.ListN.{drop, get_or, length, length-drop, length-take, set, take}
+use lib.ListN.{drop, get_or, length, length-append, length-drop, length-take, set, take}
 use lib.Seq.{append_snoc, get_or-append-add, get_or-drop, length-take-le, set_at, take_all, take_at, take-suc, take-take}
 use borrow.Author.Tests.{leb-false, leb-true}
 use Rattle.json_text.specs.Bytes.{Bytes}
@@ -25,6 +25,9 @@ moving l from n h = record { upto = omega arith; fits = h; is = refl }
 module _ {l : Bytes} {from n : ℕ} {m : Bytes} {i : ℕ} (v : Moving l from n m i) where
   front : length (take i (drop from l)) ≡ i
   front = length-take-le i (drop from l) (simp length-drop (omega (arith, v.upto, v.fits)))
+
+  pub moved_size : length m ≡ length l
+  moved_size = omega (arith, ap length v.is ∙ length-append (take i (drop from l)) (drop i l), front, length-drop i l, v.upto, v.fits)
 
   same_byte : get_or m (from + i) 0 ≡ get_or l (from + i) 0
   same_byte =

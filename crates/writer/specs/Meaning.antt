@@ -10,7 +10,7 @@ use Rattle.json_text.specs.Bytes.{Bytes}
 use Rattle.json_text.specs.Cursor.{OnText}
 use Rattle.json_text.specs.Marks.{marked}
 use Rattle.json_text.specs.Refusal as refusals
-use Rattle.json_text.specs.Refusal.{Result, guard_unknown, no_id, no_input, no_outcome, not_asource, ok, refused, rule_false, rule_unknown, unknown_expression, wrong_state}
+use Rattle.json_text.specs.Refusal.{Result, guard_unknown, no_id, no_input, no_outcome, not_a_source, ok, refused, rule_false, rule_unknown, unknown_expression, wrong_state}
 use Rattle.json_text.specs.Spans.{text_at}
 use Rattle.json_text.specs.Table.{value_at}
 use Rattle.writer.specs.declared.answer.Answer.{Answer}
@@ -43,7 +43,7 @@ meaning s w (answers.RuleUnknown r) = refused (rule_unknown (rules_of r.rules) r
 meaning s w answers.NoOutcome = refused no_outcome
 meaning s w (answers.GuardUnknown o) = refused (guard_unknown o.place (text_at s o.name) (names_in s w))
 meaning s w (answers.WrongState e) = refused (wrong_state (text_at s e))
-meaning s w (answers.NotASource m) = refused (not_asource m.outcome.place (text_at s m.outcome.name) (text_at s m.state) (texts_in (value_at s w m.from)))
+meaning s w (answers.NotASource m) = refused (not_a_source m.outcome.place (text_at s m.outcome.name) (text_at s m.state) (texts_in (value_at s w m.from)))
 
 -- where the texts of an answer stand
 pub record RuleHeld (s : Bytes) (r : Rule) : Type 0 where
