@@ -1,6 +1,6 @@
 -- The texts of a tree, and what they come to in quotes: at most three bytes for each that spells the tree.
 -- Assumes nothing.
-use mathlib.Core.Bool.{Bool, false, true, not}
+use mathlib.Core.Bool.{Bool, false, true}
 use mathlib.Core.List.{List, [], ◌++◌, ◌∷◌}
 use mathlib.Core.Path.{ap, refl, ◌≡◌}
 use Prim.Native.Nat.{Ordering, ℕ, ◌%◌, ◌*◌, ◌+◌, ◌/◌, ◌-◌, ◌≤◌}
@@ -12,7 +12,6 @@ use Rattle.answers.specs.Line.{hex_of, quoted_byte, quoted_bytes, quoted}
 use Rattle.json_text.proofs.Complete.{read_exactly}
 use Rattle.json_text.proofs.Laws.{both_true, eqb_true}
 use Rattle.json_text.specs.Bytes.{Bytes, ascii, choose, order_bytes}
-use Rattle.json_text.specs.Grammar
 use Rattle.json_text.specs.Grammar.{Chars, Elements, Escape, Hex, MembersOf, MoreElements, MoreMembers, Spells, String, Structural, Ws, is_unescaped}
 use Rattle.json_text.specs.Json.{Members, Value, Values, array, bool, cons, empty, member, nil, null, number, object, text}
 use Rattle.json_text.specs.Reader.{json}

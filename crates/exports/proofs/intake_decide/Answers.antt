@@ -1,7 +1,6 @@
 -- `exports::intake_decide` meets its contract: the entry's number and size, in one word.
 -- Assumes nothing.
 use Rattle.exports.proofs.Words.{decide_small, exported, fits}
-use borrow.Author.Rules.{rules}
 use Rattle.exports.proofs.intake_decide.Goals as goal
 
 pub word_of-requires : goal.word_of-requires

@@ -1,7 +1,6 @@
 -- `exports::intake_preconditions` meets its contract: the entry's number and size, in one word.
 -- Assumes nothing.
 use Rattle.exports.proofs.Words.{exported, fits, preconditions_small}
-use borrow.Author.Rules.{rules}
 use Rattle.exports.proofs.intake_preconditions.Goals as goal
 
 pub word_of-requires : goal.word_of-requires

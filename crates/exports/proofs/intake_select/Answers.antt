@@ -1,7 +1,6 @@
 -- `exports::intake_select` meets its contract: the entry's number and size, in one word.
 -- Assumes nothing.
 use Rattle.exports.proofs.Words.{exported, fits, select_small}
-use borrow.Author.Rules.{rules}
 use Rattle.exports.proofs.intake_select.Goals as goal
 
 pub word_of-requires : goal.word_of-requires
