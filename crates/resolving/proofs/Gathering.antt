@@ -7,7 +7,9 @@ use mathlib.Core.Option.{some}
 use mathlib.Core.Path.{ap, refl, subst, ◌∙◌, ◌≡◌}
 use Prim.Native.Nat.{ℕ, ◌<◌, ◌≤◌}
 use native.Mathlib.Omega.{arith}
+use denote.Enum.Declared.{tag_of}
 use lib.ListN.{length}
+use types.Run.{OneOf, miss}
 use Rattle.json_text.specs.Bytes.{Bytes}
 use Rattle.json_text.specs.Held.{HasNode}
 use Rattle.json_text.specs.Json.{text}
@@ -32,7 +34,9 @@ use Rattle.paths.specs.declared.operand.Operand.{Operand}
 use Rattle.paths.specs.declared.operand.Resolved as code
 use Rattle.paths.specs.declared.operand.Resolved.TheVariants as answers
 use Rattle.resolving.proofs.Marking.{left_missed, left_none}
+use Rattle.paths.proofs.Stands.{impossible}
 use Rattle.paths.proofs.Trees.{Layer, a_false, a_null, a_number, a_text, a_true, an_array, an_object, layer, operand_at, text_row}
+use Rattle.paths.specs.contracts.operand.Kind as KindT
 
 -- an operand that is present leaves no mark
 pub present_as :
@@ -131,3 +135,19 @@ module _ (quiet : Bool) (sheet : Sheet Condition) (fs : lazy.Frames) (s : Bytes)
         seen kinds.Object u = refl
         seen kinds.Listed u = refl
         seen kinds.Named u = refl
+
+-- a value of another kind than null is not null
+abbrev pub not_null : List ℕ
+not_null = 1 ∷ 2 ∷ 3 ∷ 4 ∷ 5 ∷ 6 ∷ 7 ∷ 8 ∷ 9 ∷ []
+
+pub is_not_null : (x : Kind) → OneOf not_null (tag_of KindT.the_type x) → x ≡ kinds.Null → ⊥
+is_not_null kinds.Null o = absurd (miss not_null 0 tt o)
+is_not_null kinds.False o = λ q. impossible (cc)
+is_not_null kinds.True o = λ q. impossible (cc)
+is_not_null kinds.Number o = λ q. impossible (cc)
+is_not_null kinds.Text o = λ q. impossible (cc)
+is_not_null kinds.Less o = λ q. impossible (cc)
+is_not_null kinds.Array o = λ q. impossible (cc)
+is_not_null kinds.Object o = λ q. impossible (cc)
+is_not_null kinds.Listed o = λ q. impossible (cc)
+is_not_null kinds.Named o = λ q. impossible (cc)
