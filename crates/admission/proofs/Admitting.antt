@@ -2,7 +2,7 @@
 -- Assumes nothing.
 use mathlib.Core.Bool.{Bool, false, not, true, ◌&&◌}
 use mathlib.Core.List.{List}
-use mathlib.Core.Option.{Option, some}
+use Rattle.std.specs.Prelude.{Option, Some, None}
 use mathlib.Core.Path.{ap, refl, subst, sym, ◌∙◌, ◌≡◌}
 use Prim.Native.Nat.{ℕ, ◌*◌, ◌+◌, ◌<◌, ◌≤◌}
 use lib.ListN.{length}
@@ -16,16 +16,13 @@ use Rattle.json_text.specs.Bytes.{Bytes, is_one_of}
 use Rattle.json_text.specs.Cursor.{OnText}
 use Rattle.json_text.specs.Refusal.{Result, not_a_source, ok, or_else, refused, wrong_state}
 use Rattle.json_text.specs.Spans.{text_at}
-use Rattle.json_text.specs.Table.{after_at, members_at, start_at, value_at}
-use Rattle.strings.specs.declared.rows.Found.{Found}
-use Rattle.strings.specs.declared.rows.Found.TheVariants as founds
+use Rattle.json_text.specs.Table.{start_at, value_at}
 use Rattle.sheet.proofs.Given.{text_given}
 use Rattle.sheet.proofs.SortedKinds.{some_texts_sorted}
 use Rattle.members.proofs.Walks.{room}
-use Rattle.sheet.specs.Accepted.{Gives, MayGive, node_of}
+use Rattle.sheet.specs.Accepted.{Gives, MayGive, OutcomeGives, node_of}
 use Rattle.members.specs.Condition.{Condition, condition}
 use Rattle.members.specs.Kinds.{a_text, some_texts}
-use Rattle.sheet.specs.Named.{OutcomeNamed}
 use Rattle.members.specs.Outcome.{Effect, Outcome, an_effect, an_outcome, moves, or_stays, stays}
 use Rattle.sheet.specs.declared.outcome.OutcomeMembers.{OutcomeMembers}
 use Rattle.answers.specs.Admission.{admit, is_source, is_wrong}
@@ -35,16 +32,14 @@ use Rattle.rules.specs.Given.{SourcesAt}
 use Rattle.answers.specs.Outcomes.{Placed, first_from}
 use Rattle.admission.specs.Places.{PlacedAt}
 use Rattle.rules.specs.Told.{Entered, Told, admission}
-use Rattle.admission.specs.declared.outcomes.Chosen.{Chosen}
-use Rattle.admission.specs.declared.outcomes.Chosen.TheVariants as chosen
-use Rattle.admission.specs.declared.outcomes.Placed.{Placed as Spot}
-use Rattle.rules.proofs.Starting.{given_node, outcome_members}
+use Rattle.rules.specs.declared.placed.Placed.{Placed as Spot}
+use Rattle.rules.proofs.Starting.{given_node}
 
 -- ---- an outcome's name
-module _ {s : Bytes} {w : List ℕ} {n e : ℕ} (p : e ≡ after_at w n) {m : OutcomeMembers}
-    (named : OutcomeNamed s w (members_at s w (n + 1) e) m) {x : ℕ} (q : x ≡ node_of m.name) where
+module _ {s : Bytes} {w : List ℕ} {n : ℕ} {m : OutcomeMembers} (given : (o : Outcome Condition) → Gives (an_outcome condition) s w n o → OutcomeGives s w m o)
+    {x : ℕ} (q : x ≡ node_of m.name) where
   name_node : {o : Outcome Condition} → Gives (an_outcome condition) s w n o → Gives a_text s w x o.name
-  name_node g = given_node (outcome_members p named g).name q
+  name_node {o} g = given_node (given o g).name q
 
   pub name_room : Known (Gives (an_outcome condition) s w n) → (3 * x + 3 ≤ length w) × (x < 4096)
   name_room g = room (name_node g.known).node
@@ -81,13 +76,13 @@ module _ (s : Bytes) (w : List ℕ) where
   abbrev or_admitted : ℕ → Option Placed → Result Verdict
   or_admitted state x = admission (or_else x (wrong_state (text_at s state)))
 
-  pub told_wrong : (x : Option Placed) {c : Chosen} (state : ℕ) → OnText s state 0 → c ≡ chosen.Nothing → PlacedAt s w x c →
+  pub told_wrong : (x : Option Placed) {c : Option Spot} (state : ℕ) → OnText s state 0 → c ≡ None → PlacedAt s w x c →
       Told s w (or_admitted state x) (answers.WrongState state)
   unfolding meaning Held PlacedAt
   told_wrong x state h q g = record { means = sym (ap {B = Result Verdict} (or_admitted state) (subst (PlacedAt s w x) q g)); held = h }
 
-  module _ (x : Option Placed) {c : Chosen} (p : Spot) (q : c ≡ chosen.At p) (g : PlacedAt s w x c) where
-    its : (o : Outcome Condition) × (x ≡ some (record { place = p.place; outcome = o })) × Gives (an_outcome condition) s w p.node o
+  module _ (x : Option Placed) {c : Option Spot} (p : Spot) (q : c ≡ Some p) (g : PlacedAt s w x c) where
+    its : (o : Outcome Condition) × (x ≡ Some (record { place = p.place; outcome = o })) × Gives (an_outcome condition) s w p.node o
     unfolding PlacedAt
     its = subst (PlacedAt s w x) q g
 
@@ -125,10 +120,10 @@ told_not_a_source s w {n} {state} {place} {us} g y name {x} e =
 
 -- ---- admission
 pub sources_of :
-    (s : Bytes) (w : List ℕ) {n e : ℕ} → e ≡ after_at w n → {m : OutcomeMembers} → OutcomeNamed s w (members_at s w (n + 1) e) m → (r : Found) →
+    (s : Bytes) (w : List ℕ) {n : ℕ} {m : OutcomeMembers} → ((o : Outcome Condition) → Gives (an_outcome condition) s w n o → OutcomeGives s w m o) → (r : Option ℕ) →
     ((f : Option Effect) → MayGive an_effect s w m.effect f → SourcesAt s w (or_stays f) r) → (o : Outcome Condition) →
     Gives (an_outcome condition) s w n o → SourcesAt s w o.effect r
-sources_of s w p named r h o g = let x = outcome_members p named g in subst (λ (e : Effect). SourcesAt s w e r) (sym x.is_effect) (h x.does x.effect)
+sources_of s w given r h o g = let x = given o g in subst (λ (e : Effect). SourcesAt s w e r) (sym x.is_effect) (h x.does x.effect)
 
 module _ (ts : List Bytes) (os : List (Outcome Condition)) (t : Bytes) (p : Placed) where
   abbrev by_wrong : List Bytes → Bool → Result Placed
@@ -144,18 +139,18 @@ module _ (ts : List Bytes) (os : List (Outcome Condition)) (t : Bytes) (p : Plac
   unfolding admit
   by_effect_lem e q = ap {B = Result Placed} by_effect q
 
-module _ (s : Bytes) (w : List ℕ) (ts : List Bytes) (os : List (Outcome Condition)) (state place : ℕ) (o : Outcome Condition) (r : Found) (h : SourcesAt s w o.effect r) where
+module _ (s : Bytes) (w : List ℕ) (ts : List Bytes) (os : List (Outcome Condition)) (state place : ℕ) (o : Outcome Condition) (r : Option ℕ) (h : SourcesAt s w o.effect r) where
   abbrev here : Placed
   here = record { place = place; outcome = o }
 
   told_by : (x : Result Placed) → admit ts os (text_at s state) here ≡ x → {a : Answer} → Told s w (admission x) a → Told s w (admission (admit ts os (text_at s state) here)) a
   told_by x q {a} g = subst (λ (y : Result Placed). Told s w (admission y) a) (sym q) g
 
-  pub keeps_staying : r ≡ founds.Nothing → {x : Entry} → Entered s place o.name x → Told s w (admission (admit ts os (text_at s state) here)) (answers.Admitted x)
+  pub keeps_staying : r ≡ None → {x : Entry} → Entered s place o.name x → Told s w (admission (admit ts os (text_at s state) here)) (answers.Admitted x)
   unfolding SourcesAt
   keeps_staying q e = told_by (ok here) (by_effect_lem ts os (text_at s state) here stays (subst (SourcesAt s w o.effect) q h)) (told_admitted s w place o e)
 
-  module _ (n : ℕ) (q : r ≡ founds.At n) (b : Bool) (i : (us : List Bytes) → Gives some_texts s w n us → b ≡ is_one_of (text_at s state) us) where
+  module _ (n : ℕ) (q : r ≡ Some n) (b : Bool) (i : (us : List Bytes) → Gives some_texts s w n us → b ≡ is_one_of (text_at s state) us) where
     its_move : (to : Bytes) × (from : List Bytes) × (o.effect ≡ moves to from) × Gives some_texts s w n from
     unfolding SourcesAt
     its_move = subst (SourcesAt s w o.effect) q h

@@ -2,87 +2,99 @@
 -- Assumes nothing.
 use mathlib.Core.Bool.{Bool, false, true}
 use mathlib.Core.List.{List, [], ◌∷◌}
-use mathlib.Core.Option.{Option, none, some}
+use Rattle.std.specs.Prelude.{Option, None, Some}
 use mathlib.Core.Path.{ap, refl, subst, sym, ◌∙◌, ◌≡◌}
 use Prim.Native.Nat.{ℕ, suc, ◌+◌, ◌-◌, ◌<◌, ◌≤◌}
 use native.Mathlib.Omega.{arith}
 use Rattle.json_text.specs.Bytes.{Bytes}
-use Rattle.json_text.specs.Table.{after_at, members_at}
-use Rattle.sheet.specs.Accepted.{EachGives, MayGive, OutcomeGives}
+use Rattle.json_text.specs.Table.{after_at}
+use Rattle.sheet.specs.Accepted.{EachGives, Gives, MayGive, OutcomeGives}
 use Rattle.members.specs.Condition.{Condition, condition}
 use Rattle.members.specs.Kinds.{a_bool}
-use Rattle.sheet.specs.Named.{OutcomeNamed}
 use Rattle.members.specs.Outcome.{Outcome, an_outcome, or_false}
 use Rattle.sheet.specs.declared.outcome.OutcomeMembers.{OutcomeMembers}
 use Rattle.sheet.specs.Accepted.{Known}
 use Rattle.answers.specs.Outcomes.{Placed, at, first_from}
+use Rattle.rules.specs.declared.placed.Placed.{Placed as Spot}
 use Rattle.admission.specs.Places.{PlacedAt}
-use Rattle.admission.specs.declared.outcomes.Chosen.TheVariants as chosen
-use Rattle.rules.proofs.Starting.{outcome_members}
-use Rattle.rules.proofs.Walking.{Walking, ended, goes_on, next, settled, starts}
+use Rattle.rules.proofs.Walking.{Walking, ended, falls, goes_on, next, settled, starts}
 
 -- ---- an answer
 module _ (s : Bytes) (w : List ℕ) {from e : ℕ} {whole here : List (Outcome Condition) → Option Placed} {k : ℕ} (l : Walking (an_outcome condition) s w from e whole here k) where
-  none_placed : e ≤ k → here [] ≡ none → (os : List (Outcome Condition)) → EachGives (an_outcome condition) s w from e os → PlacedAt s w (whole os) chosen.Nothing
+  none_placed : e ≤ k → here [] ≡ None → (os : List (Outcome Condition)) → EachGives (an_outcome condition) s w from e os → PlacedAt s w (whole os) None
   unfolding PlacedAt
   none_placed h q os g = sym (ended l h os g) ∙ q
 
-  placed : (h : k < e) (i : ℕ) → some (record { place = i; outcome = (next l h).first }) ≡ here ((next l h).first ∷ (next l h).others) →
+  placed : (h : k < e) (i : ℕ) → Some (record { place = i; outcome = (next l h).first }) ≡ here ((next l h).first ∷ (next l h).others) →
       (os : List (Outcome Condition)) → EachGives (an_outcome condition) s w from e os →
-      PlacedAt s w (whole os) (chosen.At (record { place = i; node = k }))
+      PlacedAt s w (whole os) (Some (record { place = i; node = k }))
   unfolding PlacedAt
-  placed h i q os g = ((next l h).first, sym (settled l h (some (record { place = i; outcome = (next l h).first })) q os g), (next l h).here)
+  placed h i q os g = ((next l h).first, sym (settled l h (Some (record { place = i; outcome = (next l h).first })) q os g), (next l h).here)
+
+-- the item behind: further on, and no further than the end
+pub spot_falls :
+    {s : Bytes} {w : List ℕ} {from e : ℕ} {whole here : List (Outcome Condition) → Option Placed} {k i : ℕ} → Walking (an_outcome condition) s w from e whole here k → k < e →
+    {p : Spot} → p ≡ record { place = i; node = after_at w k } → (k < p.node) × (p.node ≤ e)
+spot_falls l h {p} q = falls l h p.node (ap (λ (x : Spot). x.node) q)
+
+pub outcome_known :
+    {s : Bytes} {w : List ℕ} {from e : ℕ} {whole here : List (Outcome Condition) → Option Placed} {k : ℕ} → Walking (an_outcome condition) s w from e whole here k → k < e →
+    Known (Gives (an_outcome condition) s w k)
+outcome_known l h = record { given = (next l h).first; known = (next l h).here }
 
 -- ---- the outcome at a place
 at_more : (i n m : ℕ) (o : Outcome Condition) (os : List (Outcome Condition)) → n ≡ suc m → at i n (o ∷ os) ≡ at (i + 1) m os
 unfolding at
 at_more i n m o os q = ap (λ (x : ℕ). at i x (o ∷ os)) q
 
-at_here : (i n : ℕ) (o : Outcome Condition) (os : List (Outcome Condition)) → n ≡ 0 → at i n (o ∷ os) ≡ some (record { place = i; outcome = o })
+at_here : (i n : ℕ) (o : Outcome Condition) (os : List (Outcome Condition)) → n ≡ 0 → at i n (o ∷ os) ≡ Some (record { place = i; outcome = o })
 unfolding at
 at_here i n o os q = ap (λ (x : ℕ). at i x (o ∷ os)) q
 
-at_none : (i n : ℕ) → at i n [] ≡ none
+at_none : (i n : ℕ) → at i n [] ≡ None
 unfolding at
 at_none i n = refl
 
 -- places counted on the way: so many are left
 pub record Counting (s : Bytes) (w : List ℕ) (from e place i k : ℕ) : Type 0 where
+  pub low : i ≤ k
   pub upto : i ≤ place
   pub walking : Walking (an_outcome condition) s w from e (at 0 place) (at i (place - i)) k
 
 module _ {s : Bytes} {w : List ℕ} {from e place i k : ℕ} (l : Counting s w from e place i k) where
-  pub past_all : e ≤ k → (os : List (Outcome Condition)) → EachGives (an_outcome condition) s w from e os → PlacedAt s w (at 0 place os) chosen.Nothing
+  pub past_all : e ≤ k → (os : List (Outcome Condition)) → EachGives (an_outcome condition) s w from e os → PlacedAt s w (at 0 place os) None
   past_all h = none_placed s w l.walking h (at_none i (place - i))
 
   module _ (h : k < e) where
     pub at_place : i ≡ place → (os : List (Outcome Condition)) → EachGives (an_outcome condition) s w from e os →
-        PlacedAt s w (at 0 place os) (chosen.At (record { place = i; node = k }))
+        PlacedAt s w (at 0 place os) (Some (record { place = i; node = k }))
     at_place q = placed s w l.walking h i (sym (at_here i (place - i) (next l.walking h).first (next l.walking h).others (omega arith)))
 
-    pub counts_on : (i ≡ place → ⊥) → (k' : ℕ) → k' ≡ after_at w k → Counting s w from e place (i + 1) k'
-    counts_on q k' p =
-        record {
+    pub counts_on : (i ≡ place → ⊥) → {p : Spot} → p ≡ record { place = i + 1; node = after_at w k } → Counting s w from e place p.place p.node
+    counts_on q {p} z =
+        subst (λ (x : Spot). Counting s w from e place x.place x.node) (sym z)
+        (record {
+          low = omega (arith, (next l.walking h).past, l.low);
           upto = omega arith;
           walking = goes_on l.walking h (at (i + 1) (place - (i + 1)))
-              (at_more i (place - i) (place - (i + 1)) (next l.walking h).first (next l.walking h).others (omega arith)) k' p;
-        }
+              (at_more i (place - i) (place - (i + 1)) (next l.walking h).first (next l.walking h).others (omega arith)) (after_at w k) refl;
+        })
 
 pub counting : {s : Bytes} {w : List ℕ} {from e : ℕ} (place : ℕ) → Known (EachGives (an_outcome condition) s w from e) → Counting s w from e place 0 from
 counting {s} {w} {from} {e} place g =
     let q : place ≡ place - 0 = omega arith in
-    record { upto = omega arith; walking = subst (λ (x : ℕ). Walking (an_outcome condition) s w from e (at 0 place) (at 0 x) from) q (starts (at 0 place) g) }
+    record { low = omega arith; upto = omega arith; walking = subst (λ (x : ℕ). Walking (an_outcome condition) s w from e (at 0 place) (at 0 x) from) q (starts (at 0 place) g) }
 
 -- ---- the first for the wrong state
 abbrev pub first_wrong : ℕ → List (Outcome Condition) → Option Placed
 first_wrong i os = first_from (λ o. o.wrong_state) i os
 
 first_of : (i : ℕ) (o : Outcome Condition) (os : List (Outcome Condition)) (b : Bool) → o.wrong_state ≡ b →
-    first_wrong i (o ∷ os) ≡ elim b [ true ↦ some (record { place = i; outcome = o }) | false ↦ first_wrong (i + 1) os ]
+    first_wrong i (o ∷ os) ≡ elim b [ true ↦ Some (record { place = i; outcome = o }) | false ↦ first_wrong (i + 1) os ]
 unfolding first_from
-first_of i o os b q = ap {B = Option Placed} (λ (c : Bool). elim c [ true ↦ some (record { place = i; outcome = o }) | false ↦ first_wrong (i + 1) os ]) q
+first_of i o os b q = ap {B = Option Placed} (λ (c : Bool). elim c [ true ↦ Some (record { place = i; outcome = o }) | false ↦ first_wrong (i + 1) os ]) q
 
-first_none : (i : ℕ) → first_wrong i [] ≡ none
+first_none : (i : ℕ) → first_wrong i [] ≡ None
 unfolding first_from
 first_none i = refl
 
@@ -97,22 +109,23 @@ pub flag_known : {s : Bytes} {w : List ℕ} {m : OutcomeMembers} {o : Outcome Co
 flag_known {s} g = record { given = s; known = record { given = g.wrong; known = g.wrong_state } }
 
 module _ {s : Bytes} {w : List ℕ} {from e i k : ℕ} (l : Passing s w from e i k) where
-  pub none_wrong : e ≤ k → (os : List (Outcome Condition)) → EachGives (an_outcome condition) s w from e os → PlacedAt s w (first_wrong 0 os) chosen.Nothing
+  pub none_wrong : e ≤ k → (os : List (Outcome Condition)) → EachGives (an_outcome condition) s w from e os → PlacedAt s w (first_wrong 0 os) None
   none_wrong h = none_placed s w l.walking h (first_none i)
 
-  module _ (h : k < e) {e' : ℕ} (p : e' ≡ after_at w k) {m : OutcomeMembers} (named : OutcomeNamed s w (members_at s w (k + 1) e') m)
+  module _ (h : k < e) {m : OutcomeMembers} (given : (o : Outcome Condition) → Gives (an_outcome condition) s w k o → OutcomeGives s w m o)
       (b : Bool) (a : (t : Bytes) (f : Option Bool) → MayGive a_bool t w m.wrong_state f → b ≡ or_false f) where
     here_is : (next l.walking h).first.wrong_state ≡ b
-    here_is = let g = outcome_members p named (next l.walking h).here in g.is_wrong ∙ sym (a s g.wrong g.wrong_state)
+    here_is = let g = given (next l.walking h).first (next l.walking h).here in g.is_wrong ∙ sym (a s g.wrong g.wrong_state)
 
     pub wrong_here : b ≡ true → (os : List (Outcome Condition)) → EachGives (an_outcome condition) s w from e os →
-        PlacedAt s w (first_wrong 0 os) (chosen.At (record { place = i; node = k }))
+        PlacedAt s w (first_wrong 0 os) (Some (record { place = i; node = k }))
     wrong_here q = placed s w l.walking h i (sym (first_of i (next l.walking h).first (next l.walking h).others true (here_is ∙ q)))
 
-    pub wrong_later : b ≡ false → Passing s w from e (i + 1) e'
-    wrong_later q =
-        record {
+    pub wrong_later : b ≡ false → {p : Spot} → p ≡ record { place = i + 1; node = after_at w k } → Passing s w from e p.place p.node
+    wrong_later q {p} z =
+        subst (λ (x : Spot). Passing s w from e x.place x.node) (sym z)
+        (record {
           low = omega (arith, (next l.walking h).past, l.low);
           walking = goes_on l.walking h (first_wrong (i + 1))
-              (first_of i (next l.walking h).first (next l.walking h).others false (here_is ∙ q)) e' p;
-        }
+              (first_of i (next l.walking h).first (next l.walking h).others false (here_is ∙ q)) (after_at w k) refl;
+        })

@@ -14,12 +14,12 @@ ghost use Rattle.sheet.specs.Accepted.{Known};
 ghost use Rattle.answers.specs.Outcomes.{first_from};
 ghost use Rattle.rules.specs.Told.{Entered, Told, admission};
 
-use crate::outcomes::{Chosen, Placed, first_wrong};
+use crate::outcomes::{first_wrong, members_at};
 use crate::sources::{is_source, of_effect};
 use crate::texts::is_one_of;
-use sheet::outcome::members;
+use rules::placed::Placed;
 use sheet::shape::node_of;
-use strings::rows::{Found, after_at, start_at};
+use strings::rows::{after_at, start_at};
 use writer::answer::{Answer, Move, Outcome};
 
 // An outcome as an answer names it.
@@ -27,15 +27,10 @@ pub fn entry(s: &[u8], work: &[u32], p: Placed) -> Outcome
     requires { Known (Gives (an_outcome condition) s.now work.now p.node) }
     ensures { (o : all.Outcome Condition) → Gives (an_outcome condition) s.now work.now p.node o → Entered s.now p.place o.name result }
 {
-    let node = p.node;
-    let place = p.place;
-    let end = after_at(work, node);
-    let m = members(s, work, node + 1, end);
-    let found = m.name;
-    let name = start_at(work, node_of(found));
+    let m = members_at(s, work, p.node);
     Outcome {
-        place: place,
-        name: name,
+        place: p.place,
+        name: start_at(work, node_of(m.name)),
     }
 }
 
@@ -51,10 +46,7 @@ pub fn is_wrong(
     requires { Known (Gives (an_array_of a_text) s.now work.now states) × Known (EachGives (an_outcome condition) s.now work.now from end) × OnText s.now state 0 }
     ensures { (ts : List Bytes) (os : List (all.Outcome Condition)) → Gives (an_array_of a_text) s.now work.now states ts → EachGives (an_outcome condition) s.now work.now from end os → result ≡ is_wrong ts os (text_at s.now state) }
 {
-    if is_one_of(s, work, states, state) {
-        return !is_source(s, work, from, end, state);
-    }
-    false
+    is_one_of(s, work, states, state) && !is_source(s, work, from, end, state)
 }
 
 // The answer in the wrong state: the first outcome for it, of those from `from` up to `end`.
@@ -63,8 +55,8 @@ pub fn for_wrong_state(s: &[u8], work: &[u32], from: usize, end: usize, state: u
     ensures { (os : List (all.Outcome Condition)) → EachGives (an_outcome condition) s.now work.now from end os → Told s.now work.now (admission (or_else (first_from (λ o. o.wrong_state) 0 os) (wrong_state (text_at s.now state)))) result }
 {
     match first_wrong(s, work, from, end) {
-        Chosen::Nothing => Answer::WrongState(state),
-        Chosen::At(p) => Answer::Admitted(entry(s, work, p)),
+        None => Answer::WrongState(state),
+        Some(p) => Answer::Admitted(entry(s, work, p)),
     }
 }
 
@@ -80,27 +72,21 @@ pub fn admit(
     requires { Known (Gives (an_array_of a_text) s.now work.now states) × Known (Gives (an_array_of (an_outcome condition)) s.now work.now outcomes) × OnText s.now state 0 × Known (Gives (an_outcome condition) s.now work.now p.node) }
     ensures { (ts : List Bytes) (os : List (all.Outcome Condition)) (o : all.Outcome Condition) → Gives (an_array_of a_text) s.now work.now states ts → Gives (an_array_of (an_outcome condition)) s.now work.now outcomes os → Gives (an_outcome condition) s.now work.now p.node o → Told s.now work.now (admission (admit ts os (text_at s.now state) (record { place = p.place; outcome = o }))) result }
 {
-    let node = p.node;
-    let after = after_at(work, node);
-    let m = members(s, work, node + 1, after);
-    let effect = m.effect;
     let outcome = entry(s, work, p);
-    match of_effect(s, work, effect) {
-        Found::Nothing => Answer::Admitted(outcome),
-        Found::At(sources) => {
-            if is_one_of(s, work, sources, state) {
-                return Answer::Admitted(outcome);
-            }
-            let from = outcomes + 1;
-            let end = after_at(work, outcomes);
-            if is_wrong(s, work, states, from, end, state) {
-                return for_wrong_state(s, work, from, end, state);
-            }
-            Answer::NotASource(Move {
-                outcome: outcome,
-                state: state,
-                from: sources,
-            })
-        }
+    let effect = members_at(s, work, p.node).effect;
+    let Some(sources) = of_effect(s, work, effect) else {
+        return Answer::Admitted(outcome);
+    };
+    if is_one_of(s, work, sources, state) {
+        return Answer::Admitted(outcome);
     }
+    let end = after_at(work, outcomes);
+    if is_wrong(s, work, states, outcomes + 1, end, state) {
+        return for_wrong_state(s, work, outcomes + 1, end, state);
+    }
+    Answer::NotASource(Move {
+        outcome,
+        state,
+        from: sources,
+    })
 }

@@ -7,8 +7,7 @@ ghost use Rattle.sheet.specs.Accepted.{EachGives, Gives};
 ghost use Rattle.members.specs.Kinds.{a_text, some_texts};
 ghost use Rattle.sheet.specs.Accepted.{Known};
 
-use members::node::{TEXT, kind_at};
-use strings::rows::{after_at, start_at};
+use strings::rows::{Kind, after_at, kind_at, start_at};
 use strings::text::same;
 
 // Whether the text at a place is one of the texts from `from` up to `end`.
@@ -17,9 +16,9 @@ pub fn is_among(s: &[u8], work: &[u32], from: usize, end: usize, text: usize) ->
     ensures { (ts : List Bytes) → EachGives a_text s.now work.now from end ts → result ≡ is_one_of (text_at s.now text) ts }
 {
     let mut k = from;
+    // from row to row, as each row says which is next: no range counts these
     while k < end {
-        let at = start_at(work, k);
-        if same(s, text, at) {
+        if same(s, text, start_at(work, k)) {
             return true;
         }
         k = after_at(work, k);
@@ -32,9 +31,8 @@ pub fn is_one_of(s: &[u8], work: &[u32], node: usize, text: usize) -> bool
     requires { Known (Gives some_texts s.now work.now node) × OnText s.now text 0 }
     ensures { (ts : List Bytes) → Gives some_texts s.now work.now node ts → result ≡ is_one_of (text_at s.now text) ts }
 {
-    if kind_at(work, node) == TEXT {
-        let at = start_at(work, node);
-        return same(s, text, at);
+    if kind_at(work, node) == Kind::Text {
+        return same(s, text, start_at(work, node));
     }
     let end = after_at(work, node);
     is_among(s, work, node + 1, end, text)

@@ -4,7 +4,7 @@
 use mathlib.Core.Bool.{Bool, false, true, true≢false}
 use mathlib.Core.List.{List, [], ◌∷◌}
 use mathlib.Core.Logic.{inl, inr}
-use mathlib.Core.Option.{Option, none, some}
+use Rattle.std.specs.Prelude.{Option, None, Some}
 use mathlib.Core.Path.{ap, refl, subst, sym, ◌∙◌, ◌≡◌}
 use Rattle.answers.proofs.AlikeRules.{ReadFrom, alike_rules, optional_alike, read_from, required_alike}
 use Rattle.answers.proofs.Demand.{same_readings}
@@ -39,17 +39,17 @@ walk_sorted (k ∷ ks) (number s) t = refl
 walk_sorted (k ∷ ks) (text s) t = refl
 walk_sorted (k ∷ ks) (array vs) t = refl
 walk_sorted (k ∷ ks) (object ms) t =
-    ap (λ (o : Option Value). elim o [ none ↦ none | some w ↦ walk kernel ks w ]) (find_sorted k ms t) ∙
+    ap (λ (o : Option Value). elim o [ None ↦ None | Some w ↦ walk kernel ks w ]) (find_sorted k ms t) ∙
     go (walk_sorted ks) (find k (entries ms)) refl
   where
     go :
         ((w : Value) → tidy max_number w ≡ true → walk kernel ks (sorted w) ≡ mapped sorted (walk kernel ks w)) → (o : Option Value) →
         find k (entries ms) ≡ o →
-        (elim (mapped sorted o) [ none ↦ none | some w ↦ walk kernel ks w ]) ≡ mapped sorted (elim o [ none ↦ none | some w ↦ walk kernel ks w ])
-    go below none e = refl
-    go below (some w) e = below w (find_tidy k ms w t e)
+        (elim (mapped sorted o) [ None ↦ None | Some w ↦ walk kernel ks w ]) ≡ mapped sorted (elim o [ None ↦ None | Some w ↦ walk kernel ks w ])
+    go below None e = refl
+    go below (Some w) e = below w (find_tidy k ms w t e)
 
-walk_tidy : (ks : List Bytes) (v w : Value) → tidy max_number v ≡ true → walk kernel ks v ≡ some w → tidy max_number w ≡ true
+walk_tidy : (ks : List Bytes) (v w : Value) → tidy max_number v ≡ true → walk kernel ks v ≡ Some w → tidy max_number w ≡ true
 unfolding walk tidy
 walk_tidy [] v w t e = let i : v ≡ w = cc in subst (λ (x : Value). tidy max_number x ≡ true) i t
 walk_tidy (k ∷ ks) null w t e = let z : ◌≡◌ {A = Bool} true false = cc in absurd (true≢false z)
@@ -60,10 +60,10 @@ walk_tidy (k ∷ ks) (array vs) w t e = let z : ◌≡◌ {A = Bool} true false 
 walk_tidy (k ∷ ks) (object ms) w t e = go (walk_tidy ks) (find k (entries ms)) refl e
   where
     go :
-        ((x y : Value) → tidy max_number x ≡ true → walk kernel ks x ≡ some y → tidy max_number y ≡ true) → (o : Option Value) →
-        find k (entries ms) ≡ o → (elim o [ none ↦ none | some x ↦ walk kernel ks x ]) ≡ some w → tidy max_number w ≡ true
-    go below none q f = let z : ◌≡◌ {A = Bool} true false = cc in absurd (true≢false z)
-    go below (some x) q f = below x w (find_tidy k ms x t q) f
+        ((x y : Value) → tidy max_number x ≡ true → walk kernel ks x ≡ Some y → tidy max_number y ≡ true) → (o : Option Value) →
+        find k (entries ms) ≡ o → (elim o [ None ↦ None | Some x ↦ walk kernel ks x ]) ≡ Some w → tidy max_number w ≡ true
+    go below None q f = let z : ◌≡◌ {A = Bool} true false = cc in absurd (true≢false z)
+    go below (Some x) q f = below x w (find_tidy k ms x t q) f
 
 -- ---- what a member of a kind was read from
 is_text_lem : (v : Value) (s : Bytes) → a_text v ≡ ok s → v ≡ text s
@@ -97,16 +97,16 @@ is_object (object ms) a e = ap object (ok_injective e)
 
 -- where a kind says what the value was
 module _ {A : Type 0} (kind : Value → Result A) (back : A → Value) (is : (v : Value) (a : A) → kind v ≡ ok a → v ≡ back a) where
-  required_from : (o : Option Value) (a : A) → (or_else o wrong_sheet >>= kind) ≡ ok a → o ≡ some (back a)
-  required_from none a e = ok_not_refused a wrong_sheet (sym e)
-  required_from (some v) a e = ap some (is v a e)
+  required_from : (o : Option Value) (a : A) → (or_else o wrong_sheet >>= kind) ≡ ok a → o ≡ Some (back a)
+  required_from None a e = ok_not_refused a wrong_sheet (sym e)
+  required_from (Some v) a e = ap Some (is v a e)
 
-optional_from : (o : Option Value) (t : Option Bytes) → (elim o [ none ↦ ok none | some v ↦ (a_text v >>= λ a. ok (some a)) ]) ≡ ok t → o ≡ if_any t
-optional_from none t e = let i : none ≡ t = cc in ap if_any i
-optional_from (some v) t e = by (a_text v) refl e
+optional_from : (o : Option Value) (t : Option Bytes) → (elim o [ None ↦ ok None | Some v ↦ (a_text v >>= λ a. ok (Some a)) ]) ≡ ok t → o ≡ if_any t
+optional_from None t e = let i : None ≡ t = cc in ap if_any i
+optional_from (Some v) t e = by (a_text v) refl e
   where
-    by : (x : Result Bytes) → a_text v ≡ x → (x >>= λ a. ok (some a)) ≡ ok t → some v ≡ if_any t
-    by (ok s) q f = let i : some s ≡ t = cc in ap some (is_text_lem v s q) ∙ ap if_any i
+    by : (x : Result Bytes) → a_text v ≡ x → (x >>= λ a. ok (Some a)) ≡ ok t → Some v ≡ if_any t
+    by (ok s) q f = let i : Some s ≡ t = cc in ap Some (is_text_lem v s q) ∙ ap if_any i
     by (refused r) q f = ok_not_refused t r (sym f)
 
 -- ---- an expression that is known gives what stands in the text, sorted
@@ -118,13 +118,13 @@ module _ (ms : Members) (sheet : Sheet Condition) (x : ReadFrom ms sheet) where
   root_by k v f g e = sym (ok_injective e) ∙ sym f ∙ find_sorted k ms x.is_tidy
 
   id_by : (o : Option Bytes) → find (ascii "id") (entries (sorted_of ms)) ≡ if_any o → (g : Option Value) → id_of o ≡ ok g → g ≡ mapped sorted (find (ascii "id") (entries ms))
-  id_by none f g e = ok_not_refused g _ (sym e)
-  id_by (some s) f g e = root_by (ascii "id") (some (text s)) f g e
+  id_by None f g e = ok_not_refused g _ (sym e)
+  id_by (Some s) f g e = root_by (ascii "id") (Some (text s)) f g e
 
-  text_found : (k t : Bytes) → required a_text k (sorted_of ms) ≡ ok t → find k (entries (sorted_of ms)) ≡ some (text t)
+  text_found : (k t : Bytes) → required a_text k (sorted_of ms) ≡ ok t → find k (entries (sorted_of ms)) ≡ Some (text t)
   text_found k t e = required_from a_text text is_text_lem (find k (entries (sorted_of ms))) t e
 
-  object_found : (k : Bytes) (a : Members) → required an_object k (sorted_of ms) ≡ ok a → find k (entries (sorted_of ms)) ≡ some (object a)
+  object_found : (k : Bytes) (a : Members) → required an_object k (sorted_of ms) ≡ ok a → find k (entries (sorted_of ms)) ≡ Some (object a)
   object_found k a e = required_from an_object object is_object (find k (entries (sorted_of ms))) a e
 
   roots_written : Each RootWritten (roots sheet)
@@ -141,7 +141,7 @@ module _ (ms : Members) (sheet : Sheet Condition) (x : ReadFrom ms sheet) where
       (one (root_by (ascii "old_fields") _ (object_found (ascii "old_fields") sheet.old_fields x.parts.old_fields)) done))))))))
 
   BaseWritten : Bytes × Members → Type 0
-  BaseWritten b = find b.0 (entries (sorted_of ms)) ≡ some (object b.1)
+  BaseWritten b = find b.0 (entries (sorted_of ms)) ≡ Some (object b.1)
 
   bases_written : Each BaseWritten (bases sheet)
   unfolding BaseWritten
@@ -156,22 +156,22 @@ module _ (ms : Members) (sheet : Sheet Condition) (x : ReadFrom ms sheet) where
     where
       root :
           (name : Bytes) (o : Option (Result (Option Value))) → find name (roots sheet) ≡ o →
-          (elim o [ none ↦ refused (unknown_expression (36 ∷ e)) | some r ↦ r ]) ≡ ok g → g ≡ mapped sorted (find (member_read name) (entries ms))
-      root name none q f = ok_not_refused g _ (sym f)
-      root name (some r) q f = each_found roots_written name r q g f
+          (elim o [ None ↦ refused (unknown_expression (36 ∷ e)) | Some r ↦ r ]) ≡ ok g → g ≡ mapped sorted (find (member_read name) (entries ms))
+      root name None q f = ok_not_refused g _ (sym f)
+      root name (Some r) q f = each_found roots_written name r q g f
 
-      empty : (o : Option Members) → (elim o [ none ↦ refused (unknown_expression (36 ∷ e)) | some b ↦ ok none ]) ≡ ok g → g ≡ none
-      empty none f = ok_not_refused g _ (sym f)
-      empty (some b) f = sym (ok_injective f)
+      empty : (o : Option Members) → (elim o [ None ↦ refused (unknown_expression (36 ∷ e)) | Some b ↦ ok None ]) ≡ ok g → g ≡ None
+      empty None f = ok_not_refused g _ (sym f)
+      empty (Some b) f = sym (ok_injective f)
 
       path :
           (name : Bytes) (ks : List Bytes) (o : Option Members) → find name (bases sheet) ≡ o →
-          (elim o [ none ↦ refused (unknown_expression (36 ∷ e)) | some b ↦ ok (walk kernel ks (object b)) ]) ≡ ok g →
+          (elim o [ None ↦ refused (unknown_expression (36 ∷ e)) | Some b ↦ ok (walk kernel ks (object b)) ]) ≡ ok g →
           g ≡ mapped sorted (walk kernel (name ∷ ks) (object ms))
-      path name ks none q f = ok_not_refused g _ (sym f)
-      path name ks (some b) q f =
+      path name ks None q f = ok_not_refused g _ (sym f)
+      path name ks (Some b) q f =
           sym (ok_injective f) ∙
-          sym (ap (λ (o : Option Value). elim o [ none ↦ none | some w ↦ walk kernel ks w ]) (each_found bases_written name b q)) ∙
+          sym (ap (λ (o : Option Value). elim o [ None ↦ None | Some w ↦ walk kernel ks w ]) (each_found bases_written name b q)) ∙
           walk_sorted (name ∷ ks) (object ms) x.is_tidy
 
       by : (ps : List Bytes) → gives_parts kernel sheet [] e ps ≡ ok g → g ≡ mapped sorted (given_in ms ps)
@@ -181,7 +181,7 @@ module _ (ms : Members) (sheet : Sheet Condition) (x : ReadFrom ms sheet) where
       by (name ∷ (c ∷ p) ∷ ps) f = path name ((c ∷ p) ∷ ps) (find name (bases sheet)) refl f
 
 -- ---- readings that the texts have alike
-given_tidy : (ms : Members) → tidy_of max_number ms ≡ true → (ps : List Bytes) (v : Value) → given_in ms ps ≡ some v → tidy max_number v ≡ true
+given_tidy : (ms : Members) → tidy_of max_number ms ≡ true → (ps : List Bytes) (v : Value) → given_in ms ps ≡ Some v → tidy max_number v ≡ true
 unfolding given_in tidy
 given_tidy ms t [] v e = let z : ◌≡◌ {A = Bool} true false = cc in absurd (true≢false z)
 given_tidy ms t (name ∷ []) v e = find_tidy (member_read name) ms v t e
@@ -189,10 +189,10 @@ given_tidy ms t (name ∷ [] ∷ ps) v e = let z : ◌≡◌ {A = Bool} true fal
 given_tidy ms t (name ∷ (c ∷ p) ∷ ps) v e = walk_tidy (name ∷ (c ∷ p) ∷ ps) (object ms) v t e
 
 given_alike : (ms : Members) → tidy_of max_number ms ≡ true → (ps : List Bytes) (o p : Option Value) → given_in ms ps ≡ o → AlikeGiven o p → mapped sorted o ≡ mapped sorted p
-given_alike ms t ps none none e both_nothing = refl
-given_alike ms t ps none (some w) e x = elim x [ ]
-given_alike ms t ps (some v) none e x = elim x [ ]
-given_alike ms t ps (some v) (some w) e (both_give a) = ap {B = Option Value} (λ z. some z) (alike_sorted max_number v w a (given_tidy ms t ps v e))
+given_alike ms t ps None None e both_nothing = refl
+given_alike ms t ps None (Some w) e x = elim x [ ]
+given_alike ms t ps (Some v) None e x = elim x [ ]
+given_alike ms t ps (Some v) (Some w) e (both_give a) = ap {B = Option Value} (λ z. Some z) (alike_sorted max_number v w a (given_tidy ms t ps v e))
 
 -- The premises, but for `clean`, told from the texts: rules and state are alike, and so is every reading, or it gives nothing now.
 pub comparable_texts :
@@ -246,12 +246,12 @@ same_gives old new h e = by (parts e)
 
     by : (ps : List Bytes) → gives_parts kernel new [] e ps ≡ gives_parts kernel old [] e ps
     by [] = refl
-    by (name ∷ []) = ap (λ (rs : List (Bytes × Result (Option Value))). elim (find name rs) [ none ↦ refused (unknown_expression (36 ∷ e)) | some r ↦ r ]) rooted
-    by (name ∷ [] ∷ ps) = ap (λ (bs : List (Bytes × Members)). elim (find name bs) [ none ↦ refused (unknown_expression (36 ∷ e)) | some ms ↦ ok none ]) based
+    by (name ∷ []) = ap (λ (rs : List (Bytes × Result (Option Value))). elim (find name rs) [ None ↦ refused (unknown_expression (36 ∷ e)) | Some r ↦ r ]) rooted
+    by (name ∷ [] ∷ ps) = ap (λ (bs : List (Bytes × Members)). elim (find name bs) [ None ↦ refused (unknown_expression (36 ∷ e)) | Some ms ↦ ok None ]) based
     by (name ∷ (c ∷ p) ∷ ps) =
         ap
         (λ (bs : List (Bytes × Members)). elim (find name bs)
-        [ none ↦ refused (unknown_expression (36 ∷ e)) | some ms ↦ ok (walk kernel ((c ∷ p) ∷ ps) (object ms)) ]) based
+        [ None ↦ refused (unknown_expression (36 ∷ e)) | Some ms ↦ ok (walk kernel ((c ∷ p) ∷ ps) (object ms)) ]) based
 
 pub alike_readings :
     (s s' : Bytes) (ms ns : Members) (old new : Sheet Condition) → json s ≡ ok (object ms) → json s' ≡ ok (object ns) → read_sheet s ≡ ok old →

@@ -1,7 +1,7 @@
 -- Two texts whose rules, outcomes and states are alike, members in any order, have the same rules as read.
 -- Assumes nothing.
 use mathlib.Core.Bool.{true}
-use mathlib.Core.Option.{Option, none, some}
+use Rattle.std.specs.Prelude.{Option, None, Some}
 use mathlib.Core.Path.{ap, subst, sym, ◌∙◌, ◌≡◌}
 use Rattle.answers.specs.Demand.{SameRules}
 use Rattle.json_text.proofs.Alike.{alike_sorted}
@@ -45,7 +45,7 @@ module _ {ms ns : Members} (t : tidy_of max_number ms ≡ true) (u : tidy_of max
   found_alike (both_there v w e f a) =
       find_sorted k ms t ∙
       ap (mapped sorted) e ∙
-      ap {B = Option Value} (λ x. some x) (alike_sorted max_number v w a (find_tidy k ms v t e)) ∙
+      ap {B = Option Value} (λ x. Some x) (alike_sorted max_number v w a (find_tidy k ms v t e)) ∙
       sym (ap (mapped sorted) f) ∙
       sym (find_sorted k ns u)
 
@@ -61,7 +61,7 @@ module _ {ms ns : Members} (t : tidy_of max_number ms ≡ true) (u : tidy_of max
       optional kind k (sorted_of ns) ≡ ok b → b ≡ a
   optional_alike {A} kind a b h e f =
       let x : ◌≡◌ {A = Result (Option A)} (ok b) (ok a) = sym f ∙
-      ap {B = Result (Option A)} (λ o. elim o [ none ↦ ok none | some v ↦ (kind v >>= (λ a. ok (some a))) ]) (sym (found_alike h)) ∙
+      ap {B = Result (Option A)} (λ o. elim o [ None ↦ ok None | Some v ↦ (kind v >>= (λ a. ok (Some a))) ]) (sym (found_alike h)) ∙
       e in
       let y : b ≡ a = cc in
       y

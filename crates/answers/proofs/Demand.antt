@@ -3,7 +3,7 @@
 use mathlib.Core.Bool.{false, true, true≢false}
 use mathlib.Core.List.{Memᴰ, [], ◌∷◌}
 use mathlib.Core.Logic.{inl, inr, ◌≢◌, ◌⊎◌}
-use mathlib.Core.Option.{Option, none, some}
+use Rattle.std.specs.Prelude.{Option, None, Some}
 use mathlib.Core.Path.{ap, refl, sym, ◌∙◌, ◌≡◌}
 use Prim.Native.Nat.{ℕ, ◌<◌}
 use borrow.Author.Tests.{ltb-true}
@@ -68,7 +68,7 @@ fact_of old new c r m =
     now : (g : Option Value) × (gives kernel new [] r.text ≡ ok g)
     now = known_gives kernel new (sheet_readings new) c.is_clean_again r (rw (same_readings old new c.same_rules) m)
 
-    change : Kept old new r → (now.0 ≡ was.0) ⊎ (now.0 ≡ none)
+    change : Kept old new r → (now.0 ≡ was.0) ⊎ (now.0 ≡ None)
     change (inl u) = inl (ok_injective (sym now.1 ∙ u ∙ was.1))
     change (inr g) = inr (ok_injective (sym now.1 ∙ g.1))
 
@@ -78,7 +78,7 @@ fact_of old new c r m =
 
 -- where the outcome selected has no guard, only the guards before it count
 pub before_selected :
-    (s : Sheet Condition) (v : Verdict) (p : Placed) (k : ℕ) → decide_call s ≡ ok v → select s 0 s.outcomes ≡ ok p → p.outcome.when ≡ none →
+    (s : Sheet Condition) (v : Verdict) (p : Placed) (k : ℕ) → decide_call s ≡ ok v → select s 0 s.outcomes ≡ ok p → p.outcome.when ≡ None →
     counts_for s (guard k) ≡ true → k < p.place
 unfolding counts_for
 before_selected s v p k e f w c = ltb-true k p.place (rw (e, counts_for, f, w) at c)
@@ -89,9 +89,9 @@ NamesLost old new ns =
     (x : Reading) ×
     (v : Value) ×
     IsReading old x ×
-    (gives kernel old [] x.text ≡ ok (some v)) ×
+    (gives kernel old [] x.text ≡ ok (Some v)) ×
     (v ≢ null) ×
-    (gives kernel new [] x.text ≡ ok none) ×
+    (gives kernel new [] x.text ≡ ok None) ×
     Memᴰ (36 ∷ x.text) ns
 
 -- a refusal has one, unless the old decision was an unobservable refusal at the same step

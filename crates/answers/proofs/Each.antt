@@ -4,7 +4,7 @@ use mathlib.Core.Bool.{Bool, false, true}
 use mathlib.Core.List.Memᴰ
 use mathlib.Core.List.{List, Memᴰ, [], ◌∷◌}
 use mathlib.Core.Logic.{inl, inr, ◌⊎◌}
-use mathlib.Core.Option.{some}
+use Rattle.std.specs.Prelude.{Some}
 use mathlib.Core.Path.{ap₂, refl, subst, sym, ◌≡◌}
 use Prim.Native.Nat.{ℕ}
 use native.Mathlib.Omega.{arith}
@@ -25,12 +25,12 @@ each_is {A} {P} (one {x = y} {xs = ys} p ps) x m = by (λ n. each_is ps x n) (Me
     by below (inr n) = below n
 
 -- of what is found by its name
-pub each_found : {A : Type 0} {P : Bytes × A → Type 0} {xs : List (Bytes × A)} → Each P xs → (k : Bytes) (a : A) → find k xs ≡ some a → P (k, a)
+pub each_found : {A : Type 0} {P : Bytes × A → Type 0} {xs : List (Bytes × A)} → Each P xs → (k : Bytes) (a : A) → find k xs ≡ Some a → P (k, a)
 unfolding find
 each_found done k a e = let z : ◌≡◌ {A = ℕ} 0 1 = cc in absurd (omega arith)
 each_found {A} {P} (one {x} {xs} p ps) k a e = by (λ h. each_found ps k a h) (same_bytes k x.0) refl
   where
-    by : (find k xs ≡ some a → P (k, a)) → (b : Bool) → same_bytes k x.0 ≡ b → P (k, a)
+    by : (find k xs ≡ Some a → P (k, a)) → (b : Bool) → same_bytes k x.0 ≡ b → P (k, a)
     by below true q =
         let i : k ≡ x.0 = same_bytes_true k x.0 q in
         let j : x.1 ≡ a = cc (rw (q, find) at e) in

@@ -1,7 +1,7 @@
 -- The paper's P table as one theorem, and its example, by computation from the texts.
 -- Assumes nothing.
 use mathlib.Core.List.{List, map, [], ◌++◌, ◌∷◌}
-use mathlib.Core.Option.{some}
+use Rattle.std.specs.Prelude.{Some}
 use mathlib.Core.Path.{refl, ◌≡◌}
 use Prim.Native.Nat.{ℕ}
 use Prim.Native.String.{String}
@@ -23,7 +23,7 @@ sheet_of c =
     ascii "}"
 
 abbrev pub reply_of : Case → Reply
-reply_of c = record { number = c.number; line = some (ascii c.line) }
+reply_of c = record { number = c.number; line = Some (ascii c.line) }
 
 -- P1 (twice) to P12
 abbrev pub cases : List Case
@@ -62,10 +62,10 @@ sheet = with_args "{\"v\":[3.61,3.58]}"
 abbrev pub erased : Bytes
 erased = with_args "{}"
 
-pub example : decide sheet 16384 65536 ≡ record { number = 0; line = some (ascii "(admitted 1 \"rebuild\")\n") }
+pub example : decide sheet 16384 65536 ≡ record { number = 0; line = Some (ascii "(admitted 1 \"rebuild\")\n") }
 unfolding decide
 example = refl
 
-pub example_erased : decide erased 16384 65536 ≡ record { number = 20; line = some (ascii "(refused 20 0 \"scrap\" (names \"$args.v\"))\n") }
+pub example_erased : decide erased 16384 65536 ≡ record { number = 20; line = Some (ascii "(refused 20 0 \"scrap\" (names \"$args.v\"))\n") }
 unfolding decide
 example_erased = refl

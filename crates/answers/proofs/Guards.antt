@@ -3,7 +3,7 @@
 use mathlib.Core.Bool.{Bool, false, true, true≢false}
 use mathlib.Core.List.{List, [], ◌∷◌}
 use mathlib.Core.Logic.{inl, inr, ◌⊎◌}
-use mathlib.Core.Option.{Option, none, some}
+use Rattle.std.specs.Prelude.{Option, None, Some}
 use mathlib.Core.Path.{ap, refl, sym, ◌∙◌, ◌≡◌}
 use Prim.Native.Nat.{ℕ, suc, ◌+◌, ◌≤◌}
 use native.Mathlib.Nat.{le_refl, le_trans}
@@ -63,7 +63,7 @@ abbrev pub GuardTried : ℕ → Result Placed → Type 0
 GuardTried i x =
     GuardShape (i + 1) x ⊎
     ((x ≡ refused no_outcome) ⊎
-    (((p : Placed) × (c : Condition) × (x ≡ ok p) × (p.outcome.when ≡ some c) × (i ≤ p.place)) ⊎
+    (((p : Placed) × (c : Condition) × (x ≡ ok p) × (p.outcome.when ≡ Some c) × (i ≤ p.place)) ⊎
     ((j : ℕ) × (n : Bytes) × (ns : Names) × (x ≡ refused (guard_unknown j n ns)) × (i ≤ j))))
 
 module _ (Erased : Bytes → Type 0) where
@@ -81,18 +81,18 @@ module _ (Erased : Bytes → Type 0) where
 
   pub record GuardLater (old new : Sheet Condition) (w : Option Condition) : Type 0 where
     pub answers : Both (Later Erased) (guard_held old w) (guard_held new w)
-    pub has : answers.now.truth ≡ Unknown → (c : Condition) × (w ≡ some c)
+    pub has : answers.now.truth ≡ Unknown → (c : Condition) × (w ≡ Some c)
 
   module _ (old new : Sheet Condition) where
     pub later_guard : (w : Option Condition) → Every (Fact kernel Erased old new) (when_readings w) → GuardLater old new w
     unfolding guard_held
-    later_guard none h = record { answers = record { was = _; now = _; is_was = refl; is_now = refl; rel = truth_kept refl }; has = λ e. absurd (true≢false (ap is_true e)) }
+    later_guard None h = record { answers = record { was = _; now = _; is_was = refl; is_now = refl; rel = truth_kept refl }; has = λ e. absurd (true≢false (ap is_true e)) }
       where
         is_true : Truth → Bool
         is_true True = true
         is_true False = false
         is_true Unknown = false
-    later_guard (some c) h = record { answers = later_evaluate kernel Erased old new [] c h; has = λ e. (c, refl) }
+    later_guard (Some c) h = record { answers = later_evaluate kernel Erased old new [] c h; has = λ e. (c, refl) }
 
     -- one outcome more, eligible on both sheets or on neither
     pub later_outcome : (i : ℕ) (o : Outcome Condition) (os : List (Outcome Condition)) → eligible new.state o ≡ eligible old.state o →
@@ -189,7 +189,7 @@ module _ (Erased : Bytes → Type 0) where
             (k : ℕ) × (j ≡ i + k) × (is_guarded new.state (at i k (o ∷ os)) ≡ true)
         further f = (suc f.0, omega (arith, f.1), f.2)
 
-        guarded : eligible new.state o ≡ true → (c : Condition) → o.when ≡ some c → is_guarded new.state (some (record { place = i; outcome = o })) ≡ true
+        guarded : eligible new.state o ≡ true → (c : Condition) → o.when ≡ Some c → is_guarded new.state (Some (record { place = i; outcome = o })) ≡ true
         guarded q c w = rw (q, w) refl
 
         judged : (select new (i + 1) os ≡ refused (guard_unknown j n ns) → (k : ℕ) × (j ≡ i + k) ×

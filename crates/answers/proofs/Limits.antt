@@ -1,7 +1,7 @@
 -- Each limit met and passed by one, through whole calls, as one table and one theorem; and the ties. A text that is read but is no object gives 9.
 -- Assumes nothing.
 use mathlib.Core.List.{List, map, [], ◌++◌, ◌∷◌}
-use mathlib.Core.Option.{Option, none, some}
+use Rattle.std.specs.Prelude.{Option, None, Some}
 use mathlib.Core.Path.{refl, ◌≡◌}
 use Prim.Native.Nat.{ℕ, suc, zero}
 use lib.ListN.{replicate}
@@ -20,8 +20,8 @@ reply_of c = decide c.text c.work c.output
 
 -- the first row answers with a line; the others write nothing
 abbrev pub line_of : ℕ → Option Bytes
-line_of zero = some (ascii "(admitted 1 \"rebuild\")\n")
-line_of (suc n) = none
+line_of zero = Some (ascii "(admitted 1 \"rebuild\")\n")
+line_of (suc n) = None
 
 abbrev pub expected : Case → Reply
 expected c = record { number = c.number; line = line_of c.number }

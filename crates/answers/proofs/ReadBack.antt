@@ -2,7 +2,7 @@
 -- Assumes nothing.
 use mathlib.Core.Bool.{Bool, false, true}
 use mathlib.Core.List.{List, append_assoc, append-nil, [], ◌++◌, ◌∷◌}
-use mathlib.Core.Option.{Option, none, some}
+use Rattle.std.specs.Prelude.{Option, None, Some}
 use mathlib.Core.Path.{ap, refl, subst, sym, ◌∙◌, ◌≡◌}
 use Prim.Native.Nat.{suc, zero, ℕ, ◌%◌, ◌+◌, ◌/◌, ◌<◌, ◌≤◌}
 use native.Mathlib.Omega.{arith}
@@ -176,7 +176,7 @@ truth_back False = refl
 truth_back Unknown = refl
 
 -- an answer is read back from its line
-as_it_is_lem : {a : Result Verdict} {l : Bytes} → read_line l ≡ some a → Recovered a l
+as_it_is_lem : {a : Result Verdict} {l : Bytes} → read_line l ≡ Some a → Recovered a l
 as_it_is_lem {a = a} e = record { got = a; reads = e; printed = as_it_is }
 
 placed_gives : (i : ℕ) (n : Bytes) → Pieces (decimal_digits i ∷ quoted n ∷ []) (word (decimal_digits i) ∷ text n ∷ [])
@@ -201,18 +201,18 @@ refused_gives n h p = line_gives (piece (letters (ascii "refused") (λ s. refl) 
 
 -- a rule's name, `()` where it is missing, and its message, which is never missing on a line
 name_token : Option Bytes → Token
-name_token none = opening
-name_token (some n) = text n
+name_token None = opening
+name_token (Some n) = text n
 
 name_gives : (n : Option Bytes) → Gives (name_or n) (name_token n ∷ [])
 unfolding name_token ahead tokens
-name_gives none = record { spaced = λ s. refl; closed = λ s. refl }
-name_gives (some n) = text_gives n
+name_gives None = record { spaced = λ s. refl; closed = λ s. refl }
+name_gives (Some n) = text_gives n
 
 name_back : (n : Option Bytes) → text_of (name_token n) ≡ n
 unfolding name_token
-name_back none = refl
-name_back (some n) = refl
+name_back None = refl
+name_back (Some n) = refl
 
 module _ (i : ℕ) (n : Option Bytes) (m : Bytes) (h : Small i) where
   abbrev rule_words : List Bytes → List Bytes
@@ -221,24 +221,24 @@ module _ (i : ℕ) (n : Option Bytes) (m : Bytes) (h : Small i) where
   rule_gives : {ws : List Bytes} {ts : List Token} → Pieces ws ts → Pieces (rule_words ws) (word (decimal_digits i) ∷ name_token n ∷ text m ∷ ts)
   rule_gives p = piece (number_gives i) (piece (name_gives n) (piece (text_gives m) p))
 
-  false_back : (k : Rules) → read_line (end_line (refused_form (false_number k) (rule_words []))) ≡ some (refused (rule_false k i n (some m)))
+  false_back : (k : Rules) → read_line (end_line (refused_form (false_number k) (rule_words []))) ≡ Some (refused (rule_false k i n (Some m)))
   unfolding refusal_of
   false_back preconditions = refused_gives 15 (omega arith) (rule_gives done) ∙ rw (reads_back i h, name_back n)
   false_back invariants = refused_gives 17 (omega arith) (rule_gives done) ∙ rw (reads_back i h, name_back n)
 
-  unknown_back : (k : Rules) (ns : List Bytes) → read_line (end_line (refused_form (unknown_number k) (rule_words (names ns ∷ [])))) ≡ some (refused (rule_unknown k i n (some m) ns))
+  unknown_back : (k : Rules) (ns : List Bytes) → read_line (end_line (refused_form (unknown_number k) (rule_words (names ns ∷ [])))) ≡ Some (refused (rule_unknown k i n (Some m) ns))
   unfolding refusal_of
   unknown_back preconditions ns = refused_gives 16 (omega arith) (rule_gives (piece (names_give ns) done)) ∙ rw (reads_back i h, name_back n, texts_back ns)
   unknown_back invariants ns = refused_gives 18 (omega arith) (rule_gives (piece (names_give ns) done)) ∙ rw (reads_back i h, name_back n, texts_back ns)
 
 -- a refusal has a line and is read back from it, or has none
 abbrev OnLine : Result Verdict → Option Bytes → Type 0
-OnLine a m = (l : Bytes) → m ≡ some l → Recovered a l
+OnLine a m = (l : Bytes) → m ≡ Some l → Recovered a l
 
-here : {a : Result Verdict} {l : Bytes} → Recovered a l → OnLine a (some l)
+here : {a : Result Verdict} {l : Bytes} → Recovered a l → OnLine a (Some l)
 here {a = a} {l = m} b l e = let z : m ≡ l = cc in subst (Recovered a) z b
 
-no_line_lem : {a : Result Verdict} → OnLine a none
+no_line_lem : {a : Result Verdict} → OnLine a None
 no_line_lem l e = none_some l e
 
 refusal_back : (r : Refusal) → Small (refusal_place r) → OnLine (refused r) (refusal_line r)
@@ -257,10 +257,10 @@ refusal_back not_carried h = no_line_lem
 refusal_back no_input h = no_line_lem
 refusal_back (unknown_expression e) h = here (as_it_is_lem (refused_gives 13 (omega arith) (piece (text_gives e) done)))
 refusal_back no_id h = here (as_it_is_lem (refused_gives 14 (omega arith) (piece (text_gives (ascii "$id")) done)))
-refusal_back (rule_false k i n none) h = here (record { got = _; reads = false_back i n _ h k; printed = of_false })
-refusal_back (rule_false k i n (some m)) h = here (as_it_is_lem (false_back i n m h k))
-refusal_back (rule_unknown k i n none ns) h = here (record { got = _; reads = unknown_back i n _ h k ns; printed = of_unknown })
-refusal_back (rule_unknown k i n (some m) ns) h = here (as_it_is_lem (unknown_back i n m h k ns))
+refusal_back (rule_false k i n None) h = here (record { got = _; reads = false_back i n _ h k; printed = of_false })
+refusal_back (rule_false k i n (Some m)) h = here (as_it_is_lem (false_back i n m h k))
+refusal_back (rule_unknown k i n None ns) h = here (record { got = _; reads = unknown_back i n _ h k ns; printed = of_unknown })
+refusal_back (rule_unknown k i n (Some m) ns) h = here (as_it_is_lem (unknown_back i n m h k ns))
 refusal_back no_outcome h = here (as_it_is_lem (refused_gives 19 (omega arith) done))
 refusal_back (guard_unknown i n ns) h =
     let p = piece (number_gives i) (piece (text_gives n) (piece (names_give ns) done)) in
@@ -272,24 +272,24 @@ refusal_back (not_a_source i n s from) h =
 refusal_back line_too_long h = no_line_lem
 
 -- What a reply's line says is read back from it: number, place, texts and names.
-fitted_line : (output n : ℕ) (m : Option Bytes) (l : Bytes) → (fitted output n m).line ≡ some l → m ≡ some l
-fitted_line output n none l e = e
-fitted_line output n (some m) l e = go (leb (length m) output) e
+fitted_line : (output n : ℕ) (m : Option Bytes) (l : Bytes) → (fitted output n m).line ≡ Some l → m ≡ Some l
+fitted_line output n None l e = e
+fitted_line output n (Some m) l e = go (leb (length m) output) e
   where
     go : (b : Bool) →
         Reply.line
-        (elim b [ true ↦ record { number = n; line = some m } | false ↦ record { number = refusal_number line_too_long; line = none } ]) ≡
-        some l → some m ≡ some l
+        (elim b [ true ↦ record { number = n; line = Some m } | false ↦ record { number = refusal_number line_too_long; line = None } ]) ≡
+        Some l → Some m ≡ Some l
     go true q = q
     go false q = none_some l q
 
-pub read_back : (output : ℕ) (a : Result Verdict) (l : Bytes) → Small (place_of a) → (reply output a).line ≡ some l → Recovered a l
+pub read_back : (output : ℕ) (a : Result Verdict) (l : Bytes) → Small (place_of a) → (reply output a).line ≡ Some l → Recovered a l
 unfolding reply
-read_back output (ok v) l h e = here (answer_back v h) l (fitted_line output 0 (some (verdict_line v)) l e)
+read_back output (ok v) l h e = here (answer_back v h) l (fitted_line output 0 (Some (verdict_line v)) l e)
 read_back output (refused r) l h e = refusal_back r h l (fitted_line output (refusal_number r) (refusal_line r) l e)
 
 -- Two replies with one line are of answers or refusals that are printed alike: of one number and one place, with the same texts and names.
-pub same_line : (n m : ℕ) (a b : Result Verdict) (l : Bytes) → Small (place_of a) → Small (place_of b) → (reply n a).line ≡ some l → (reply m b).line ≡ some l → PrintedAlike a b
+pub same_line : (n m : ℕ) (a b : Result Verdict) (l : Bytes) → Small (place_of a) → Small (place_of b) → (reply n a).line ≡ Some l → (reply m b).line ≡ Some l → PrintedAlike a b
 same_line n m a b l h k e f =
     let x = read_back n a l h e in
     let y = read_back m b l k f in

@@ -3,7 +3,7 @@
 use mathlib.Core.Bool.{Bool, false, true}
 use mathlib.Core.List.{List, Memᴰ, [], ◌∷◌}
 use mathlib.Core.Logic.{inl, inr, ◌≢◌, ◌⊎◌}
-use mathlib.Core.Option.{Option, none, some}
+use Rattle.std.specs.Prelude.{Option, None, Some}
 use mathlib.Core.Path.{ap, ap₂, refl, subst, sym, ◌∙◌, ◌≡◌}
 use Prim.Native.Nat.{ℕ, ◌+◌, ◌<◌}
 use native.Mathlib.Omega.{arith}
@@ -81,8 +81,8 @@ unfolding admit settler
 admit_shape states os s p = by p.outcome.effect
   where
     first : (o : Option Placed) → AdmitShape (or_else o (Refusal.wrong_state s))
-    first none = inr (_, refl, refl)
-    first (some q) = inl (q, refl)
+    first None = inr (_, refl, refl)
+    first (Some q) = inl (q, refl)
 
     wrong : List Bytes → Bool → Result Placed
     wrong from b = elim b [ true ↦ or_else (first_from (λ o. o.wrong_state) 0 os) (Refusal.wrong_state s) | false ↦ refused (Refusal.not_a_source p.place p.outcome.name s from) ]
@@ -129,7 +129,7 @@ admitted_from states os x p = do
   ok (as_admitted q)
 
 -- once the rules have passed
-module _ (s : Sheet Condition) (x : Bytes) (st : s.state ≡ some x) (pass : check s preconditions 0 s.preconditions ≡ ok passed) where
+module _ (s : Sheet Condition) (x : Bytes) (st : s.state ≡ Some x) (pass : check s preconditions 0 s.preconditions ≡ ok passed) where
   decide_select : decide_call s ≡ (select s 0 s.outcomes >>= admitted_from s.states s.outcomes x)
   unfolding decide_from admitted_from
   decide_select = decide_parts s ∙ ap (λ (o : Option Bytes). decide_from s o s.preconditions s.outcomes s.states) st ∙ bind_ok _ pass
@@ -155,8 +155,8 @@ module _ (s : Sheet Condition) (x : Bytes) (st : s.state ≡ some x) (pass : che
   rule_counts k (chosen p e h) = counts_chosen p (rule k) e ∙ by p.outcome.when
     where
       by : (w : Option Condition) → up_to_outcome w p.place (rule k) ≡ true
-      by none = refl
-      by (some c) = refl
+      by None = refl
+      by (Some c) = refl
   rule_counts k (exhausted e) = counts_exhausted (rule k) e
   rule_counts k (stopped j n ns e h) = counts_stopped j n ns (rule k) e
 
@@ -164,8 +164,8 @@ module _ (s : Sheet Condition) (x : Bytes) (st : s.state ≡ some x) (pass : che
   guard_counts k (inl (chosen p e h)) = counts_chosen p (guard k) e ∙ by p.outcome.when
     where
       by : (w : Option Condition) → up_to_outcome w p.place (guard k) ≡ true
-      by none = ltb_true k p.place (omega arith)
-      by (some c) = leb_true k p.place (omega arith)
+      by None = ltb_true k p.place (omega arith)
+      by (Some c) = leb_true k p.place (omega arith)
   guard_counts k (inl (exhausted e)) = counts_exhausted (guard k) e
   guard_counts k (inl (stopped j n ns e h)) = counts_stopped j n ns (guard k) e ∙ leb_true k j (omega arith)
   guard_counts k (inr (inl e)) = counts_exhausted (guard k) e
@@ -210,12 +210,12 @@ module _ (old new : Sheet Condition) (same : SameRules old new) where
   -- a refused rule ends both
   refused_rules :
       (s : Sheet Condition) (x : Bytes) (rs : List (Rule Condition)) (os : List (Outcome Condition)) (states : List Bytes) (q : Refusal) →
-      check s preconditions 0 rs ≡ refused q → decide_from s (some x) rs os states ≡ refused q
+      check s preconditions 0 rs ≡ refused q → decide_from s (Some x) rs os states ≡ refused q
   unfolding decide_from
   refused_rules s x rs os states q e = ap (λ (y : Result Verdict). y >>= λ _. (select s 0 os >>= λ p. (admit states os x p >>= λ z. ok (as_admitted z)))) e
 
   passed_rules : (s : Sheet Condition) (x : Bytes) (rs : List (Rule Condition)) (os : List (Outcome Condition)) (states : List Bytes) →
-      check s preconditions 0 rs ≡ ok passed → decide_from s (some x) rs os states ≡ (select s 0 os >>= admitted_from states os x)
+      check s preconditions 0 rs ≡ ok passed → decide_from s (Some x) rs os states ≡ (select s 0 os >>= admitted_from states os x)
   unfolding decide_from admitted_from
   passed_rules s x rs os states e = bind_ok _ e
 
@@ -226,11 +226,11 @@ module _ (old new : Sheet Condition) (same : SameRules old new) where
     G : GuardsLater (Erased old new) 0 (select old 0 old.outcomes) (select new 0 old.outcomes)
     G = later_select (Erased old new) old new 0 old.outcomes eligible_same (every_right (rule_readings old.preconditions) (guard_readings old.outcomes) facts)
 
-    module _ (x : Bytes) (st : old.state ≡ some x) where
+    module _ (x : Bytes) (st : old.state ≡ Some x) where
       -- the rules passed on the old sheet, so a new refusal at a rule came before what settled it
       rule_tried : (k : ℕ) → RuleShape k (check old preconditions 0 old.preconditions) → counts_for old (rule k) ≡ true
       rule_tried k (inl p) = rule_counts old x st p k G.shape
-      rule_tried k (inr t) = counts_refused old t.0 (at_place (rule t.1)) (rule k) (old_parts (some x) st ∙ refused_rules old x _ _ _ t.0 t.2) t.3 ∙ leb_true k t.1 t.4
+      rule_tried k (inr t) = counts_refused old t.0 (at_place (rule t.1)) (rule k) (old_parts (Some x) st ∙ refused_rules old x _ _ _ t.0 t.2) t.3 ∙ leb_true k t.1 t.4
 
       at_rule_lem : RuleRefused (Erased old new) (check old preconditions 0 old.preconditions) (check new preconditions 0 old.preconditions) → RefusedAgain old new
       at_rule_lem r =
@@ -239,7 +239,7 @@ module _ (old new : Sheet Condition) (same : SameRules old new) where
             step = rule r.place;
             names = r.names;
             unobservable = at_rule;
-            is_new = new_parts (some x) st ∙ refused_rules new x _ _ _ _ r.is_new;
+            is_new = new_parts (Some x) st ∙ refused_rules new x _ _ _ _ r.is_new;
             tried =
                 rule_step r.place
                 (rule_at (Erased old new) old new 0 old.preconditions
@@ -255,14 +255,14 @@ module _ (old new : Sheet Condition) (same : SameRules old new) where
               refused (rule_unknown preconditions r.place r.name r.message ms))) →
               NamesVanished old new r.names ⊎ IsUnobservable old (rule r.place)
           by (inl l) = inl (vanished_named r.names l)
-          by (inr l) = inr (_, l.0, old_parts (some x) st ∙ refused_rules old x _ _ _ _ l.1, at_rule)
+          by (inr l) = inr (_, l.0, old_parts (Some x) st ∙ refused_rules old x _ _ _ _ l.1, at_rule)
 
       module _ (pass : check old preconditions 0 old.preconditions ≡ ok passed) (pass_new : check new preconditions 0 old.preconditions ≡ ok passed) where
         new_select : decide_call new ≡ (select new 0 old.outcomes >>= admitted_from old.states old.outcomes x)
-        new_select = new_parts (some x) st ∙ passed_rules new x _ _ _ pass_new
+        new_select = new_parts (Some x) st ∙ passed_rules new x _ _ _ pass_new
 
         old_select : decide_call old ≡ (select old 0 old.outcomes >>= admitted_from old.states old.outcomes x)
-        old_select = old_parts (some x) st ∙ passed_rules old x _ _ _ pass
+        old_select = old_parts (Some x) st ∙ passed_rules old x _ _ _ pass
 
         at_guard_lem : GuardRefused (Erased old new) (select old 0 old.outcomes) (select new 0 old.outcomes) → RefusedAgain old new
         at_guard_lem r =
@@ -298,7 +298,7 @@ module _ (old new : Sheet Condition) (same : SameRules old new) where
           RuleRefused (Erased old new) (check old preconditions 0 old.preconditions) (check new preconditions 0 old.preconditions) →
           (decide_call new ≡ decide_call old) ⊎ RefusedAgain old new
       by_rules (inl p) (inl e) = by_guards p (e ∙ p) G.later
-      by_rules (inr t) (inl e) = inl (new_parts (some x) st ∙ refused_rules new x _ _ _ t.0 (e ∙ t.2) ∙ sym (old_parts (some x) st ∙ refused_rules old x _ _ _ t.0 t.2))
+      by_rules (inr t) (inl e) = inl (new_parts (Some x) st ∙ refused_rules new x _ _ _ t.0 (e ∙ t.2) ∙ sym (old_parts (Some x) st ∙ refused_rules old x _ _ _ t.0 t.2))
       by_rules p (inr r) = inr (at_rule_lem r)
 
     decision_later : (decide_call new ≡ decide_call old) ⊎ RefusedAgain old new
@@ -306,26 +306,26 @@ module _ (old new : Sheet Condition) (same : SameRules old new) where
     decision_later = by old.state refl
       where
         by : (st : Option Bytes) → old.state ≡ st → (decide_call new ≡ decide_call old) ⊎ RefusedAgain old new
-        by none e = inl (new_parts none e ∙ sym (old_parts none e))
-        by (some x) e = by_rules x e R.shape R.later
+        by None e = inl (new_parts None e ∙ sym (old_parts None e))
+        by (Some x) e = by_rules x e R.shape R.later
 
 -- the reply of a call whose line fits
 plain_reply : Result Verdict → Reply
-plain_reply (ok v) = record { number = 0; line = some (verdict_line v) }
+plain_reply (ok v) = record { number = 0; line = Some (verdict_line v) }
 plain_reply (refused r) = refusal_reply r
 
 fitted_plain : (output n : ℕ) (line : Option Bytes) → (fitted output n line).number ≢ 23 → fitted output n line ≡ record { number = n; line = line }
 unfolding refusal_number
-fitted_plain output n none h = refl
-fitted_plain output n (some line) h = by (leb (length line) output) refl
+fitted_plain output n None h = refl
+fitted_plain output n (Some line) h = by (leb (length line) output) refl
   where
-    by : (b : Bool) → leb (length line) output ≡ b → fitted output n (some line) ≡ record { number = n; line = some line }
+    by : (b : Bool) → leb (length line) output ≡ b → fitted output n (Some line) ≡ record { number = n; line = Some line }
     by true e = rw (e, fitted) refl
     by false e = absurd (h (rw (e, fitted) refl))
 
 reply_plain : (output : ℕ) (x : Result Verdict) → (reply output x).number ≢ 23 → reply output x ≡ plain_reply x
 unfolding reply plain_reply
-reply_plain output (ok v) h = fitted_plain output 0 (some (verdict_line v)) h
+reply_plain output (ok v) h = fitted_plain output 0 (Some (verdict_line v)) h
 reply_plain output (refused r) h = fitted_plain output (refusal_number r) (refusal_line r) h
 
 decide_plain : (s : Bytes) (work output : ℕ) {sheet : Sheet Condition} → AcceptedAs sheet s work (decide s work output) → decide s work output ≡ plain_reply (decide_call sheet)
@@ -360,8 +360,8 @@ alike_check old new i (r ∷ rs) h =
 
 alike_guard : (old new : Sheet Condition) (w : Option Condition) → Every (Alike kernel old new) (when_readings w) → guard_held new w ≡ guard_held old w
 unfolding guard_held
-alike_guard old new none h = refl
-alike_guard old new (some c) h = alike_evaluate kernel old new [] c h
+alike_guard old new None h = refl
+alike_guard old new (Some c) h = alike_evaluate kernel old new [] c h
 
 alike_select : (old new : Sheet Condition) (i : ℕ) (os : List (Outcome Condition)) → new.state ≡ old.state →
     Every (Alike kernel old new) (guard_readings os) → select new i os ≡ select old i os
@@ -469,19 +469,19 @@ clean_decided s c = by s.state refl
     admitting x p e (inl a) = subst Decided (sym (e ∙ bind_ok _ a.1)) (admits _)
     admitting x p e (inr a) = subst Decided (sym (e ∙ ap (λ (y : Result Placed). y >>= λ q. ok (as_admitted q)) a.1)) (by_settler a.0 selection a.2 the_selected)
 
-    guards : (x : Bytes) (e : s.state ≡ some x) (pass : check s preconditions 0 s.preconditions ≡ ok passed) → GuardShape 0 (select s 0 s.outcomes) → Decided (decide_call s)
+    guards : (x : Bytes) (e : s.state ≡ Some x) (pass : check s preconditions 0 s.preconditions ≡ ok passed) → GuardShape 0 (select s 0 s.outcomes) → Decided (decide_call s)
     guards x e pass (chosen p f h) = admitting x p (decide_select s x e pass ∙ bind_ok _ f) (admit_shape s.states s.outcomes x p)
     guards x e pass (exhausted f) = subst Decided (sym (decide_refused s x e pass no_outcome f)) (by_settler no_outcome everything settler_no_outcome all_tried)
     guards x e pass (stopped j n ns f h) =
         subst Decided (sym (decide_refused s x e pass (guard_unknown j n ns) f))
         (by_settler (guard_unknown j n ns) (at_place (guard j)) (settler_guard j n ns) (a_step (guard j)))
 
-    ruled : (x : Bytes) (e : s.state ≡ some x) → RuleShape 0 (check s preconditions 0 s.preconditions) → Decided (decide_call s)
+    ruled : (x : Bytes) (e : s.state ≡ Some x) → RuleShape 0 (check s preconditions 0 s.preconditions) → Decided (decide_call s)
     ruled x e (inl p) = guards x e p (G s s same facts).shape
     ruled x e (inr t) =
-        subst Decided (sym (old_parts s s same (some x) e ∙ refused_rules s s same s x _ _ _ t.0 t.2))
+        subst Decided (sym (old_parts s s same (Some x) e ∙ refused_rules s s same s x _ _ _ t.0 t.2))
         (by_settler t.0 (at_place (rule t.1)) t.3 (a_step (rule t.1)))
 
     by : (st : Option Bytes) → s.state ≡ st → Decided (decide_call s)
-    by none e = subst Decided (sym (old_parts s s same none e)) no_state
-    by (some x) e = ruled x e (R s s same facts).shape
+    by None e = subst Decided (sym (old_parts s s same None e)) no_state
+    by (Some x) e = ruled x e (R s s same facts).shape

@@ -1,7 +1,7 @@
 -- The paper's examples of lines, and one of each other kind, by computation.
 -- Assumes nothing.
 use mathlib.Core.List.{List, [], ◌∷◌}
-use mathlib.Core.Option.{Option, none, some}
+use Rattle.std.specs.Prelude.{Option, None, Some, false}
 use mathlib.Core.Path.{refl, ◌≡◌}
 use Prim.Native.String.{String}
 use Rattle.semantics.specs.Truth as truths
@@ -26,10 +26,10 @@ cases =
     (ok (admitted 1 (ascii "rebuild")), "(admitted 1 \"rebuild\")") ∷
     (refused (unknown_expression (ascii "$foo")), "(refused 13 \"$foo\")") ∷
     (refused no_id, "(refused 14 \"$id\")") ∷
-    (refused (rule_false preconditions 0 (some (ascii "name")) (some (ascii "message"))), "(refused 15 0 \"name\" \"message\")") ∷
-    (refused (rule_false invariants 12 none none), "(refused 17 12 () \"condition evaluated to false\")") ∷
-    (refused (rule_unknown preconditions 0 (some []) none (ascii "$a" ∷ [])), "(refused 16 0 \"\" \"condition could not be evaluated\" (names \"$a\"))") ∷
-    (refused (rule_unknown invariants 4095 none (some (ascii "m")) []), "(refused 18 4095 () \"m\" (names))") ∷
+    (refused (rule_false preconditions 0 (Some (ascii "name")) (Some (ascii "message"))), "(refused 15 0 \"name\" \"message\")") ∷
+    (refused (rule_false invariants 12 None None), "(refused 17 12 () \"condition evaluated to false\")") ∷
+    (refused (rule_unknown preconditions 0 (Some []) None (ascii "$a" ∷ [])), "(refused 16 0 \"\" \"condition could not be evaluated\" (names \"$a\"))") ∷
+    (refused (rule_unknown invariants 4095 None (Some (ascii "m")) []), "(refused 18 4095 () \"m\" (names))") ∷
     (refused no_outcome, "(refused 19)") ∷
     (refused (guard_unknown 0 (ascii "scrap") (ascii "$args.v" ∷ [])), "(refused 20 0 \"scrap\" (names \"$args.v\"))") ∷
     (refused (wrong_state (ascii "state")), "(refused 21 \"state\")") ∷
@@ -45,12 +45,12 @@ lines_of (c ∷ cs) = line_of c.0 ∷ lines_of cs
 
 unfoldable pub texts : List (Result Verdict × String) → List (Option Bytes)
 texts [] = []
-texts (c ∷ cs) = some (end_line (ascii c.1)) ∷ texts cs
+texts (c ∷ cs) = Some (end_line (ascii c.1)) ∷ texts cs
 
 pub samples : lines_of cases ≡ texts cases
 unfolding lines_of texts cases
 samples = refl
 
-pub no_line_of_12 : line_of (refused no_input) ≡ none
+pub no_line_of_12 : line_of (refused no_input) ≡ None
 unfolding line_of
 no_line_of_12 = refl

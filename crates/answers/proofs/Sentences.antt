@@ -2,7 +2,7 @@
 -- through programs.
 -- Assumes nothing.
 use mathlib.Core.List.{List, map, [], ◌++◌, ◌∷◌}
-use mathlib.Core.Option.{Option, none, some}
+use Rattle.std.specs.Prelude.{Option, None, Some, false}
 use mathlib.Core.Path.{refl, ◌≡◌}
 use Prim.Native.Nat.{ℕ}
 use Prim.Native.String.{String}
@@ -19,10 +19,10 @@ row call s n line = record { answer = call s 16384 65536; wanted = record { numb
 
 -- a line, and none
 abbrev pub says : String → Option Bytes
-says s = some (ascii s ++ (10 ∷ []))
+says s = Some (ascii s ++ (10 ∷ []))
 
 abbrev pub silent : Option Bytes
-silent = none
+silent = None
 
 -- a sheet with these arguments and further members
 abbrev pub sheet : String → String → Bytes
@@ -118,8 +118,8 @@ unfolding work_after
 work_kept = refl
 
 -- past the line the output keeps its bytes, and a refusal without a line changes none
-pub output_left : output_after (record { number = 0; line = some (1 ∷ 2 ∷ []) }) (7 ∷ 8 ∷ 9 ∷ []) ≡ 1 ∷ 2 ∷ 9 ∷ []
+pub output_left : output_after (record { number = 0; line = Some (1 ∷ 2 ∷ []) }) (7 ∷ 8 ∷ 9 ∷ []) ≡ 1 ∷ 2 ∷ 9 ∷ []
 output_left = refl
 
-pub output_kept : output_after (record { number = 4; line = none }) (7 ∷ []) ≡ 7 ∷ []
+pub output_kept : output_after (record { number = 4; line = None }) (7 ∷ []) ≡ 7 ∷ []
 output_kept = refl

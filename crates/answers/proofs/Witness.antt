@@ -4,7 +4,7 @@
 use mathlib.Core.Bool.{Bool, false, true, ◌&&◌}
 use mathlib.Core.List.{List, map, [], ◌++◌, ◌∷◌}
 use mathlib.Core.Logic.{inl, inr, ◌≢◌}
-use mathlib.Core.Option.{Option, none, some}
+use Rattle.std.specs.Prelude.{Option, None, Some}
 use mathlib.Core.Path.{ap, refl, sym, ◌∙◌, ◌≡◌}
 use Prim.Native.Nat.{ℕ}
 use Prim.Native.String.{String}
@@ -57,24 +57,24 @@ written p args =
 abbrev pub read : Pair → Members → Sheet Condition
 read p args =
     record {
-      id = none;
+      id = None;
       entity = ascii "pack";
       version = ascii "1";
       args = args;
       fields = empty;
       old_fields = empty;
-      from_state = none;
+      from_state = None;
       to_state = ascii "in";
-      state = some (ascii "in");
+      state = Some (ascii "in");
       states = ascii "in" ∷ ascii "out" ∷ [];
-      condition = none;
+      condition = None;
       preconditions = p.rules;
       invariants = [];
       outcomes = p.outcomes;
     }
 
 abbrev line_reply : ℕ → String → Reply
-line_reply n line = record { number = n; line = some (ascii line) }
+line_reply n line = record { number = n; line = Some (ascii line) }
 
 abbrev pub counted_for : Sheet Condition → List Bool
 counted_for s = map (λ k. is_tried s k && counts_for s k) (rule 0 ∷ rule 1 ∷ guard 0 ∷ guard 1 ∷ [])
@@ -103,10 +103,10 @@ pub record Met (p : Pair) : Type 0 where
 
 -- a rule without name and message, an outcome for any state, and a condition
 abbrev plain_rule : Condition → Rule Condition
-plain_rule c = record { name = none; message = none; assert = c }
+plain_rule c = record { name = None; message = None; assert = c }
 
 abbrev outcome : String → Option Condition → Effect → Outcome Condition
-outcome n when effect = record { name = ascii n; when = when; in_state = none; wrong_state = false; effect = effect }
+outcome n when effect = record { name = ascii n; when = when; in_state = None; wrong_state = false; effect = effect }
 
 abbrev v_is_one : Condition
 v_is_one = pair Form.eq (text (ascii "$args.v")) (number (ascii "1"))
@@ -120,8 +120,8 @@ voltages =
       outcomes_text = "[{\"name\":\"scrap\",\"when\":{\"for_any\":{\"in\":\"$args.v\",\"as\":\"c\",\"that\":{\"lt\":[\"$c\",2.5]}}}},{\"name\":\"rebuild\"}]";
       outcomes =
           outcome "scrap"
-          (some (quantified Mode.any (text (ascii "$args.v")) (ascii "c") (pair Form.lt (text (ascii "$c")) (number (ascii "2.5"))))) stays
-          ∷ outcome "rebuild" none stays ∷ [];
+          (Some (quantified Mode.any (text (ascii "$args.v")) (ascii "c") (pair Form.lt (text (ascii "$c")) (number (ascii "2.5"))))) stays
+          ∷ outcome "rebuild" None stays ∷ [];
       old_text = "{\"v\":[3.61,3.58]}";
       old_args = member (ascii "v") (array (cons (number (ascii "3.61")) (cons (number (ascii "3.58")) nil))) empty;
       new_text = "{}";
@@ -140,7 +140,7 @@ unread =
       rules_text = "[]";
       rules = [];
       outcomes_text = "[{\"name\":\"n\",\"when\":{\"exists\":\"$args.w\"}},{\"name\":\"m\",\"when\":{\"eq\":[\"$args.v\",1]}}]";
-      outcomes = outcome "n" (some (exists (text (ascii "$args.w")))) stays ∷ outcome "m" (some v_is_one) stays ∷ [];
+      outcomes = outcome "n" (Some (exists (text (ascii "$args.w")))) stays ∷ outcome "m" (Some v_is_one) stays ∷ [];
       old_text = "{\"v\":1,\"w\":1}";
       old_args = member (ascii "v") (number (ascii "1")) (member (ascii "w") (number (ascii "1")) empty);
       new_text = "{\"w\":1}";
@@ -159,7 +159,7 @@ later_rule =
       rules_text = "[{\"assert\":{\"gt\":[\"$args.v\",0]}},{\"assert\":{\"eq\":[\"$args.v\",1]}}]";
       rules = plain_rule (pair Form.gt (text (ascii "$args.v")) (number (ascii "0"))) ∷ plain_rule v_is_one ∷ [];
       outcomes_text = "[{\"name\":\"n\",\"when\":true}]";
-      outcomes = outcome "n" (some (literal true)) stays ∷ [];
+      outcomes = outcome "n" (Some (literal true)) stays ∷ [];
       old_text = "{\"v\":2}";
       old_args = member (ascii "v") (number (ascii "2")) empty;
       new_text = "{}";
@@ -178,7 +178,7 @@ unknown_rule =
       rules_text = "[{\"assert\":{\"eq\":[\"$args.v\",\"$args.w\"]}},{\"assert\":true}]";
       rules = plain_rule (pair Form.eq (text (ascii "$args.v")) (text (ascii "$args.w"))) ∷ plain_rule (literal true) ∷ [];
       outcomes_text = "[{\"name\":\"n\",\"when\":true}]";
-      outcomes = outcome "n" (some (literal true)) stays ∷ [];
+      outcomes = outcome "n" (Some (literal true)) stays ∷ [];
       old_text = "{\"v\":1}";
       old_args = member (ascii "v") (number (ascii "1")) empty;
       new_text = "{}";
@@ -197,7 +197,7 @@ none_left =
       rules_text = "[{\"assert\":true}]";
       rules = plain_rule (literal true) ∷ [];
       outcomes_text = "[{\"name\":\"n\",\"when\":{\"eq\":[\"$args.v\",1]}},{\"name\":\"m\",\"when\":false}]";
-      outcomes = outcome "n" (some v_is_one) stays ∷ outcome "m" (some (literal false)) stays ∷ [];
+      outcomes = outcome "n" (Some v_is_one) stays ∷ outcome "m" (Some (literal false)) stays ∷ [];
       old_text = "{\"v\":2}";
       old_args = member (ascii "v") (number (ascii "2")) empty;
       new_text = "{}";
@@ -216,7 +216,7 @@ unknown_guard =
       rules_text = "[]";
       rules = [];
       outcomes_text = "[{\"name\":\"n\",\"when\":{\"eq\":[\"$args.v\",\"$args.w\"]}},{\"name\":\"m\",\"when\":true}]";
-      outcomes = outcome "n" (some (pair Form.eq (text (ascii "$args.v")) (text (ascii "$args.w")))) stays ∷ outcome "m" (some (literal true)) stays ∷ [];
+      outcomes = outcome "n" (Some (pair Form.eq (text (ascii "$args.v")) (text (ascii "$args.w")))) stays ∷ outcome "m" (Some (literal true)) stays ∷ [];
       old_text = "{\"v\":1}";
       old_args = member (ascii "v") (number (ascii "1")) empty;
       new_text = "{}";
@@ -235,7 +235,7 @@ wrong_state =
       rules_text = "[]";
       rules = [];
       outcomes_text = "[{\"name\":\"n\",\"when\":{\"eq\":[\"$args.v\",1]},\"effect\":{\"moves\":{\"to\":\"out\",\"from\":\"out\"}}},{\"name\":\"m\",\"when\":true}]";
-      outcomes = outcome "n" (some v_is_one) (moves (ascii "out") (ascii "out" ∷ [])) ∷ outcome "m" (some (literal true)) stays ∷ [];
+      outcomes = outcome "n" (Some v_is_one) (moves (ascii "out") (ascii "out" ∷ [])) ∷ outcome "m" (Some (literal true)) stays ∷ [];
       old_text = "{\"v\":1}";
       old_args = member (ascii "v") (number (ascii "1")) empty;
       new_text = "{}";
@@ -255,7 +255,7 @@ no_source =
       rules = [];
       outcomes_text =
           "[{\"name\":\"n\",\"when\":{\"eq\":[\"$args.v\",1]},\"effect\":{\"moves\":{\"to\":\"a\",\"from\":\"b\"}}},{\"name\":\"m\",\"effect\":{\"moves\":{\"to\":\"a\",\"from\":\"in\"}}}]";
-      outcomes = outcome "n" (some v_is_one) (moves (ascii "a") (ascii "b" ∷ [])) ∷ outcome "m" none (moves (ascii "a") (ascii "in" ∷ [])) ∷ [];
+      outcomes = outcome "n" (Some v_is_one) (moves (ascii "a") (ascii "b" ∷ [])) ∷ outcome "m" None (moves (ascii "a") (ascii "in" ∷ [])) ∷ [];
       old_text = "{\"v\":1}";
       old_args = member (ascii "v") (number (ascii "1")) empty;
       new_text = "{}";

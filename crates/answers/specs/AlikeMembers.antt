@@ -1,6 +1,6 @@
 -- Members of two sheets' texts that are alike as the owner compares values: members of objects in any order.
 -- Assumes nothing.
-use Rattle.std.proofs.Math.Option.{none, some}
+use Rattle.std.specs.Prelude.{None, Some}
 use Rattle.std.specs.Prelude.{◌≡◌}
 use Rattle.json_text.specs.Alike.{Alike}
 use Rattle.json_text.specs.Bytes.{Bytes, ascii, find}
@@ -8,8 +8,8 @@ use Rattle.json_text.specs.Json.{Members, Value, entries}
 
 -- a member that is missing on both sides, or there with values that are alike
 pub data AlikeMember (k : Bytes) (ms ns : Members) : Type 0 where
-  both_missing : find k (entries ms) ≡ none → find k (entries ns) ≡ none → AlikeMember k ms ns
-  both_there : (v w : Value) → find k (entries ms) ≡ some v → find k (entries ns) ≡ some w → Alike v w → AlikeMember k ms ns
+  both_missing : find k (entries ms) ≡ None → find k (entries ns) ≡ None → AlikeMember k ms ns
+  both_there : (v w : Value) → find k (entries ms) ≡ Some v → find k (entries ns) ≡ Some w → Alike v w → AlikeMember k ms ns
 
 -- the members that a decision's rules and state stand in
 pub record AlikeRules (ms ns : Members) : Type 0 where

@@ -1,7 +1,7 @@
 -- What an expression gives in the tree of a sheet's text, members as written, and when two texts have a reading alike.
 -- Assumes nothing.
 use Rattle.std.specs.Prelude.{false, true, List, [], ◌∷◌, ◌⊎◌, ◌≡◌}
-use Rattle.std.proofs.Math.Option.{Option, none, some}
+use Rattle.std.specs.Prelude.{Option, None, Some}
 use Rattle.json_text.specs.Alike.{Alike}
 use Rattle.json_text.specs.Bytes.{Bytes, ascii, find, same_bytes}
 use Rattle.json_text.specs.Json.{Members, Value, entries, object}
@@ -16,15 +16,15 @@ member_read name = elim (same_bytes name (ascii "state")) [ true ↦ ascii "to_s
 -- by the expression's parts; an empty first part behind `args`, `fields` or `old_fields` gives nothing
 unfoldable pub given_in : Members → List Bytes → Option Value
 unfolding same_bytes find walk
-given_in ms [] = none
+given_in ms [] = None
 given_in ms (name ∷ []) = find (member_read name) (entries ms)
-given_in ms (name ∷ [] ∷ ps) = none
+given_in ms (name ∷ [] ∷ ps) = None
 given_in ms (name ∷ (c ∷ p) ∷ ps) = walk kernel (name ∷ (c ∷ p) ∷ ps) (object ms)
 
 pub data AlikeGiven : Option Value → Option Value → Type 0 where
-  both_nothing : AlikeGiven none none
-  both_give : {v w : Value} → Alike v w → AlikeGiven (some v) (some w)
+  both_nothing : AlikeGiven None None
+  both_give : {v w : Value} → Alike v w → AlikeGiven (Some v) (Some w)
 
 -- a reading of two texts: alike, or nothing now where it does not stand under `exists`
 abbrev pub KeptInText : Members → Members → Reading → Type 0
-KeptInText ms ns r = AlikeGiven (given_in ms (parts r.text)) (given_in ns (parts r.text)) ⊎ ((r.exact ≡ false) × (given_in ns (parts r.text) ≡ none))
+KeptInText ms ns r = AlikeGiven (given_in ms (parts r.text)) (given_in ns (parts r.text)) ⊎ ((r.exact ≡ false) × (given_in ns (parts r.text) ≡ None))

@@ -2,7 +2,7 @@
 -- Assumes nothing.
 use Rattle.std.specs.Prelude.{Bool, false, true, ◌&&◌, ◌≢◌, ◌⊎◌, ◌≡◌, ℕ, ◌≤◌, leb, ltb, length}
 use mathlib.Core.List.{Memᴰ, [], ◌∷◌}
-use Rattle.std.proofs.Math.Option.{Option, none, some}
+use Rattle.std.specs.Prelude.{Option, None, Some}
 use Rattle.answers.specs.Decide.{decide_call}
 use Rattle.answers.specs.Entry.{Reply, decide, work_words}
 use Rattle.answers.specs.Line.{refusal_line, refusal_number}
@@ -30,14 +30,14 @@ module _ (old new : Sheet Condition) where
 
   -- its old value or nothing; under `exists` exactly as before
   abbrev pub Kept : Reading → Type 0
-  Kept r = Unchanged r ⊎ ((r.exact ≡ false) × (gives kernel new [] r.text ≡ ok none))
+  Kept r = Unchanged r ⊎ ((r.exact ≡ false) × (gives kernel new [] r.text ≡ ok None))
 
   -- a value other than null before, and nothing now
   pub record Vanished (r : Reading) : Type 0 where
     pub value : Value
-    pub gave : gives kernel old [] r.text ≡ ok (some value)
+    pub gave : gives kernel old [] r.text ≡ ok (Some value)
     pub not_null : value ≢ null
-    pub gone : gives kernel new [] r.text ≡ ok none
+    pub gone : gives kernel new [] r.text ≡ ok None
 
   -- a refusal names a vanished reading
   abbrev pub NamesVanished : Names → Type 0
@@ -49,12 +49,12 @@ pub data Step : Type 0 where
 
 -- a step that is tried: a rule, or the guard of an eligible outcome
 abbrev pub has_guard : Option Condition → Bool
-has_guard none = false
-has_guard (some c) = true
+has_guard None = false
+has_guard (Some c) = true
 
 abbrev pub is_guarded : Option Bytes → Option Placed → Bool
-is_guarded state none = false
-is_guarded state (some p) = eligible state p.outcome && has_guard p.outcome.when
+is_guarded state None = false
+is_guarded state (Some p) = eligible state p.outcome && has_guard p.outcome.when
 
 unfoldable pub is_tried : Sheet Condition → Step → Bool
 unfolding at eligible
@@ -109,8 +109,8 @@ before_guard (guard k) i = ltb k i
 
 -- up to the guard of an outcome; where it has none, only what stands before it
 abbrev pub up_to_outcome : Option Condition → ℕ → Step → Bool
-up_to_outcome none i k = before_guard k i
-up_to_outcome (some c) i k = at_or_before k (guard i)
+up_to_outcome None i k = before_guard k i
+up_to_outcome (Some c) i k = at_or_before k (guard i)
 
 abbrev pub up_to_selected : Result Placed → Step → Bool
 up_to_selected (refused r) k = false

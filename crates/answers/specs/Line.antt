@@ -1,7 +1,7 @@
 -- The line of an answer or a refusal, and the refusal's number: one bracketed form and LF.
 -- Assumes nothing.
 use Rattle.std.specs.Prelude.{false, true, List, [], ◌++◌, ◌∷◌, suc, zero, ℕ, ◌%◌, ◌+◌, ◌/◌, eqb, ltb}
-use Rattle.std.proofs.Math.Option.{Option, none, some}
+use Rattle.std.specs.Prelude.{Option, None, Some}
 use Rattle.answers.specs.Verdict.{Verdict, admitted, answered, passed, selected}
 use Rattle.semantics.specs.Names.{Names}
 use Rattle.semantics.specs.Truth.{False, True, Truth, Unknown}
@@ -122,8 +122,8 @@ truth_word Unknown = ascii "unknown"
 
 -- a text in quotes, or other bytes where it is missing: a rule's name and message
 abbrev pub quoted_or : Bytes → Option Bytes → Bytes
-quoted_or d none = d
-quoted_or d (some t) = quoted t
+quoted_or d None = d
+quoted_or d (Some t) = quoted t
 
 abbrev pub name_or : Option Bytes → Bytes
 name_or n = quoted_or (ascii "()") n
@@ -155,31 +155,31 @@ refused_form n ws = form (ascii "refused" ∷ decimal_digits n ∷ ws)
 
 unfoldable pub refusal_form : Refusal → Option Bytes
 unfolding digits_of spaced each_quoted quoted_bytes
-refusal_form work_too_small = none
-refusal_form too_long = none
-refusal_form not_utf8 = none
-refusal_form not_json = none
-refusal_form too_deep = none
-refusal_form number_too_long = none
-refusal_form too_many_nodes = none
-refusal_form repeated_name = none
-refusal_form wrong_sheet = none
-refusal_form wrong_shape = none
-refusal_form not_carried = none
-refusal_form no_input = none
-refusal_form (unknown_expression e) = some (refused_form 13 (quoted e ∷ []))
-refusal_form no_id = some (refused_form 14 (quoted (ascii "$id") ∷ []))
-refusal_form (rule_false k i n m) = some (refused_form (false_number k) (decimal_digits i ∷ name_or n ∷ message_or (ascii "condition evaluated to false") m ∷ []))
-refusal_form (rule_unknown k i n m ns) = some (refused_form (unknown_number k) (decimal_digits i ∷ name_or n ∷ message_or (ascii "condition could not be evaluated") m ∷ names ns ∷ []))
-refusal_form no_outcome = some (refused_form 19 [])
-refusal_form (guard_unknown i n ns) = some (refused_form 20 (decimal_digits i ∷ quoted n ∷ names ns ∷ []))
-refusal_form (wrong_state s) = some (refused_form 21 (quoted s ∷ []))
-refusal_form (not_a_source i n s from) = some (refused_form 22 (decimal_digits i ∷ quoted n ∷ quoted s ∷ listed (ascii "from") from ∷ []))
-refusal_form line_too_long = none
+refusal_form work_too_small = None
+refusal_form too_long = None
+refusal_form not_utf8 = None
+refusal_form not_json = None
+refusal_form too_deep = None
+refusal_form number_too_long = None
+refusal_form too_many_nodes = None
+refusal_form repeated_name = None
+refusal_form wrong_sheet = None
+refusal_form wrong_shape = None
+refusal_form not_carried = None
+refusal_form no_input = None
+refusal_form (unknown_expression e) = Some (refused_form 13 (quoted e ∷ []))
+refusal_form no_id = Some (refused_form 14 (quoted (ascii "$id") ∷ []))
+refusal_form (rule_false k i n m) = Some (refused_form (false_number k) (decimal_digits i ∷ name_or n ∷ message_or (ascii "condition evaluated to false") m ∷ []))
+refusal_form (rule_unknown k i n m ns) = Some (refused_form (unknown_number k) (decimal_digits i ∷ name_or n ∷ message_or (ascii "condition could not be evaluated") m ∷ names ns ∷ []))
+refusal_form no_outcome = Some (refused_form 19 [])
+refusal_form (guard_unknown i n ns) = Some (refused_form 20 (decimal_digits i ∷ quoted n ∷ names ns ∷ []))
+refusal_form (wrong_state s) = Some (refused_form 21 (quoted s ∷ []))
+refusal_form (not_a_source i n s from) = Some (refused_form 22 (decimal_digits i ∷ quoted n ∷ quoted s ∷ listed (ascii "from") from ∷ []))
+refusal_form line_too_long = None
 
 abbrev pub each_line : Option Bytes → Option Bytes
-each_line none = none
-each_line (some f) = some (end_line f)
+each_line None = None
+each_line (Some f) = Some (end_line f)
 
 unfoldable pub refusal_line : Refusal → Option Bytes
 unfolding refusal_form

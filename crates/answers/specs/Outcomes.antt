@@ -3,7 +3,7 @@
 use Rattle.std.specs.Prelude.{Bool, ◌&&◌, not, ◌+◌, suc, ℕ}
 use Rattle.std.proofs.Math.Bool.{false, true}
 use mathlib.Core.List.{List, [], ◌∷◌}
-use Rattle.std.proofs.Math.Option.{Option, none, some}
+use Rattle.std.specs.Prelude.{Option, None, Some}
 use Rattle.semantics.specs.Evaluate.{Answer, certain, evaluate}
 use Rattle.semantics.specs.Names.{ascending}
 use Rattle.semantics.specs.Semantics.{kernel}
@@ -21,20 +21,20 @@ pub record Placed : Type 0 where
 
 -- the first outcome that a test takes, counting places from a number on
 unfoldable pub first_from : (Outcome Condition → Bool) → ℕ → List (Outcome Condition) → Option Placed
-first_from p i [] = none
-first_from p i (o ∷ os) = elim (p o) [ true ↦ some (record { place = i; outcome = o }) | false ↦ first_from p (i + 1) os ]
+first_from p i [] = None
+first_from p i (o ∷ os) = elim (p o) [ true ↦ Some (record { place = i; outcome = o }) | false ↦ first_from p (i + 1) os ]
 
 -- the outcome at a place, places counted from i on
 unfoldable pub at : ℕ → ℕ → List (Outcome Condition) → Option Placed
-at i n [] = none
-at i ℕ.zero (o ∷ os) = some (record { place = i; outcome = o })
+at i n [] = None
+at i ℕ.zero (o ∷ os) = Some (record { place = i; outcome = o })
 at i (suc n) (o ∷ os) = at (i + 1) n os
 
 -- eligible: not for the wrong state, and no state of its own, no state in hand, or both equal
 abbrev pub fits : Option Bytes → Option Bytes → Bool
-fits none s = true
-fits (some i) none = true
-fits (some i) (some s) = same_bytes i s
+fits None s = true
+fits (Some i) None = true
+fits (Some i) (Some s) = same_bytes i s
 
 unfoldable pub eligible : Option Bytes → Outcome Condition → Bool
 unfolding same_bytes
@@ -44,8 +44,8 @@ module _ (sheet : Sheet Condition) where
   -- a guard's answer; a missing guard is True
   unfoldable pub guard : Option Condition → Result Answer
   unfolding evaluate
-  guard none = ok (certain true)
-  guard (some c) = evaluate kernel sheet [] c
+  guard None = ok (certain true)
+  guard (Some c) = evaluate kernel sheet [] c
 
   -- the first eligible outcome with no guard or a True one
   unfoldable pub select : ℕ → List (Outcome Condition) → Result Placed

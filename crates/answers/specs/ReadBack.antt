@@ -1,7 +1,7 @@
 -- A line read back: its words and texts in order, and the answer or refusal that they say.
 -- Assumes nothing.
 use Rattle.std.specs.Prelude.{Bool, List, [], ◌∷◌, ◌≡◌, suc, zero, ℕ, ◌*◌, ◌+◌, ◌-◌, ◌<◌, eqb, ltb, drop, get_or}
-use Rattle.std.proofs.Math.Option.{Option, none, some}
+use Rattle.std.specs.Prelude.{Option, None, Some}
 use Prim.Native.String.{String}
 use Rattle.answers.specs.Verdict.{Verdict, admitted, answered, passed, selected}
 use Rattle.semantics.specs.Names.{Names}
@@ -88,9 +88,9 @@ bytes_of (word w) = w
 bytes_of (text t) = t
 
 abbrev pub text_of : Token → Option Bytes
-text_of opening = none
-text_of (word w) = none
-text_of (text t) = some t
+text_of opening = None
+text_of (word w) = None
+text_of (text t) = Some t
 
 abbrev pub bytes_at : ℕ → List Token → Bytes
 bytes_at k ts = bytes_of (get_or ts k opening)
@@ -115,27 +115,27 @@ abbrev pub truth_of : Bytes → Truth
 truth_of w = choose ((same_bytes w (ascii "true"), True) ∷ (same_bytes w (ascii "false"), False) ∷ []) Unknown
 
 abbrev pub false_of : Rules → List Token → Option (Result Verdict)
-false_of k ts = some (refused (rule_false k (number_at 3 ts) (text_at 4 ts) (text_at 5 ts)))
+false_of k ts = Some (refused (rule_false k (number_at 3 ts) (text_at 4 ts) (text_at 5 ts)))
 
 abbrev pub unknown_of : Rules → List Token → Option (Result Verdict)
-unknown_of k ts = some (refused (rule_unknown k (number_at 3 ts) (text_at 4 ts) (text_at 5 ts) (texts_from 6 ts)))
+unknown_of k ts = Some (refused (rule_unknown k (number_at 3 ts) (text_at 4 ts) (text_at 5 ts) (texts_from 6 ts)))
 
 unfoldable pub refusal_of : ℕ → List Token → Option (Result Verdict)
 unfolding natural texts
 refusal_of n ts =
     choose
-    ((eqb n 13, some (refused (unknown_expression (bytes_at 3 ts)))) ∷
-    (eqb n 14, some (refused no_id)) ∷
+    ((eqb n 13, Some (refused (unknown_expression (bytes_at 3 ts)))) ∷
+    (eqb n 14, Some (refused no_id)) ∷
     (eqb n 15, false_of preconditions ts) ∷
     (eqb n 16, unknown_of preconditions ts) ∷
     (eqb n 17, false_of invariants ts) ∷
     (eqb n 18, unknown_of invariants ts) ∷
-    (eqb n 19, some (refused no_outcome)) ∷
-    (eqb n 20, some (refused (guard_unknown (number_at 3 ts) (bytes_at 4 ts) (texts_from 5 ts)))) ∷
-    (eqb n 21, some (refused (wrong_state (bytes_at 3 ts)))) ∷
-    (eqb n 22, some (refused (not_a_source (number_at 3 ts) (bytes_at 4 ts) (bytes_at 5 ts) (texts_from 6 ts)))) ∷
+    (eqb n 19, Some (refused no_outcome)) ∷
+    (eqb n 20, Some (refused (guard_unknown (number_at 3 ts) (bytes_at 4 ts) (texts_from 5 ts)))) ∷
+    (eqb n 21, Some (refused (wrong_state (bytes_at 3 ts)))) ∷
+    (eqb n 22, Some (refused (not_a_source (number_at 3 ts) (bytes_at 4 ts) (bytes_at 5 ts) (texts_from 6 ts)))) ∷
     [])
-    none
+    None
 
 abbrev pub kind_is : List Token → String → Bool
 kind_is ts w = same_bytes (bytes_at 1 ts) (ascii w)
@@ -144,13 +144,13 @@ unfoldable pub said : List Token → Option (Result Verdict)
 unfolding natural texts same_bytes refusal_of
 said ts =
     choose
-    ((kind_is ts "truth", some (ok (answered (truth_of (bytes_at 2 ts)) (texts_from 3 ts)))) ∷
-    (kind_is ts "passed", some (ok passed)) ∷
-    (kind_is ts "selected", some (ok (selected (number_at 2 ts) (bytes_at 3 ts)))) ∷
-    (kind_is ts "admitted", some (ok (admitted (number_at 2 ts) (bytes_at 3 ts)))) ∷
+    ((kind_is ts "truth", Some (ok (answered (truth_of (bytes_at 2 ts)) (texts_from 3 ts)))) ∷
+    (kind_is ts "passed", Some (ok passed)) ∷
+    (kind_is ts "selected", Some (ok (selected (number_at 2 ts) (bytes_at 3 ts)))) ∷
+    (kind_is ts "admitted", Some (ok (admitted (number_at 2 ts) (bytes_at 3 ts)))) ∷
     (kind_is ts "refused", refusal_of (number_at 2 ts) ts) ∷
     [])
-    none
+    None
 
 unfoldable pub read_line : Bytes → Option (Result Verdict)
 unfolding tokens said
@@ -159,14 +159,14 @@ read_line s = said (tokens s)
 -- What a line does not say: whether a rule's message was missing, or the text that is printed then.
 pub data Printed : Result Verdict → Result Verdict → Type 0 where
   as_it_is : {a : Result Verdict} → Printed a a
-  of_false : {k : Rules} {i : ℕ} {n : Option Bytes} → Printed (refused (rule_false k i n none)) (refused (rule_false k i n (some (ascii "condition evaluated to false"))))
+  of_false : {k : Rules} {i : ℕ} {n : Option Bytes} → Printed (refused (rule_false k i n None)) (refused (rule_false k i n (Some (ascii "condition evaluated to false"))))
   of_unknown : {k : Rules} {i : ℕ} {n : Option Bytes} {ns : Names} →
-      Printed (refused (rule_unknown k i n none ns)) (refused (rule_unknown k i n (some (ascii "condition could not be evaluated")) ns))
+      Printed (refused (rule_unknown k i n None ns)) (refused (rule_unknown k i n (Some (ascii "condition could not be evaluated")) ns))
 
 -- the answer or refusal, as printed, is read back from a line
 pub record Recovered (a : Result Verdict) (line : Bytes) : Type 0 where
   pub got : Result Verdict
-  pub reads : read_line line ≡ some got
+  pub reads : read_line line ≡ Some got
   pub printed : Printed a got
 
 -- two that are printed as one and the same

@@ -2,7 +2,7 @@
 -- Assumes nothing.
 use Rattle.std.specs.Prelude.{false, true, ◌⊎◌, ◌≡◌, ℕ, ◌+◌, length}
 use mathlib.Core.List.{List, Memᴰ, ◌++◌, ◌∷◌}
-use Rattle.std.proofs.Math.Option.{Option}
+use Rattle.std.specs.Prelude.{Option}
 use Rattle.answers.specs.Outcomes.{Placed, eligible, guard}
 use Rattle.semantics.specs.Evaluate.{Answer}
 use Rattle.semantics.specs.Truth.{False, True, Truth}

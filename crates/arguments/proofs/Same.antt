@@ -1,38 +1,23 @@
--- Two texts compared byte for byte: up to the place that was reached they are equal, so their rests decide.
+-- Two texts compared by `==`, and by definition.
 -- Assumes nothing.
-use mathlib.Core.Bool.{Bool, false, true}
-use mathlib.Core.Path.{refl, sym, ◌∙◌, ◌≡◌}
-use Prim.Native.Nat.{ℕ, ◌+◌, ◌<◌, ◌≤◌}
-use native.Mathlib.Omega.{arith}
+use mathlib.Core.Bool.{Bool, false, true, ◌&&◌}
+use mathlib.Core.List.{[], ◌∷◌}
+use mathlib.Core.Path.{ap, refl, sym, ◌∙◌, ◌≡◌}
 use lib.Dec.{eqb}
-use lib.ListN.{drop, drop_of_length-le, get_or, length}
-use Rattle.json_text.proofs.Cursor.{same_apart, same_long, same_none, same_on, same_short}
-use Rattle.json_text.proofs.Laws.{eqb_no, eqb_true}
+use lib.Pointwise.{pointwise}
 use Rattle.json_text.specs.Bytes.{Bytes, same_bytes}
-use Rattle.members.proofs.Words.{here}
 
-pub record Matching (a b : Bytes) (i : ℕ) : Type 0 where
-  pub first : i ≤ length a
-  pub second : i ≤ length b
-  pub rest : same_bytes a b ≡ same_bytes (drop i a) (drop i b)
+pub same_by_pairs : (a b : Bytes) → pointwise eqb a b ≡ same_bytes a b
+unfolding same_bytes
+same_by_pairs [] [] = refl
+same_by_pairs [] (d ∷ t) = refl
+same_by_pairs (c ∷ s) [] = refl
+same_by_pairs (c ∷ s) (d ∷ t) = by (eqb c d) (same_by_pairs s t)
+  where
+    by : (e : Bool) → pointwise eqb s t ≡ same_bytes s t → (e && pointwise eqb s t) ≡ (elim e [ true ↦ same_bytes s t | false ↦ false ])
+    by true h = h
+    by false h = refl
 
-pub matching : (a b : Bytes) → Matching a b 0
-matching a b = record { first = omega arith; second = omega arith; rest = refl }
-
-module _ {a b : Bytes} {i : ℕ} (m : Matching a b i) where
-  pub matched : length a ≤ i → eqb i (length b) ≡ same_bytes a b
-  matched h = go (eqb i (length b)) refl
-    where
-      go : (t : Bool) → eqb i (length b) ≡ t → eqb i (length b) ≡ same_bytes a b
-      go true q = q ∙ sym (m.rest ∙ same_none (drop_of_length-le a {i = i} h) (drop_of_length-le b {i = i} (omega (arith, eqb_true i (length b) q))))
-      go false q = q ∙ sym (m.rest ∙ same_short (drop_of_length-le a {i = i} h) (here b i (omega (arith, m.second, eqb_no i (length b) q))))
-
-  module _ (h : i < length a) where
-    pub longer : length b ≤ i → false ≡ same_bytes a b
-    longer g = sym (m.rest ∙ same_long (here a i h) (drop_of_length-le b {i = i} g))
-
-    pub apart : i < length b → (get_or a i 0 ≡ get_or b i 0 → ⊥) → false ≡ same_bytes a b
-    apart g e = sym (m.rest ∙ same_apart (here a i h) (here b i g) e)
-
-    pub alike : i < length b → get_or a i 0 ≡ get_or b i 0 → Matching a b (i + 1)
-    alike g e = record { first = omega arith; second = omega arith; rest = m.rest ∙ same_on (here a i h) (here b i g) e }
+-- what `==` answered of a text and a word, by definition
+pub by_equality : (a b word : Bytes) {r v : Bool} → r ≡ pointwise eqb a b → b ≡ word → r ≡ v → same_bytes a word ≡ v
+by_equality a b word p q h = sym (same_by_pairs a word) ∙ ap (λ (x : Bytes). pointwise eqb a x) (sym q) ∙ sym p ∙ h

@@ -1,7 +1,7 @@
 -- What the first argument is: a call's word, an option, or else a file.
 -- Assumes nothing.
 use Rattle.std.specs.Prelude.{List, [], ◌∷◌}
-use Rattle.std.proofs.Math.Option.{Option, none, some}
+use Rattle.std.specs.Prelude.{Option, None, Some}
 use Rattle.json_text.specs.Bytes.{Bytes, ascii, begins, choose, find, same_bytes}
 use Rattle.arguments.specs.declared.word.Word.{Word}
 use Rattle.arguments.specs.declared.word.Word.TheVariants as words
@@ -29,8 +29,8 @@ option_of w =
     words.File
 
 abbrev pub or_else : Option Word → Word → Word
-or_else none w = w
-or_else (some v) w = v
+or_else None w = w
+or_else (Some v) w = v
 
 unfoldable pub word_of : Bytes → Word
 unfolding find option_of

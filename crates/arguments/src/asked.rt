@@ -2,39 +2,28 @@
 ghost use Rattle.std.specs.Prelude.{◌≡◌};
 ghost use Rattle.arguments.specs.Asked.{admits, alone, asks, asks_for, with_file};
 
-use crate::place::{Place, place_in};
+use crate::place::place_in;
 use crate::word::{Word, word_of};
-
-// Admission is of the outcome at a place.
-#[derive(Clone, Copy)]
-pub enum Call {
-    Evaluate,
-    Preconditions,
-    Invariants,
-    Select,
-    Admit(usize),
-    Decide,
-}
+use calling::Call;
 
 // A call on one sheet, or a decision of each line.
-#[derive(Clone, Copy)]
+#[derive(Clone, Copy, PartialEq, Eq)]
 pub enum Task {
     One(Call),
     Lines,
 }
 
-// Where the input is: standard input, or the file that an argument names.
-#[derive(Clone, Copy)]
-pub enum Source {
-    Input,
-    Named(usize),
-}
-
-#[derive(Clone, Copy)]
+// A task on the file that an argument names, or on standard input where none does; or something about the program.
+#[derive(Clone, Copy, PartialEq, Eq)]
 pub enum Asked {
-    Run(Task, Source),
+    Run(Task, Option<usize>),
     Help,
     Version,
+}
+
+// What is wrong with the arguments.
+#[derive(Clone, Copy, PartialEq, Eq)]
+pub enum Misuse {
     UnknownOption,
     NoPlace,
     WrongPlace,
@@ -42,41 +31,41 @@ pub enum Asked {
 }
 
 // A file may stand behind so many arguments, and nothing further.
-fn with_file(task: Task, passed: usize, count: usize) -> Asked
+fn with_file(task: Task, passed: usize, count: usize) -> Result<Asked, Misuse>
     ensures { result ≡ with_file task passed count }
 {
     if count <= passed {
-        return Asked::Run(task, Source::Input);
+        return Ok(Asked::Run(task, None));
     }
     if count - passed == 1 {
-        return Asked::Run(task, Source::Named(passed));
+        return Ok(Asked::Run(task, Some(passed)));
     }
-    Asked::Further(passed + 1)
+    Err(Misuse::Further(passed + 1))
 }
 
 // Nothing may stand behind the first argument.
-fn alone(asked: Asked, count: usize) -> Asked
+fn alone(asked: Asked, count: usize) -> Result<Asked, Misuse>
     ensures { result ≡ alone asked count }
 {
     if 1 < count {
-        return Asked::Further(1);
+        return Err(Misuse::Further(1));
     }
-    asked
+    Ok(asked)
 }
 
-fn admit(count: usize, second: &[u8]) -> Asked
+fn admit(count: usize, second: &[u8]) -> Result<Asked, Misuse>
     ensures { result ≡ admits count second.now }
 {
     if count < 2 {
-        return Asked::NoPlace;
+        return Err(Misuse::NoPlace);
     }
     match place_in(second) {
-        Place::At(n) => with_file(Task::One(Call::Admit(n)), 2, count),
-        Place::Wrong => Asked::WrongPlace,
+        Some(n) => with_file(Task::One(Call::Admit(n)), 2, count),
+        None => Err(Misuse::WrongPlace),
     }
 }
 
-fn by_word(w: Word, count: usize, second: &[u8]) -> Asked
+fn by_word(w: Word, count: usize, second: &[u8]) -> Result<Asked, Misuse>
     ensures { result ≡ asks w count second.now }
 {
     match w {
@@ -89,17 +78,17 @@ fn by_word(w: Word, count: usize, second: &[u8]) -> Asked
         Word::Lines => with_file(Task::Lines, 1, count),
         Word::Help => alone(Asked::Help, count),
         Word::Version => alone(Asked::Version, count),
-        Word::UnknownOption => Asked::UnknownOption,
+        Word::UnknownOption => Err(Misuse::UnknownOption),
         Word::File => with_file(Task::One(Call::Decide), 0, count),
     }
 }
 
 // How many arguments there are, and the first two of them; one that is missing is empty.
-pub fn read(count: usize, first: &[u8], second: &[u8]) -> Asked
+pub fn read(count: usize, first: &[u8], second: &[u8]) -> Result<Asked, Misuse>
     ensures { result ≡ asks_for count first.now second.now }
 {
     if count == 0 {
-        return Asked::Run(Task::One(Call::Decide), Source::Input);
+        return Ok(Asked::Run(Task::One(Call::Decide), None));
     }
     by_word(word_of(first), count, second)
 }

@@ -2,50 +2,28 @@
 ghost use Rattle.std.specs.Prelude.{◌≡◌};
 ghost use Rattle.arguments.specs.Places.{number_in, place_in};
 
-#[derive(Clone, Copy)]
-pub enum Place {
-    At(usize),
-    Wrong,
-}
-
 // The number that digits alone spell.
-fn number(text: &[u8]) -> Place
+fn number(text: &[u8]) -> Option<usize>
     ensures { result ≡ number_in 0 text.now }
 {
     let mut n: usize = 0;
-    let mut i = 0;
-    while i < text.len() {
-        let c = text[i];
-        if c < 48 {
-            return Place::Wrong;
+    for c in text {
+        if !c.is_ascii_digit() {
+            return None;
         }
-        if 57 < c {
-            return Place::Wrong;
-        }
-        let d = (c - 48) as usize;
-        if 1844674407370955161 < n {
-            return Place::Wrong;
-        }
-        if 18446744073709551615 - d < n * 10 {
-            return Place::Wrong;
-        }
-        n = n * 10 + d;
-        i += 1;
+        n = n.checked_mul(10)?.checked_add(usize::from(*c - b'0'))?;
     }
-    Place::At(n)
+    Some(n)
 }
 
-pub fn place_in(text: &[u8]) -> Place
+pub fn place_in(text: &[u8]) -> Option<usize>
     ensures { result ≡ place_in text.now }
 {
     if text.len() == 0 {
-        return Place::Wrong;
+        return None;
     }
-    if text.len() == 1 {
-        return number(text);
-    }
-    if text[0] == b'0' {
-        return Place::Wrong;
+    if 1 < text.len() && text[0] == b'0' {
+        return None;
     }
     number(text)
 }

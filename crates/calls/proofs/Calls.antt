@@ -1,7 +1,7 @@
 -- The calls on an accepted sheet, from the nodes of its members.
 -- Assumes nothing.
 use mathlib.Core.List.{List}
-use mathlib.Core.Option.{Option, none, some}
+use Rattle.std.specs.Prelude.{Option, None, Some}
 use mathlib.Core.Path.{ap, refl, subst, sym, ◌∙◌, ◌≡◌}
 use Prim.Native.Nat.{ℕ, ◌*◌, ◌+◌, ◌<◌, ◌≤◌}
 use lib.ListN.{length}
@@ -14,7 +14,6 @@ use Rattle.json_text.specs.Cursor.{OnText}
 use Rattle.json_text.specs.Refusal.{Result, no_input, or_else, refused, ◌>>=◌}
 use Rattle.json_text.specs.Spans.{text_at}
 use Rattle.json_text.specs.Table.{after_at, start_at}
-use Rattle.strings.specs.declared.rows.Found.TheVariants as founds
 use Rattle.sheet.proofs.Given.{text_given}
 use Rattle.members.proofs.Walks.{room}
 use Rattle.sheet.specs.Accepted.{Accepted, EachGives, Gives}
@@ -29,9 +28,7 @@ use Rattle.sheet.specs.Accepted.{Known}
 use Rattle.answers.specs.Outcomes.{Placed, at}
 use Rattle.admission.specs.Places.{PlacedAt}
 use Rattle.rules.specs.Told.{Told, admission}
-use Rattle.admission.specs.declared.outcomes.Chosen.{Chosen}
-use Rattle.admission.specs.declared.outcomes.Chosen.TheVariants as chosen
-use Rattle.admission.specs.declared.outcomes.Placed.{Placed as Spot}
+use Rattle.rules.specs.declared.placed.Placed.{Placed as Spot}
 use Rattle.rules.proofs.Eligibility.{missing, there}
 use Rattle.rules.proofs.Walking.{behind_array}
 
@@ -55,27 +52,27 @@ module _ (s : Bytes) (w : List ℕ) (m : Members) (sheet : Sheet Condition) (a :
   pub each_outcome : {e : ℕ} → e ≡ after_at w m.outcomes → EachGives (an_outcome condition) s w (m.outcomes + 1) e sheet.outcomes
   each_outcome = behind_array (an_outcome condition) a.outcomes
 
-  module _ (place : ℕ) (c : Chosen) (g : PlacedAt s w (at 0 place sheet.outcomes) c) where
-    pub told_unplaced : c ≡ chosen.Nothing → Told s w (admit_call sheet place) answers.NoInput
+  module _ (place : ℕ) (c : Option Spot) (g : PlacedAt s w (at 0 place sheet.outcomes) c) where
+    pub told_unplaced : c ≡ None → Told s w (admit_call sheet place) answers.NoInput
     unfolding PlacedAt
     told_unplaced q =
         subst (λ (y : Result Verdict). Told s w y answers.NoInput)
-        (sym (by_parts sheet place none sheet.state (subst (PlacedAt s w (at 0 place sheet.outcomes)) q g) refl)) (told_no_input s w)
+        (sym (by_parts sheet place None sheet.state (subst (PlacedAt s w (at 0 place sheet.outcomes)) q g) refl)) (told_no_input s w)
 
-    module _ (p : Spot) (q : c ≡ chosen.At p) where
-      its : (o : Outcome Condition) × (at 0 place sheet.outcomes ≡ some (record { place = p.place; outcome = o })) × Gives (an_outcome condition) s w p.node o
+    module _ (p : Spot) (q : c ≡ Some p) where
+      its : (o : Outcome Condition) × (at 0 place sheet.outcomes ≡ Some (record { place = p.place; outcome = o })) × Gives (an_outcome condition) s w p.node o
       unfolding PlacedAt
       its = subst (PlacedAt s w (at 0 place sheet.outcomes)) q g
 
-      pub told_stateless : m.state ≡ founds.Nothing → Told s w (admit_call sheet place) answers.NoInput
+      pub told_stateless : m.state ≡ None → Told s w (admit_call sheet place) answers.NoInput
       told_stateless f =
           subst (λ (y : Result Verdict). Told s w y answers.NoInput)
           (sym
-          (by_parts sheet place (some (record { place = p.place; outcome = its.0 })) none its.1 (missing a_text s w f a.state)))
+          (by_parts sheet place (Some (record { place = p.place; outcome = its.0 })) None its.1 (missing a_text s w f a.state)))
           (told_no_input s w)
 
-      module _ (n : ℕ) (f : m.state ≡ founds.At n) where
-        state_here : (t : Bytes) × (sheet.state ≡ some t) × Gives a_text s w n t
+      module _ (n : ℕ) (f : m.state ≡ Some n) where
+        state_here : (t : Bytes) × (sheet.state ≡ Some t) × Gives a_text s w n t
         state_here = there a_text s w n f a.state
 
         pub state_room : (3 * n + 3 ≤ length w) × (n < 4096)
@@ -93,8 +90,8 @@ module _ (s : Bytes) (w : List ℕ) (m : Members) (sheet : Sheet Condition) (a :
             record { given = its.0; known = its.2 },
           )
 
-          state_is : sheet.state ≡ some (text_at s x)
-          state_is = state_here.1 ∙ ap {B = Option Bytes} (λ (z : Bytes). some z) ((text_given state_here.2).bytes ∙ ap (text_at s) (sym e))
+          state_is : sheet.state ≡ Some (text_at s x)
+          state_is = state_here.1 ∙ ap {B = Option Bytes} (λ (z : Bytes). Some z) ((text_given state_here.2).bytes ∙ ap (text_at s) (sym e))
 
           pub told_admission : {r : Answer} →
               ((ts : List Bytes) (os : List (Outcome Condition)) (o : Outcome Condition) → Gives (an_array_of a_text) s w m.states ts →
@@ -102,5 +99,5 @@ module _ (s : Bytes) (w : List ℕ) (m : Members) (sheet : Sheet Condition) (a :
               (admission (admit ts os (text_at s x) (record { place = p.place; outcome = o }))) r) → Told s w (admit_call sheet place) r
           told_admission {r} h =
               subst (λ (y : Result Verdict). Told s w y r)
-              (sym (by_parts sheet place (some (record { place = p.place; outcome = its.0 })) (some (text_at s x)) its.1 state_is))
+              (sym (by_parts sheet place (Some (record { place = p.place; outcome = its.0 })) (Some (text_at s x)) its.1 state_is))
               (h sheet.states sheet.outcomes its.0 a.states a.outcomes its.2)

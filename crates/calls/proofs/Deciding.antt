@@ -1,72 +1,67 @@
 -- The calls that select and decide, from what the preconditions, the selection and the admission say.
 -- Assumes nothing.
-use mathlib.Core.List.{List, [], ◌∷◌}
-use mathlib.Core.Option.{Option, none, some}
+use Rattle.std.specs.Prelude.{Result as Fallible}
+use mathlib.Core.List.{List}
+use Rattle.std.specs.Prelude.{◌≢◌, Option, None, Some, Ok, Err}
 use mathlib.Core.Path.{ap, refl, subst, sym, ◌∙◌, ◌≡◌}
-use Prim.Native.Nat.{ℕ, ◌+◌}
-use mathlib.Core.Logic.{◌≢◌}
+use Prim.Native.Nat.{ℕ}
+use Rattle.paths.proofs.Stands.{impossible}
 use Rattle.evaluation.proofs.After.{accepted_rows}
-use Rattle.writer.specs.Meaning.{meaning}
+use Rattle.writer.specs.Meaning.{Held, meaning, rules_of}
+use Rattle.writer.specs.declared.answer.Rules.{Rules}
+use Rattle.writer.specs.declared.answer.Rules.TheVariants as kinds
+use Rattle.members.specs.Rule.{Rule, a_rule}
+use Rattle.calls.specs.Rules.{rules_call}
 use Rattle.answers.specs.Verdict.{Verdict, passed}
 use Rattle.writer.specs.declared.answer.Answer.{Answer}
 use Rattle.writer.specs.declared.answer.Answer.TheVariants as answers
 use Rattle.writer.specs.declared.answer.Outcome.{Outcome as Entry}
-use Rattle.paths.proofs.Stands.{impossible}
-use Rattle.json_text.proofs.Laws.{bind_ok, bind_refused, ok_injective}
+use Rattle.json_text.proofs.Laws.{bind_ok}
 use Rattle.json_text.specs.Bytes.{Bytes}
 use Rattle.json_text.specs.Cursor.{OnText}
-use Rattle.json_text.specs.Refusal.{Result, Rules, no_input, ok, or_else, preconditions, refused, rule_false, rule_unknown, ◌>>=◌}
+use Rattle.json_text.specs.Refusal.{Result, no_input, ok, or_else, preconditions, ◌>>=◌}
 use Rattle.json_text.specs.Spans.{text_at}
 use Rattle.json_text.specs.Table.{start_at}
-use Rattle.strings.specs.declared.rows.Found.TheVariants as founds
-use Rattle.semantics.specs.Evaluate as judged
-use Rattle.semantics.specs.Evaluate.{evaluate}
-use Rattle.semantics.specs.Names.{Names, ascending}
-use Rattle.semantics.specs.Semantics.{kernel}
-use Rattle.semantics.specs.Truth.{False, True, Truth, Unknown}
-use Rattle.members.proofs.Verdicts.{never}
 use Rattle.sheet.specs.Accepted.{Accepted, Gives, Known}
 use Rattle.members.specs.Condition.{Condition, condition}
 use Rattle.members.specs.Kinds.{a_text, an_array_of}
 use Rattle.members.specs.Outcome.{Outcome, an_outcome}
-use Rattle.members.specs.Rule.{Rule}
 use Rattle.members.specs.Sheet.{Sheet}
 use Rattle.sheet.specs.declared.shape.Members.{Members}
 use Rattle.answers.specs.Admission.{admit}
 use Rattle.rules.specs.Alone.{OnlyMarks}
-use Rattle.answers.specs.Decide.{as_selected, decide_call, select_call}
+use Rattle.rules.specs.Ruled.{Checked, CheckedAs}
+use Rattle.rules.proofs.Stopping.{stops_told}
+use Rattle.answers.specs.Decide.{as_selected, decide_call, invariants_call, preconditions_call, select_call}
 use Rattle.answers.specs.Outcomes.{Placed, select}
 use Rattle.answers.specs.Rules.{check}
 use Rattle.rules.specs.Told.{Answered, Entered, Told, admission}
 use Rattle.calls.specs.Trying.{SelectedAs, Selects, admit_selected}
-use Rattle.admission.specs.declared.outcomes.Placed.{Placed as Spot}
-use Rattle.calls.specs.declared.select.Selected.{Selected}
-use Rattle.calls.specs.declared.select.Selected.TheVariants as selected
+use Rattle.rules.specs.declared.placed.Placed.{Placed as Spot}
 use Rattle.admission.proofs.Admitting.{told_selected}
 use Rattle.calls.proofs.Calls.{told_no_input}
 use Rattle.rules.proofs.Checking.{answered_over}
 use Rattle.rules.proofs.Eligibility.{missing, state_text}
-use Rattle.rules.proofs.Settling.{behind}
 use Rattle.rules.proofs.Unmarking.{marks_none, marks_then}
 
 only_marks : {s : Bytes} {w w' : List ℕ} {x : Result Verdict} {r : Answer} → Answered s w w' x r → OnlyMarks w w'
 only_marks a = record { rows = a.rows; long = a.long; further = a.further }
 
 -- ---- after a selection
-module _ {s : Bytes} {w w' : List ℕ} (sheet : Sheet Condition) {r : Selected} (h : Selects s w w' (select sheet 0 sheet.outcomes) r) where
-  refused_on : (f : Placed → Result Verdict) (a : Answer) → r ≡ selected.Refused a → Answered s w w' (select sheet 0 sheet.outcomes >>= f) a
+module _ {s : Bytes} {w w' : List ℕ} (sheet : Sheet Condition) {r : Fallible Spot Answer} (h : Selects s w w' (select sheet 0 sheet.outcomes) r) where
+  refused_on : (f : Placed → Result Verdict) (a : Answer) → r ≡ Err a → Answered s w w' (select sheet 0 sheet.outcomes >>= f) a
   unfolding SelectedAs
   refused_on f a q = answered_over h.only (subst (SelectedAs s w' (select sheet 0 sheet.outcomes)) q h.is f)
 
-  pub select_refused : (a : Answer) → r ≡ selected.Refused a → Answered s w w' (select_call sheet) a
+  pub select_refused : (a : Answer) → r ≡ Err a → Answered s w w' (select_call sheet) a
   unfolding select_call
   select_refused = refused_on (λ (p : Placed). ok (as_selected p))
 
-  pub admission_refused : (t : Bytes) (a : Answer) → r ≡ selected.Refused a → Answered s w w' (admit_selected sheet t) a
+  pub admission_refused : (t : Bytes) (a : Answer) → r ≡ Err a → Answered s w w' (admit_selected sheet t) a
   unfolding admit_selected
   admission_refused t = refused_on (λ (p : Placed). admission (admit sheet.states sheet.outcomes t p))
 
-  module _ (p : Spot) (q : r ≡ selected.At p) where
+  module _ (p : Spot) (q : r ≡ Ok p) where
     its : (o : Outcome Condition) × (select sheet 0 sheet.outcomes ≡ ok (record { place = p.place; outcome = o })) × Gives (an_outcome condition) s w' p.node o
     unfolding SelectedAs
     its = subst (SelectedAs s w' (select sheet 0 sheet.outcomes)) q h.is
@@ -102,23 +97,72 @@ module _ {s : Bytes} {w w' : List ℕ} (sheet : Sheet Condition) {r : Selected} 
           let b = accepted_rows h.only.rows a in
           chosen_on (λ (y : Placed). admission (admit sheet.states sheet.outcomes (text_at s x) y)) v (g sheet.states sheet.outcomes its.0 b.states b.outcomes its.2)
 
--- ---- the preconditions
-module _ (sheet : Sheet Condition) (kind : Rules) (i : ℕ) (r : Rule Condition) (rs : List (Rule Condition)) (v : Verdict)
-    (below : check sheet kind (i + 1) rs ≡ ok v → v ≡ passed) where
-  passed_after : (t : Truth) (ns : Names) → behind sheet kind i r rs (record { truth = t; names = ns }) ≡ ok v → v ≡ passed
-  passed_after True ns e = below e
-  passed_after False ns e = never (rule_false kind i r.name r.message) v e
-  passed_after Unknown ns e = never (rule_unknown kind i r.name r.message (ascending ns)) v e
+-- ---- a list of rules
+-- the member that has them, by its node
+abbrev pub member : Rules → Members → ℕ
+member kinds.Preconditions m = m.preconditions
+member kinds.Invariants m = m.invariants
 
-  passed_by : (x : Result judged.Answer) → (x >>= behind sheet kind i r rs) ≡ ok v → v ≡ passed
-  passed_by (refused q) e = never q v e
-  passed_by (ok a) e = passed_after a.truth a.names e
+abbrev pub its_rules : Rules → Sheet Condition → List (Rule Condition)
+its_rules kinds.Preconditions sheet = sheet.preconditions
+its_rules kinds.Invariants sheet = sheet.invariants
 
--- rules that are not refused have passed
-only_passed : (sheet : Sheet Condition) (kind : Rules) (i : ℕ) (rs : List (Rule Condition)) (v : Verdict) → check sheet kind i rs ≡ ok v → v ≡ passed
-unfolding check
-only_passed sheet kind i [] v e = ok_injective (sym e)
-only_passed sheet kind i (r ∷ rs) v e = passed_by sheet kind i r rs v (λ f. only_passed sheet kind (i + 1) rs v f) (evaluate kernel sheet [] r.assert) e
+pub rules_given :
+    {s : Bytes} {w : List ℕ} {m : Members} {sheet : Sheet Condition} (kind : Rules) → Accepted s w m sheet → {n : ℕ} → n ≡ member kind m →
+    Gives (an_array_of (a_rule condition)) s w n (its_rules kind sheet)
+rules_given {s} {w} {m} {sheet} kinds.Preconditions a q = subst (λ (x : ℕ). Gives (an_array_of (a_rule condition)) s w x sheet.preconditions) (sym q) a.preconditions
+rules_given {s} {w} {m} {sheet} kinds.Invariants a q = subst (λ (x : ℕ). Gives (an_array_of (a_rule condition)) s w x sheet.invariants) (sym q) a.invariants
+
+pub rules_call_is : (kind : Rules) (sheet : Sheet Condition) → check sheet (rules_of kind) 0 (its_rules kind sheet) ≡ rules_call kind sheet
+unfolding preconditions_call invariants_call rules_of
+rules_call_is kinds.Preconditions sheet = refl
+rules_call_is kinds.Invariants sheet = refl
+
+-- what the code checked, as an answer
+pub checked : {s : Bytes} {w w' : List ℕ} {x : Result Verdict} {r : Fallible (Unit {0}) Answer} → Checked s w w' x r → {u : Unit {0}} → r ≡ Ok u → Answered s w w' x answers.Passed
+unfolding meaning Held
+checked {s} {w} {w'} {x} h q =
+    let z : x ≡ ok passed = subst (CheckedAs s w' x) q h.is in
+    answered_over h.only (record { means = sym z; held = tt })
+
+pub check_refused : {s : Bytes} {w w' : List ℕ} {x : Result Verdict} {r : Fallible (Unit {0}) Answer} → Checked s w w' x r → (a : Answer) → r ≡ Err a → Answered s w w' x a
+check_refused {s} {w} {w'} {x} h a q = answered_over h.only (stops_told x (subst (CheckedAs s w' x) q h.is))
+
+-- ---- the decision
+abbrev in_state : Sheet Condition → Option Bytes → Result Verdict
+in_state sheet t = or_else t no_input >>= (λ (x : Bytes). check sheet preconditions 0 sheet.preconditions >>= (λ _. admit_selected sheet x))
+
+by_state : (sheet : Sheet Condition) (t : Option Bytes) → sheet.state ≡ t → decide_call sheet ≡ in_state sheet t
+unfolding decide_call admit_selected
+by_state sheet t q = ap {B = Result Verdict} (in_state sheet) q
+
+module _ (s : Bytes) (w : List ℕ) (m : Members) (sheet : Sheet Condition) (a : Accepted s w m sheet) where
+  pub decides_stateless : m.state ≡ None → Answered s w w (decide_call sheet) answers.NoInput
+  decides_stateless f =
+      answered_over (marks_none w)
+      (subst (λ (y : Result Verdict). Told s w y answers.NoInput) (sym (by_state sheet None (missing a_text s w f a.state)))
+      (told_no_input s w))
+
+  module _ (n : ℕ) (f : m.state ≡ Some n) {x : ℕ} (e : x ≡ start_at w n) {w₁ : List ℕ} {v : Fallible (Unit {0}) Answer}
+      (h : Checked s w w₁ (check sheet preconditions 0 sheet.preconditions) v) where
+    by_check : decide_call sheet ≡ (check sheet preconditions 0 sheet.preconditions >>= (λ _. admit_selected sheet (text_at s x)))
+    by_check = by_state sheet (Some (text_at s x)) (state_text s w n f a.state e)
+
+    pub decides_on : {u : Unit {0}} → v ≡ Ok u → {w' : List ℕ} {r : Answer} →
+        ((sheet' : Sheet Condition) → Accepted s w₁ m sheet' → Answered s w₁ w' (admit_selected sheet' (text_at s x)) r) →
+        Answered s w w' (decide_call sheet) r
+    decides_on q {w'} {r} g =
+        let passes : check sheet preconditions 0 sheet.preconditions ≡ ok passed = subst (CheckedAs s w₁ (check sheet preconditions 0 sheet.preconditions)) q h.is in
+        let b = g sheet (accepted_rows h.only.rows a) in
+        answered_over (marks_then h.only (only_marks b))
+        (subst (λ (y : Result Verdict). Told s w' y r) (sym (by_check ∙ bind_ok (λ _. admit_selected sheet (text_at s x)) passes))
+        b.told)
+
+    pub decides_refused : (y : Answer) → v ≡ Err y → Answered s w w₁ (decide_call sheet) y
+    decides_refused y q =
+        answered_over h.only
+        (subst (λ (z : Result Verdict). Told s w₁ z y) (sym by_check)
+        (subst (CheckedAs s w₁ (check sheet preconditions 0 sheet.preconditions)) q h.is (λ _. admit_selected sheet (text_at s x))))
 
 -- every answer but `Passed`
 not_passed_lem : (s : Bytes) (w : List ℕ) (a : Answer) → a ≢ answers.Passed → meaning s w a ≡ ok passed → ⊥
@@ -138,41 +182,3 @@ not_passed_lem s w answers.NoOutcome o e = impossible (cc)
 not_passed_lem s w (answers.GuardUnknown x) o e = impossible (cc)
 not_passed_lem s w (answers.WrongState x) o e = impossible (cc)
 not_passed_lem s w (answers.NotASource x) o e = impossible (cc)
-
--- ---- the decision
-abbrev in_state : Sheet Condition → Option Bytes → Result Verdict
-in_state sheet t = or_else t no_input >>= (λ (x : Bytes). check sheet preconditions 0 sheet.preconditions >>= (λ _. admit_selected sheet x))
-
-by_state : (sheet : Sheet Condition) (t : Option Bytes) → sheet.state ≡ t → decide_call sheet ≡ in_state sheet t
-unfolding decide_call admit_selected
-by_state sheet t q = ap {B = Result Verdict} (in_state sheet) q
-
-module _ (s : Bytes) (w : List ℕ) (m : Members) (sheet : Sheet Condition) (a : Accepted s w m sheet) where
-  pub decides_stateless : m.state ≡ founds.Nothing → Answered s w w (decide_call sheet) answers.NoInput
-  decides_stateless f =
-      answered_over (marks_none w)
-      (subst (λ (y : Result Verdict). Told s w y answers.NoInput) (sym (by_state sheet none (missing a_text s w f a.state)))
-      (told_no_input s w))
-
-  module _ (n : ℕ) (f : m.state ≡ founds.At n) {x : ℕ} (e : x ≡ start_at w n) {w₁ : List ℕ} {v : Answer}
-      (h : Answered s w w₁ (check sheet preconditions 0 sheet.preconditions) v) where
-    by_check : decide_call sheet ≡ (check sheet preconditions 0 sheet.preconditions >>= (λ _. admit_selected sheet (text_at s x)))
-    by_check = by_state sheet (some (text_at s x)) (state_text s w n f a.state e)
-
-    pub decides_on : v ≡ answers.Passed → {w' : List ℕ} {r : Answer} →
-        ((sheet' : Sheet Condition) → Accepted s w₁ m sheet' → Answered s w₁ w' (admit_selected sheet' (text_at s x)) r) →
-        Answered s w w' (decide_call sheet) r
-    unfolding meaning
-    decides_on q {w'} {r} g =
-        let passes : check sheet preconditions 0 sheet.preconditions ≡ ok passed = sym h.told.means ∙ ap (meaning s w₁) q in
-        let b = g sheet (accepted_rows h.rows a) in
-        answered_over (marks_then (only_marks h) (only_marks b))
-        (subst (λ (y : Result Verdict). Told s w' y r) (sym (by_check ∙ bind_ok (λ _. admit_selected sheet (text_at s x)) passes))
-        b.told)
-
-    pub decides_refused : v ≢ answers.Passed → Answered s w w₁ (decide_call sheet) v
-    decides_refused o = answered_over (only_marks h) (go (check sheet preconditions 0 sheet.preconditions) refl)
-      where
-        go : (y : Result Verdict) → check sheet preconditions 0 sheet.preconditions ≡ y → Told s w₁ (decide_call sheet) v
-        go (refused q) z = subst (λ (y : Result Verdict). Told s w₁ y v) (z ∙ sym (by_check ∙ bind_refused (λ _. admit_selected sheet (text_at s x)) z)) h.told
-        go (ok y) z = absurd (not_passed_lem s w₁ v o (h.told.means ∙ z ∙ ap ok (only_passed sheet preconditions 0 sheet.preconditions y z)))

@@ -1,15 +1,14 @@
 -- Outcomes tried by place, from the nodes of an accepted sheet: each guard's answer, each outcome, and the selection so far.
 -- Assumes nothing.
+use Rattle.std.specs.Prelude.{IsErrAnd, Result as Fallible}
 use mathlib.Core.Bool.{Bool, false, true}
 use mathlib.Core.List.{List, [], ◌∷◌}
-use mathlib.Core.Option.{Option}
+use Rattle.std.specs.Prelude.{Option, Some, None, Ok, Err}
 use mathlib.Core.Path.{ap, refl, subst, sym, ◌∙◌, ◌≡◌}
 use Prim.Native.Nat.{ℕ, ◌*◌, ◌+◌, ◌<◌, ◌≤◌}
 use native.Mathlib.Omega.{arith}
 use lib.ListN.{length}
 use Rattle.evaluation.proofs.After.{accepted_rows, each_gives_rows, gives_rows}
-use Rattle.comparison.specs.declared.comparison.Outcome.{Outcome as Judgement}
-use Rattle.comparison.specs.declared.comparison.Outcome.TheVariants as outcomes
 use Rattle.writer.specs.Meaning.{Held, meaning, names_in}
 use Rattle.answers.specs.Verdict.{Verdict}
 use Rattle.writer.specs.declared.answer.Answer as code
@@ -20,9 +19,7 @@ use Rattle.json_text.proofs.Laws.{bind_ok}
 use Rattle.json_text.specs.Bytes.{Bytes}
 use Rattle.json_text.specs.Json.{Value}
 use Rattle.json_text.specs.Refusal.{Result, guard_unknown, ok, refused, ◌>>=◌}
-use Rattle.json_text.specs.Table.{after_at, start_at}
-use Rattle.strings.specs.declared.rows.Found.{Found}
-use Rattle.strings.specs.declared.rows.Found.TheVariants as founds
+use Rattle.json_text.specs.Table.{after_at}
 use Rattle.semantics.specs.Evaluate.{Answer, evaluate}
 use Rattle.semantics.specs.Names.{Names, ascending}
 use Rattle.semantics.specs.Semantics.{kernel}
@@ -35,68 +32,53 @@ use Rattle.members.specs.Condition.{Condition, condition}
 use Rattle.members.specs.Outcome.{Outcome, an_outcome}
 use Rattle.members.specs.Sheet.{Sheet}
 use Rattle.sheet.specs.declared.shape.Members.{Members}
-use Rattle.rules.specs.Alone.{Alone, OnlyMarks}
+use Rattle.rules.specs.Alone.{Alone, Judged, OnlyMarks}
+use Rattle.rules.specs.declared.placed.Placed.{Placed as Spot}
+use Rattle.rules.proofs.Stopping.{returned, stops_as, stops_refused, stops_through}
 use Rattle.answers.specs.Outcomes.{Placed, eligible, guard, select}
-use Rattle.rules.specs.Told.{Entered, Told}
-use Rattle.calls.specs.Trying.{SelectedAs, Selects, Stops, TriedAs, Tries, by_guard, taken}
-use Rattle.calls.specs.declared.select.Selected.{Selected}
-use Rattle.calls.specs.declared.select.Selected.TheVariants as selected
-use Rattle.calls.specs.declared.select.Tried.{Tried}
-use Rattle.calls.specs.declared.select.Tried.TheVariants as tried
+use Rattle.rules.specs.Told.{Entered, Stops}
+use Rattle.calls.specs.Trying.{SelectedAs, Selects, TriedAs, Tries, by_guard, taken}
 use Rattle.admission.proofs.Admitting.{entered_as}
 use Rattle.rules.proofs.Checking.{one_sheet}
 use Rattle.rules.proofs.Eligibility.{missing, there}
-use Rattle.rules.proofs.Settling.{judged, own_names, told_no_id, told_unknown}
+use Rattle.rules.proofs.Settling.{judged, stopped}
 use Rattle.rules.proofs.Unmarking.{marks_none, marks_then}
 use Rattle.rules.proofs.Walking.{Walking, behind_array, element_room, ended, falls, goes_on, next, settled, starts}
 
-bind_assoc : {A B C : Type 0} (x : Result A) (f : A → Result B) (g : B → Result C) → ((x >>= f) >>= g) ≡ (x >>= (λ (a : A). f a >>= g))
-bind_assoc (ok a) f g = refl
-bind_assoc (refused r) f g = refl
-
--- what is told whatever were to follow is told after a further step too
-stops_through : {A B : Type 0} {s : Bytes} {w : List ℕ} (x : Result A) (g : A → Result B) {a : code.Answer} → Stops s w x a → Stops s w (x >>= g) a
-stops_through {A} {B} {s} {w} x g {a} h f = subst (λ (y : Result Verdict). Told s w y a) (sym (bind_assoc x g f)) (h (λ (b : A). g b >>= f))
-
-stops_as : {A : Type 0} {s : Bytes} {w : List ℕ} {x y : Result A} {a : code.Answer} → y ≡ x → Stops s w x a → Stops s w y a
-stops_as {A} {s} {w} {x} {y} {a} q h = subst (λ (z : Result A). Stops s w z a) (sym q) h
-
 -- ---- a guard's truth
-module _ (s : Bytes) (w₁ : List ℕ) {w : List ℕ} {t : CodeTruth} {x : Result Answer} (place : ℕ) (name : Bytes) (a : Alone s w w₁ (outcomes.Judged t) x) where
-  by_truth : (u : CodeTruth) → t ≡ u → by_guard place name x ≡ by_guard place name (ok (record { truth = truth_of u; names = a.names }))
-  by_truth u q = ap (by_guard place name) (judged a u (ap outcomes.Judged q))
+module _ (s : Bytes) (w : List ℕ) {t : CodeTruth} {x : Result Answer} (place : ℕ) (name : Bytes) (j : Judged s w x t) where
+  by_truth : (u : CodeTruth) → t ≡ u → by_guard place name x ≡ by_guard place name (ok (record { truth = truth_of u; names = j.names }))
+  by_truth u q = ap (by_guard place name) (j.is ∙ ap (λ (v : CodeTruth). ok (record { truth = truth_of v; names = j.names })) q)
 
-  pub guard_takes : t ≡ truths.True → TriedAs s w₁ (by_guard place name x) tried.Taken
+  pub guard_takes : t ≡ truths.True → TriedAs s w (by_guard place name x) (Ok true)
   unfolding TriedAs by_guard
   guard_takes q = by_truth truths.True q
 
-  pub guard_passes : t ≡ truths.False → TriedAs s w₁ (by_guard place name x) tried.Passed
+  pub guard_passes : t ≡ truths.False → TriedAs s w (by_guard place name x) (Ok false)
   unfolding TriedAs by_guard
   guard_passes q = by_truth truths.False q
 
-  pub guard_stops : t ≡ truths.Unknown → {e : Entry} → Entered s place name e → TriedAs s w₁ (by_guard place name x) (tried.Refused (answers.GuardUnknown e))
+  pub guard_stops : t ≡ truths.Unknown → {e : Entry} → Entered s place name e → TriedAs s w (by_guard place name x) (Err (answers.GuardUnknown e))
   unfolding TriedAs by_guard meaning Held
   guard_stops q h =
-      let names = own_names a truths.Unknown (ap outcomes.Judged q) in
-      stops_as (by_truth truths.Unknown q)
-      (λ f.
-      record {
-        means = entered_as (λ (i : ℕ) (n : Bytes). refused (guard_unknown i n (names_in s w₁))) h ∙
-            ap {B = Result Verdict} (λ (ns : Names). refused (guard_unknown place name ns)) names.1;
-        held = (h.on_text, names.0);
+      stops_refused (guard_unknown place name (ascending j.names)) (by_truth truths.Unknown q)
+      (record {
+        means = entered_as (λ (i : ℕ) (n : Bytes). refused (guard_unknown i n (names_in s w))) h ∙
+            ap {B = Result Verdict} (λ (ns : Names). refused (guard_unknown place name ns)) j.marked;
+        held = (h.on_text, j.held);
       })
 
 -- ---- a guard that may be missing
-module _ (s : Bytes) (w : List ℕ) {f : Found} where
-  pub guard_there : (n : ℕ) → f ≡ founds.At n → Known (MayGive condition s w f) → Known (Gives condition s w n)
+module _ (s : Bytes) (w : List ℕ) {f : Option ℕ} where
+  pub guard_there : (n : ℕ) → f ≡ Some n → Known (MayGive condition s w f) → Known (Gives condition s w n)
   guard_there n q g = let x = there condition s w n q g.known in record { given = x.0; known = x.2 }
 
   module _ (sheet : Sheet Condition) (c : Option Condition) (place : ℕ) (o : Outcome Condition) (g : MayGive condition s w f c) where
-    pub no_guard : f ≡ founds.Nothing → Tries s w w (by_guard place o.name (guard sheet c)) tried.Taken
+    pub no_guard : f ≡ None → Tries s w w (by_guard place o.name (guard sheet c)) (Ok true)
     unfolding TriedAs by_guard guard
     no_guard q = record { is = ap (λ (d : Option Condition). by_guard place o.name (guard sheet d)) (missing condition s w q g); only = marks_none w }
 
-    module _ (n : ℕ) (q : f ≡ founds.At n) {w' : List ℕ} {r : Judgement}
+    module _ (n : ℕ) (q : f ≡ Some n) {w' : List ℕ} {r : Fallible CodeTruth code.Answer}
         (answer : (d : Condition) → Gives condition s w n d → Alone s w w' r (evaluate kernel sheet [] d)) where
       its_answer : Alone s w w' r (guard sheet c)
       unfolding guard
@@ -104,24 +86,17 @@ module _ (s : Bytes) (w : List ℕ) {f : Found} where
           let x = there condition s w n q g in
           subst (λ (d : Option Condition). Alone s w w' r (guard sheet d)) (sym x.1) (answer x.0 x.2)
 
-      guarded : (v : Tried) → TriedAs s w' (by_guard place o.name (guard sheet c)) v → Tries s w w' (by_guard place o.name (guard sheet c)) v
-      guarded v h = record { is = h; only = its_answer.only }
+      pub by_judged : {k : ℕ} → Gives (an_outcome condition) s w k o → (t : CodeTruth) → r ≡ Ok t → {v : Fallible Bool code.Answer} →
+          ((o' : Outcome Condition) (x : Result Answer) → Gives (an_outcome condition) s w' k o' → Judged s w' x t → TriedAs s w' (by_guard place o'.name x) v) →
+          Tries s w w' (by_guard place o.name (guard sheet c)) v
+      by_judged h t i by =
+          record { is = by o (guard sheet c) (gives_rows its_answer.only.rows h) (judged its_answer t i); only = its_answer.only }
 
-      stops_guard : {a : code.Answer} → Stops s w' (guard sheet c) a → TriedAs s w' (by_guard place o.name (guard sheet c)) (tried.Refused a)
+      pub guard_refused : (a : code.Answer) → r ≡ Err a → (v : Fallible Bool code.Answer) → IsErrAnd v (λ y. y ≡ a) → Tries s w w' (by_guard place o.name (guard sheet c)) v
       unfolding TriedAs by_guard
-      stops_guard h = stops_through (guard sheet c) _ h
-
-      pub by_judged : {k : ℕ} → Gives (an_outcome condition) s w k o → (t : CodeTruth) → r ≡ outcomes.Judged t → {v : Tried} →
-          ((o' : Outcome Condition) (w₁ : List ℕ) (x : Result Answer) → Gives (an_outcome condition) s w' k o' → Alone s w₁ w'
-          (outcomes.Judged t) x → TriedAs s w' (by_guard place o'.name x) v) → Tries s w w' (by_guard place o.name (guard sheet c)) v
-      by_judged h t i {v} by = guarded v (by o w (guard sheet c) (gives_rows its_answer.only.rows h) (subst (λ (j : Judgement). Alone s w w' j (guard sheet c)) i its_answer))
-
-      pub stops_expression : (e : ℕ) → r ≡ outcomes.Unknown e → {p : ℕ} → p ≡ start_at (table w') e →
-          Tries s w w' (by_guard place o.name (guard sheet c)) (tried.Refused (answers.UnknownExpression p))
-      stops_expression e i {p} j = guarded (tried.Refused (answers.UnknownExpression p)) (stops_guard (told_unknown its_answer e i j))
-
-      pub stops_no_id : r ≡ outcomes.NoId → Tries s w w' (by_guard place o.name (guard sheet c)) (tried.Refused answers.NoId)
-      stops_no_id i = guarded (tried.Refused answers.NoId) (stops_guard (told_no_id its_answer i))
+      guard_refused a i v e =
+          subst (Tries s w w' (by_guard place o.name (guard sheet c))) (returned v e)
+          (record { is = stops_through (guard sheet c) _ (stopped its_answer a i); only = its_answer.only })
 
 -- ---- an outcome
 module _ (sheet : Sheet Condition) (i : ℕ) (o : Outcome Condition) where
@@ -174,11 +149,11 @@ module _ (sheet : Sheet Condition) (i : ℕ) (o : Outcome Condition) where
     select_by = as_taking (eligible sheet.state o) (guard sheet o.when)
 
 module _ (s : Bytes) (w : List ℕ) (sheet : Sheet Condition) (place : ℕ) (o : Outcome Condition) (b : Bool) (e : b ≡ eligible sheet.state o) where
-  pub passed_over : b ≡ false → Tries s w w (taken sheet place o) tried.Passed
+  pub passed_over : b ≡ false → Tries s w w (taken sheet place o) (Ok false)
   unfolding TriedAs
   passed_over q = record { is = taken_not sheet place o (sym q ∙ e); only = marks_none w }
 
-  pub by_its_guard : b ≡ true → {w' : List ℕ} {v : Tried} → Tries s w w' (by_guard place o.name (guard sheet o.when)) v → Tries s w w' (taken sheet place o) v
+  pub by_its_guard : b ≡ true → {w' : List ℕ} {v : Fallible Bool code.Answer} → Tries s w w' (by_guard place o.name (guard sheet o.when)) v → Tries s w w' (taken sheet place o) v
   by_its_guard q {w'} {v} h = subst (λ (x : Result Bool). Tries s w w' x v) (sym (taken_by sheet place o (sym q ∙ e))) h
 
 -- ---- the outcomes in turn
@@ -212,11 +187,11 @@ trying {w = w} long g q =
 
 module _ {s : Bytes} {m : Members} {w₀ : List ℕ} {e : ℕ} {w : List ℕ} {i k : ℕ} (l : Trying s m w₀ e w i k) where
   -- what holds of the sheet in hand holds of every sheet accepted at the start
-  of_every : {w' : List ℕ} {r : Selected} → Selects s w₀ w' (select l.sheet 0 l.sheet.outcomes) r → (sheet : Sheet Condition) →
+  of_every : {w' : List ℕ} {r : Fallible Spot code.Answer} → Selects s w₀ w' (select l.sheet 0 l.sheet.outcomes) r → (sheet : Sheet Condition) →
       Accepted s w₀ m sheet → Selects s w₀ w' (select sheet 0 sheet.outcomes) r
   of_every {w'} {r} h sheet a = subst (λ (x : Sheet Condition). Selects s w₀ w' (select x 0 x.outcomes) r) (one_sheet l.accepted a) h
 
-  pub none_left : e ≤ k → (sheet : Sheet Condition) → Accepted s w₀ m sheet → Selects s w₀ w (select sheet 0 sheet.outcomes) (selected.Refused answers.NoOutcome)
+  pub none_left : e ≤ k → (sheet : Sheet Condition) → Accepted s w₀ m sheet → Selects s w₀ w (select sheet 0 sheet.outcomes) (Err answers.NoOutcome)
   unfolding SelectedAs meaning Held select
   none_left h = of_every (record { is = stops_as (sym (ended l.walking h l.sheet.outcomes l.every)) (λ f. record { means = refl; held = tt }); only = l.only })
 
@@ -224,7 +199,7 @@ module _ {s : Bytes} {m : Members} {w₀ : List ℕ} {e : ℕ} {w : List ℕ} {i
     pub outcome_known : (16384 ≤ length w) × Known (Accepted s w m) × Known (Gives (an_outcome condition) s w k)
     outcome_known = (l.enough, record { given = l.sheet; known = l.accepted }, record { given = (next l.walking h).first; known = (next l.walking h).here })
 
-    module _ {w' : List ℕ} {r : Tried}
+    module _ {w' : List ℕ} {r : Fallible Bool code.Answer}
         (tries : (sheet : Sheet Condition) (o : Outcome Condition) → Accepted s w m sheet → Gives (an_outcome condition) s w k o → Tries s
         w w' (taken sheet i o) r) where
       now_only : OnlyMarks w w'
@@ -242,8 +217,8 @@ module _ {s : Bytes} {m : Members} {w₀ : List ℕ} {e : ℕ} {w : List ℕ} {i
       chooses : select l.sheet 0 l.sheet.outcomes ≡ (taken l.sheet i first >>= onward l.sheet i first (next on h).others)
       chooses = sym (settled on h _ (sym (select_by l.sheet i first (next on h).others)) l.sheet.outcomes (each_gives_rows now_only.rows l.every))
 
-      pub takes : r ≡ tried.Taken → (sheet : Sheet Condition) → Accepted s w₀ m sheet →
-          Selects s w₀ w' (select sheet 0 sheet.outcomes) (selected.At (record { place = i; node = k }))
+      pub takes : r ≡ (Ok true) → (sheet : Sheet Condition) → Accepted s w₀ m sheet →
+          Selects s w₀ w' (select sheet 0 sheet.outcomes) (Ok (record { place = i; node = k }))
       unfolding TriedAs SelectedAs
       takes q =
           of_every
@@ -257,42 +232,49 @@ module _ {s : Bytes} {m : Members} {w₀ : List ℕ} {e : ℕ} {w : List ℕ} {i
             only = marks_then l.only now_only;
           })
 
-      pub refuses : (a : code.Answer) → r ≡ tried.Refused a → (sheet : Sheet Condition) → Accepted s w₀ m sheet →
-          Selects s w₀ w' (select sheet 0 sheet.outcomes) (selected.Refused a)
+      pub refuses : (a : code.Answer) → r ≡ Err a → (v : Fallible Spot code.Answer) → IsErrAnd v (λ y. y ≡ a) → (sheet : Sheet Condition) → Accepted s w₀ m sheet →
+          Selects s w₀ w' (select sheet 0 sheet.outcomes) v
       unfolding TriedAs SelectedAs
-      refuses a q =
-          of_every
+      refuses a q v z sheet b =
+          subst (Selects s w₀ w' (select sheet 0 sheet.outcomes)) (returned v z)
+          (of_every
           (record {
             is = stops_as chooses
                 (stops_through (taken l.sheet i first) (onward l.sheet i first (next on h).others)
                 (subst (TriedAs s w' (taken l.sheet i first)) q said));
             only = marks_then l.only now_only;
-          })
+          }) sheet b)
 
-      pub tries_on : r ≡ tried.Passed → (k' : ℕ) → k' ≡ after_at w' k → Trying s m w₀ e w' (i + 1) k'
-      unfolding TriedAs
-      tries_on q k' p =
-          let x : taken l.sheet i first ≡ ok false = subst (TriedAs s w' (taken l.sheet i first)) q said in
-          record {
-            sheet = l.sheet;
-            accepted = accepted_rows now_only.rows l.accepted;
-            every = each_gives_rows now_only.rows l.every;
-            only = marks_then l.only now_only;
-            enough = omega (arith, now_only.long, l.enough);
-            low = omega (arith, (next on h).past, l.low);
-            walking =
-                goes_on
-                on
-                h
-                (select l.sheet (i + 1))
-                (select_by l.sheet i first (next on h).others ∙ bind_ok (onward l.sheet i first (next on h).others) x)
-                k'
-                p;
-          }
+      -- the item behind
+      module _ {p : Spot} (p_is : p ≡ record { place = i + 1; node = after_at w' k }) where
+        behind : p.node ≡ after_at w' k
+        behind = ap (λ (x : Spot). x.node) p_is
+
+        pub tries_on : r ≡ Ok false → Trying s m w₀ e w' p.place p.node
+        unfolding TriedAs
+        tries_on q =
+            let x : taken l.sheet i first ≡ ok false = subst (TriedAs s w' (taken l.sheet i first)) q said in
+            subst (λ (y : ℕ). Trying s m w₀ e w' y p.node) (sym (ap (λ (y : Spot). y.place) p_is))
+            (record {
+              sheet = l.sheet;
+              accepted = accepted_rows now_only.rows l.accepted;
+              every = each_gives_rows now_only.rows l.every;
+              only = marks_then l.only now_only;
+              enough = omega (arith, now_only.long, l.enough);
+              low = omega (arith, (next on h).past, l.low, behind);
+              walking =
+                  goes_on
+                  on
+                  h
+                  (select l.sheet (i + 1))
+                  (select_by l.sheet i first (next on h).others ∙ bind_ok (onward l.sheet i first (next on h).others) x)
+                  p.node
+                  behind;
+            })
+
+        pub falls_after : (k < p.node) × (p.node ≤ e)
+        falls_after = falls on h p.node behind
 
       -- the table at hand when the next outcome is looked for
-      pub room_after : (3 * k + 3 ≤ length w') × (k < 4096)
-      room_after = element_room on h
-
-      pub falls_after : (k' : ℕ) → k' ≡ after_at w' k → (k < k') × (k' ≤ e)
-      falls_after = falls on h
+      pub room_after : (i ≤ k) × (3 * k + 3 ≤ length w') × (k < 4096)
+      room_after = let x = element_room on h in (l.low, x.0, x.1)

@@ -1,1 +1,2 @@
 pub mod Trying
+pub mod Rules

@@ -1,6 +1,7 @@
 -- Outcomes tried by place: whether one is taken, or passed over, or a refusal ends the selection; and what the code says of it.
 -- Assumes nothing.
-use Rattle.std.specs.Prelude.{Bool, false, true, List, ◌≡◌, ℕ}
+use Rattle.std.specs.Prelude.{Result as Fallible}
+use Rattle.std.specs.Prelude.{Bool, false, true, List, ◌≡◌, ℕ, Ok, Err}
 use Rattle.semantics.specs.Evaluate.{Answer}
 use Rattle.semantics.specs.Names.{ascending}
 use Rattle.semantics.specs.Truth.{False, True, Unknown}
@@ -15,11 +16,8 @@ use Rattle.members.specs.Sheet.{Sheet}
 use Rattle.answers.specs.Admission.{admit}
 use Rattle.rules.specs.Alone.{OnlyMarks}
 use Rattle.answers.specs.Outcomes.{Placed, eligible, guard, select}
-use Rattle.rules.specs.Told.{Told, admission}
-use Rattle.calls.specs.declared.select.Selected.{Selected}
-use Rattle.calls.specs.declared.select.Selected.TheVariants as selected
-use Rattle.calls.specs.declared.select.Tried.{Tried}
-use Rattle.calls.specs.declared.select.Tried.TheVariants as tried
+use Rattle.rules.specs.Told.{Stops, admission}
+use Rattle.rules.specs.declared.placed.Placed.{Placed as Spot}
 
 -- whether a guard that answered so takes the outcome at a place
 unfoldable pub by_guard : ℕ → Bytes → Result Answer → Result Bool
@@ -38,23 +36,18 @@ unfoldable pub admit_selected : Sheet Condition → Bytes → Result Verdict
 unfolding select admit
 admit_selected sheet state = select sheet 0 sheet.outcomes >>= (λ (p : Placed). admission (admit sheet.states sheet.outcomes state p))
 
--- an answer that is told whatever were to follow: a refusal
-abbrev pub Stops : {A : Type 0} → Bytes → List ℕ → Result A → code.Answer → Type 0
-Stops {A} s w x a = (f : A → Result Verdict) → Told s w (x >>= f) a
+unfoldable pub TriedAs : Bytes → List ℕ → Result Bool → Fallible Bool code.Answer → Type 0
+TriedAs s w x (Ok b) = x ≡ ok b
+TriedAs s w x (Err a) = Stops s w x a
 
-unfoldable pub TriedAs : Bytes → List ℕ → Result Bool → Tried → Type 0
-TriedAs s w x tried.Taken = x ≡ ok true
-TriedAs s w x tried.Passed = x ≡ ok false
-TriedAs s w x (tried.Refused a) = Stops s w x a
+unfoldable pub SelectedAs : Bytes → List ℕ → Result Placed → Fallible Spot code.Answer → Type 0
+SelectedAs s w x (Ok p) = (o : Outcome Condition) × (x ≡ ok (record { place = p.place; outcome = o })) × Gives (an_outcome condition) s w p.node o
+SelectedAs s w x (Err a) = Stops s w x a
 
-unfoldable pub SelectedAs : Bytes → List ℕ → Result Placed → Selected → Type 0
-SelectedAs s w x (selected.At p) = (o : Outcome Condition) × (x ≡ ok (record { place = p.place; outcome = o })) × Gives (an_outcome condition) s w p.node o
-SelectedAs s w x (selected.Refused a) = Stops s w x a
-
-pub record Tries (s : Bytes) (w w' : List ℕ) (whole : Result Bool) (r : Tried) : Type 0 where
+pub record Tries (s : Bytes) (w w' : List ℕ) (whole : Result Bool) (r : Fallible Bool code.Answer) : Type 0 where
   pub is : TriedAs s w' whole r
   pub only : OnlyMarks w w'
 
-pub record Selects (s : Bytes) (w w' : List ℕ) (whole : Result Placed) (r : Selected) : Type 0 where
+pub record Selects (s : Bytes) (w w' : List ℕ) (whole : Result Placed) (r : Fallible Spot code.Answer) : Type 0 where
   pub is : SelectedAs s w' whole r
   pub only : OnlyMarks w w'

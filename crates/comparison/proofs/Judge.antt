@@ -2,7 +2,7 @@
 -- Assumes nothing.
 use mathlib.Core.Path.{◌≡◌, refl, ◌∙◌, ap}
 use mathlib.Core.List.{List, [], ◌∷◌}
-use mathlib.Core.Option.{none, some}
+use Rattle.std.specs.Prelude.{None, Some}
 use mathlib.Core.Bool.{Bool, true, false}
 use Prim.Native.Nat.{ℕ, ◌+◌, ◌*◌, ◌≤◌, ◌<◌}
 use native.Mathlib.Omega.{arith}
@@ -53,8 +53,8 @@ each_agrees n m f g h (turn {o = o} {v = v} {xs = xs} {vs = vs} r l k) =
 
 collected_agrees : {R : Operand → Value → Type 0} (n : ℕ) (m : Mode) (f : Operand → Result Answer) (g : Value → Result Answer) →
     ((o : Operand) (v : Value) → R o v → depth v ≤ n → f o ≡ g v) → {s : Shape Operand} {v : Value} → Fits R s v → depth v ≤ n → ◌≡◌
-    {A = Result Answer} (elim (collected s) [ none ↦ ok (unknown []) | some xs ↦ in_turn m f xs ])
-    (elim (collection v) [ none ↦ ok (unknown []) | some vs ↦ each m g vs ])
+    {A = Result Answer} (elim (collected s) [ None ↦ ok (unknown []) | Some xs ↦ in_turn m f xs ])
+    (elim (collection v) [ None ↦ ok (unknown []) | Some vs ↦ each m g vs ])
 unfolding depth
 collected_agrees n m f g h is_nothing l = refl
 collected_agrees n m f g h is_truth l = refl

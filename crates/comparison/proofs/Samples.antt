@@ -2,7 +2,7 @@
 -- Assumes nothing.
 use mathlib.Core.Path.{refl, ◌≡◌}
 use mathlib.Core.List.{[], ◌∷◌}
-use mathlib.Core.Option.{none}
+use Rattle.std.specs.Prelude.{None}
 use Rattle.comparison.specs.Judge.{judge}
 use Rattle.semantics.specs.Truth.{True}
 use Rattle.json_text.specs.Bytes.{ascii}
@@ -14,17 +14,17 @@ use Rattle.members.specs.Sheet.{Sheet}
 -- for_any in [{"k":"$args"}] as c that for_any in "$c.k.v" as d that eq ["$d", 2]; args {"v":[1,2]}
 abbrev sheet_one : Sheet Condition
 sheet_one = record {
-  id = none;
+  id = None;
   entity = [];
   version = 49 ∷ [];
   args = member (ascii "v") (array (cons (number (49 ∷ [])) (cons (number (50 ∷ [])) nil))) empty;
   fields = empty;
   old_fields = empty;
-  from_state = none;
+  from_state = None;
   to_state = [];
-  state = none;
+  state = None;
   states = [];
-  condition = none;
+  condition = None;
   preconditions = [];
   invariants = [];
   outcomes = [];

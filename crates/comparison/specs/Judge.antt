@@ -1,7 +1,6 @@
 -- Conditions over operands that are not copied: truth with its names.
 -- Assumes nothing.
-use Rattle.std.specs.Prelude.{List, [], ◌∷◌, ◌++◌, false, true}
-use Rattle.std.proofs.Math.Option.{none, some}
+use Rattle.std.specs.Prelude.{List, [], ◌∷◌, ◌++◌, false, true, None, Some}
 use Rattle.semantics.specs.Evaluate.{Answer, certain, is_present, joined, unknown}
 use Rattle.semantics.specs.Operand.{Resolved, missing, present}
 use Rattle.semantics.specs.Truth.{negate, settles, start}
@@ -38,7 +37,7 @@ module _ {C : Type 0} (sheet : Sheet C) where
   unfoldable pub over_of : Frames → Mode → (Operand → Result Answer) → Resolved Operand → Result Answer
   unfolding in_turn shape
   over_of fs m body (missing ns) = ok (unknown ns)
-  over_of fs m body (present o) = elim (collected (shape sheet fs o)) [ none ↦ ok (unknown []) | some xs ↦ in_turn m body xs ]
+  over_of fs m body (present o) = elim (collected (shape sheet fs o)) [ None ↦ ok (unknown []) | Some xs ↦ in_turn m body xs ]
 
   unfoldable mutual
     unfolding operand compared_of over_of

@@ -12,8 +12,8 @@ use Rattle.members.specs.Sheet.{Sheet}
 use Rattle.sheet.specs.declared.shape.Members.{Members}
 use Rattle.decision.specs.Calls.{call_of, verdict_of}
 use Rattle.answers.specs.Entry.{admit, call, check_invariants, check_preconditions, decide, evaluate, select}
-use Rattle.decision.specs.declared.call.Call.{Call}
-use Rattle.decision.specs.declared.call.Call.TheVariants as calls
+use Rattle.calling.specs.declared.Call.{Call}
+use Rattle.calling.specs.declared.Call.TheVariants as calls
 
 pub of_verdict : (x : Call) (s : Bytes) (words size : ℕ) → call_of x s words size ≡ call (verdict_of x) s words size
 unfolding evaluate check_preconditions check_invariants select admit decide

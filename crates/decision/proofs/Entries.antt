@@ -1,7 +1,7 @@
 -- The calls on a sheet's bytes, from what opening it says: refused with its number alone, or answered by the call on the sheet.
 -- Assumes nothing.
 use mathlib.Core.List.{List}
-use mathlib.Core.Option.{none}
+use Rattle.std.specs.Prelude.{None, Result as Fallible, Ok, Err}
 use mathlib.Core.Path.{ap, refl, subst, sym, ◌∙◌, ◌≡◌}
 use Prim.Native.Nat.{ℕ, ◌≤◌}
 use native.Mathlib.Omega.{arith}
@@ -22,11 +22,10 @@ use Rattle.decision.specs.Called.{Called}
 use Rattle.decision.specs.Calls.{call_of, verdict_of}
 use Rattle.answers.specs.Entry.{Reply, call, enough, fitted, output_after, reply, work_after}
 use Rattle.sheet.specs.Accepted.{Known}
-use Rattle.opening.specs.Opening.{Bounded, OpenedAs, Opening, Ready, Stopped, opening}
+use Rattle.opening.specs.Opening.{Bounded, OpenedAs, Opening, Ready, Stopped, opening, why_not}
 use Rattle.rules.specs.Told.{Answered}
-use Rattle.decision.specs.declared.call.Call.{Call}
-use Rattle.opening.specs.declared.open.Opened.{Opened}
-use Rattle.opening.specs.declared.open.Opened.TheVariants as opened
+use Rattle.calling.specs.declared.Call.{Call}
+use Rattle.opening.specs.declared.open.NotOpened.{NotOpened}
 use Rattle.decision.proofs.Calls.{Answers, of_verdict}
 use Rattle.opening.proofs.Clearing.{same_left}
 use Rattle.opening.proofs.Opening.{sheet_opened}
@@ -45,7 +44,7 @@ call_opened f s words size = ap (reply size) (go (enough words))
     go (ok a) = refl
     go (refused r) = refl
 
-unlined : (size : ℕ) (why : Refusal) → refusal_line why ≡ none → reply size (refused why) ≡ record { number = refusal_number why; line = none }
+unlined : (size : ℕ) (why : Refusal) → refusal_line why ≡ None → reply size (refused why) ≡ record { number = refusal_number why; line = None }
 unfolding reply
 unlined size why e = ap (fitted size (refusal_number why)) e
 
@@ -61,32 +60,33 @@ read_short s sheet e = go (json s) refl
 pub call_small : (f : Sheet Condition → Result Verdict) (s : Bytes) (words size : ℕ) → (call f s words size).number ≤ 23
 call_small f s words size = rw call_opened (number_small size (opening words s >>= f))
 
-pub call_no_line : (f : Sheet Condition → Result Verdict) (s : Bytes) (words size : ℕ) → line_size (call f s words size) ≡ 0 → (call f s words size).line ≡ none
+pub call_no_line : (f : Sheet Condition → Result Verdict) (s : Bytes) (words size : ℕ) → line_size (call f s words size) ≡ 0 → (call f s words size).line ≡ None
 call_no_line f s words size = rw call_opened (no_line_lem size (opening words s >>= f))
 
 -- the same, of each call
 call_of_opened : (x : Call) (s : Bytes) (words size : ℕ) → call_of x s words size ≡ reply size (opening words s >>= verdict_of x)
 call_of_opened x s words size = of_verdict x s words size ∙ call_opened (verdict_of x) s words size
 
-module _ {s : Bytes} {w w₁ : List ℕ} {r : Opened} (t : Opening s w w₁ r) (size : length w₁ ≡ length w) where
-  pub called_refused : (x : Call) {w' : List ℕ} → w' ≡ work_after w₁ → (n : ℕ) → r ≡ opened.Refused n → (o : Bytes) →
+module _ {s : Bytes} {w w₁ : List ℕ} {r : Fallible Members NotOpened} (t : Opening s w w₁ r) (size : length w₁ ≡ length w) where
+  pub called_refused :
+      (x : Call) {w' : List ℕ} → w' ≡ work_after w₁ → (why : NotOpened) → r ≡ Err why → {n : ℕ} → n ≡ refusal_number (why_not why) → (o : Bytes) →
       Called (call_of x s (length w) (length o)) w w' o o (record { number = n; size = 0 })
   unfolding OpenedAs
-  called_refused x z n q o =
-      let h : Stopped (opening (length w) s) n = subst (OpenedAs (length w) s w₁) q t.is in
+  called_refused x z why q is_number o =
+      let h : Stopped (opening (length w) s) why = subst (OpenedAs (length w) s w₁) q t.is in
       let e : call_of x s (length w) (length o) ≡
-      record { number = refusal_number h.why; line = none } = call_of_opened x s (length w) (length o) ∙
+      record { number = refusal_number (why_not why); line = None } = call_of_opened x s (length w) (length o) ∙
       ap {B = Reply} (λ (y : Result (Sheet Condition)). reply (length o) (y >>= verdict_of x)) h.is ∙
-      unlined (length o) h.why h.no_line in
+      unlined (length o) (why_not why) h.no_line in
       record {
-        is_number = h.is_number ∙ ap (λ (y : Reply). y.number) (sym e);
+        is_number = is_number ∙ ap (λ (y : Reply). y.number) (sym e);
         is_size = ap line_size (sym e);
         short = omega arith;
         output = ap (λ (y : Reply). output_after y o) (sym e);
         work = z ∙ same_left w w₁ size t.small t.past;
       }
 
-  module _ (m : Members) (q : r ≡ opened.Sheet m) where
+  module _ (m : Members) (q : r ≡ Ok m) where
     ready : Ready (length w) s w₁ m
     unfolding OpenedAs
     ready = subst (OpenedAs (length w) s w₁) q t.is

@@ -1,7 +1,7 @@
 -- Every reply ends as the table has it; so its number has a line's length where the table has a line.
 -- Assumes nothing.
 use mathlib.Core.Bool.{Bool, false, true}
-use mathlib.Core.Option.{Option, none, some}
+use Rattle.std.specs.Prelude.{Option, None, Some}
 use mathlib.Core.Logic.{◌⊎◌, inl, inr}
 use mathlib.Core.List.{List}
 use mathlib.Core.Path.{refl, subst, sym, ◌≡◌}
@@ -51,22 +51,22 @@ use Rattle.decision.specs.Calls.{call_of, verdict_of}
 use Rattle.answers.specs.Entry.{call, enough}
 use Rattle.answers.specs.Ended.{Ended, answered, line_too_long, with_line, without_line}
 use Rattle.decision.specs.Replies.{Told}
-use Rattle.decision.specs.declared.call.Call.{Call}
+use Rattle.calling.specs.declared.Call.{Call}
 use Rattle.decision.proofs.Calls.{of_verdict}
 
 -- a line that fits, or 23
 abbrev kept : ℕ → Bytes → Bool → Reply
-kept n l b = elim b [ true ↦ record { number = n; line = some l } | false ↦ record { number = refusal_number refusals.line_too_long; line = none } ]
+kept n l b = elim b [ true ↦ record { number = n; line = Some l } | false ↦ record { number = refusal_number refusals.line_too_long; line = None } ]
 
-kept_ended : (n : ℕ) (l : Bytes) → Ended (record { number = n; line = some l }) → (b : Bool) → Ended (kept n l b)
+kept_ended : (n : ℕ) (l : Bytes) → Ended (record { number = n; line = Some l }) → (b : Bool) → Ended (kept n l b)
 unfolding refusal_number
 kept_ended n l h true = h
 kept_ended n l h false = line_too_long
 
 -- what the table says of a number with a line, and of one without
 abbrev Lined : ℕ → Option Bytes → Type 0
-Lined n none = ((1 ≤ n) × (n ≤ 12)) ⊎ (n ≡ 23)
-Lined n (some l) = (13 ≤ n) × (n ≤ 22)
+Lined n None = ((1 ≤ n) × (n ≤ 12)) ⊎ (n ≡ 23)
+Lined n (Some l) = (13 ≤ n) × (n ≤ 22)
 
 lined : (r : Refusal) → Lined (refusal_number r) (refusal_line r)
 unfolding refusal_number refusal_line
@@ -95,9 +95,9 @@ lined (not_a_source i n s from) = (omega arith, omega arith)
 lined refusals.line_too_long = inr refl
 
 fitted_ended : (output n : ℕ) (l : Option Bytes) → Lined n l → Ended (fitted output n l)
-fitted_ended output n none (inl h) = without_line n h.0 h.1
-fitted_ended output n none (inr e) = subst (λ (m : ℕ). Ended (record { number = m; line = none })) (sym e) line_too_long
-fitted_ended output n (some l) h = kept_ended n l (with_line n l h.0 h.1) (leb (length l) output)
+fitted_ended output n None (inl h) = without_line n h.0 h.1
+fitted_ended output n None (inr e) = subst (λ (m : ℕ). Ended (record { number = m; line = None })) (sym e) line_too_long
+fitted_ended output n (Some l) h = kept_ended n l (with_line n l h.0 h.1) (leb (length l) output)
 
 pub ended : (output : ℕ) (x : Result Verdict) → Ended (reply output x)
 unfolding reply

@@ -2,7 +2,7 @@
 -- Assumes nothing.
 use mathlib.Core.Bool.{Bool, false, true}
 use mathlib.Core.List.{List, [], ◌++◌, ◌∷◌}
-use mathlib.Core.Option.{Option, none, some}
+use Rattle.std.specs.Prelude.{Option, None, Some}
 use mathlib.Core.Path.{ap, refl, ◌∙◌, ◌≡◌}
 use Prim.Native.Nat.{ℕ}
 use lib.Dec.{leb}
@@ -26,23 +26,23 @@ use Rattle.answers.proofs.Repeat.{demand_seen}
 
 -- ---- a line ends
 data Ended : Option Bytes → Type 0 where
-  silent : Ended none
-  spoken : (f : Bytes) → Ended (some (end_line f))
+  silent : Ended None
+  spoken : (f : Bytes) → Ended (Some (end_line f))
 
 abbrev fit : ℕ → Bytes → Bool → Reply
-fit n f b = elim b [ true ↦ record { number = n; line = some (end_line f) } | false ↦ record { number = refusal_number line_too_long; line = none } ]
+fit n f b = elim b [ true ↦ record { number = n; line = Some (end_line f) } | false ↦ record { number = refusal_number line_too_long; line = None } ]
 
 fit_ended : (n : ℕ) (f : Bytes) (b : Bool) → Ended (fit n f b).line
 fit_ended n f true = spoken f
 fit_ended n f false = silent
 
 fitted_ended : (size n : ℕ) (x : Option Bytes) → Ended (fitted size n (each_line x)).line
-fitted_ended size n none = silent
-fitted_ended size n (some f) = fit_ended n f (leb (length (end_line f)) size)
+fitted_ended size n None = silent
+fitted_ended size n (Some f) = fit_ended n f (leb (length (end_line f)) size)
 
 reply_ended : (size : ℕ) (x : Result Verdict) → Ended (reply size x).line
 unfolding reply verdict_line refusal_line
-reply_ended size (ok v) = fitted_ended size 0 (some (verdict_form v))
+reply_ended size (ok v) = fitted_ended size 0 (Some (verdict_form v))
 reply_ended size (refused r) = fitted_ended size (refusal_number r) (refusal_form r)
 
 decide_ended : (s : Bytes) (work size : ℕ) → Ended (decide s work size).line
@@ -50,17 +50,17 @@ unfolding decide call
 decide_ended s work size = reply_ended size (enough work >>= (λ _. read_sheet s >>= (λ sheet. decide_call sheet)))
 
 -- ---- what is seen
-line_shown : (f out : Bytes) → line_in (length (end_line f)) (end_line f ++ drop (length (end_line f)) out) ≡ some (end_line f)
+line_shown : (f out : Bytes) → line_in (length (end_line f)) (end_line f ++ drop (length (end_line f)) out) ≡ Some (end_line f)
 unfolding line_in
 line_shown [] out = refl
-line_shown (c ∷ f) out = ap some (take_at (c ∷ end_line f) (drop (length (c ∷ end_line f)) out) (length (c ∷ end_line f)) refl)
+line_shown (c ∷ f) out = ap Some (take_at (c ∷ end_line f) (drop (length (c ∷ end_line f)) out) (length (c ∷ end_line f)) refl)
 
 line_seen :
     (n size : ℕ) (x : Option Bytes) (o o' : Bytes) → Ended x → size ≡ line_size (record { number = n; line = x }) →
     o' ≡ output_after (record { number = n; line = x }) o → line_in size o' ≡ x
 unfolding line_in
-line_seen n size none o o' silent p q = ap (λ (i : ℕ). line_in i o') p
-line_seen n size (some l) o o' (spoken f) p q = ap (λ (i : ℕ). line_in i o') p ∙ ap (line_in (length (end_line f))) q ∙ line_shown f o
+line_seen n size None o o' silent p q = ap (λ (i : ℕ). line_in i o') p
+line_seen n size (Some l) o o' (spoken f) p q = ap (λ (i : ℕ). line_in i o') p ∙ ap (line_in (length (end_line f))) q ∙ line_shown f o
 
 pub decide_seen :
     (s : Bytes) (work : ℕ) (o : Bytes) {n size : ℕ} {o' : Bytes} →

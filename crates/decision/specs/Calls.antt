@@ -8,8 +8,8 @@ use Rattle.answers.specs.Decide.{admit_call, decide_call, evaluate_call, invaria
 use Rattle.members.specs.Condition.{Condition}
 use Rattle.members.specs.Sheet.{Sheet}
 use Rattle.answers.specs.Entry.{Reply, admit, check_invariants, check_preconditions, decide, evaluate, select}
-use Rattle.decision.specs.declared.call.Call.{Call}
-use Rattle.decision.specs.declared.call.Call.TheVariants as calls
+use Rattle.calling.specs.declared.Call.{Call}
+use Rattle.calling.specs.declared.Call.TheVariants as calls
 
 -- on an accepted sheet
 abbrev pub verdict_of : Call → Sheet Condition → Result Verdict

@@ -1,10 +1,11 @@
-// What an entry answers: a case for each number, with the length of the line where there is one.
+// What a call answers, a case for each number, with the length of the line where there is one.
 ghost use Rattle.std.specs.Prelude.{◌≡◌};
 ghost use Rattle.decision.specs.Replies.{Told, number_of, size_of};
 
 use writer::answer::Sent;
 
-#[derive(Clone, Copy)]
+// No Result: refusals have a line too, 13 to 22, and 1 to 12 and 23 have none.
+#[derive(Clone, Copy, PartialEq, Eq)]
 pub enum Reply {
     Line(usize),
     WorkTooSmall,
@@ -37,9 +38,8 @@ pub fn case_of(sent: Sent) -> Reply
     requires { Told sent.number sent.size }
     ensures { (number_of result ≡ sent.number) × (size_of result ≡ sent.size) }
 {
-    let n = sent.number;
     let size = sent.size;
-    match n {
+    match sent.number {
         0 => Reply::Line(size),
         1 => Reply::WorkTooSmall,
         2 => Reply::TooLong,

@@ -4,7 +4,7 @@ use mathlib.Core.Bool.{Bool, false, true}
 use mathlib.Core.List.Memᴰ
 use mathlib.Core.List.{List, ◌∷◌}
 use mathlib.Core.Logic.{⊎_elim}
-use mathlib.Core.Option.{Option}
+use Rattle.std.specs.Prelude.{Option, None, Some}
 use mathlib.Core.Path.{ap, refl, sym, ◌∙◌, ◌≡◌}
 use Prim.Native.Nat.{suc, zero, ℕ, ◌%◌, ◌*◌, ◌+◌, ◌-◌, ◌/◌, ◌<◌, ◌≤◌}
 use native.Mathlib.Omega.{arith}
@@ -25,8 +25,6 @@ use Rattle.json_text.specs.Refusal.{Result, ok}
 use Rattle.json_text.specs.Sorted.{sorted, sorted_in}
 use Rattle.json_text.specs.Spans.{text_at}
 use Rattle.json_text.specs.Table.{after_at, kind_at, rows, rows_in, start_at, value_at, values_at}
-use Rattle.strings.specs.declared.rows.Found.{Found}
-use Rattle.strings.specs.declared.rows.Found.TheVariants as founds
 use Rattle.sheet.specs.Accepted.{Accepted, EachGives, Gives, MayGive, Stored}
 use Rattle.members.specs.Condition.{Condition, condition}
 use Rattle.members.specs.Kinds.{a_text, each_of}
@@ -129,11 +127,11 @@ gives_rows {kind = kind} e g =
     let x = node_rows e g.node in
     record { node = x.0; is_tidy = ap (tidy max_number) x.1 ∙ g.is_tidy; is = ap (λ (v : Value). kind (sorted v)) x.1 ∙ g.is }
 
-pub may_give_rows : {A : Type 0} (kind : Value → Result A) (s : Bytes) (w w' : List ℕ) (f : Found) (o : Option A) → table w' ≡ table w →
+pub may_give_rows : {A : Type 0} (kind : Value → Result A) (s : Bytes) (w w' : List ℕ) (f : Option ℕ) (o : Option A) → table w' ≡ table w →
     MayGive kind s w f o → MayGive kind s w' f o
 unfolding MayGive
-may_give_rows kind s w w' founds.Nothing o e g = g
-may_give_rows kind s w w' (founds.At n) o e (a, i, g) = (a, i, gives_rows e g)
+may_give_rows kind s w w' None o e g = g
+may_give_rows kind s w w' (Some n) o e (a, i, g) = (a, i, gives_rows e g)
 
 pub each_gives_rows : {A : Type 0} {kind : Value → Result A} {s : Bytes} {w w' : List ℕ} {k e : ℕ} {xs : List A} → table w' ≡ table w →
     EachGives kind s w k e xs → EachGives kind s w' k e xs
@@ -217,10 +215,10 @@ pub names_marked : {s : Bytes} {w w' : List ℕ} {ns : Names} → ((i : ℕ) →
 unfolding marked
 names_marked {s} {w} {w'} {ns} z l =
     ascending_set (marked s w') ns λ x. (
-      λ n. ⊎_elim (λ m. none x m) (λ m. m) (l.only x (from_marked s w' x 4096 0 (omega arith) n)),
+      λ n. ⊎_elim (λ m. None x m) (λ m. m) (l.only x (from_marked s w' x 4096 0 (omega arith) n)),
       λ n. let y = l.added x n in to_marked
           s w' x 4096 0 y (omega arith) (omega (arith, y.small)),
     )
   where
-    none : (x : Bytes) → Marked s w x → Named x ns
-    none x y = absurd (omega (arith, z (12288 + y.node) (omega arith) (omega (arith, y.small)), y.mark))
+    None : (x : Bytes) → Marked s w x → Named x ns
+    None x y = absurd (omega (arith, z (12288 + y.node) (omega arith) (omega (arith, y.small)), y.mark))

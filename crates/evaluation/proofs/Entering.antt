@@ -1,9 +1,9 @@
 -- An accepted sheet is ready for evaluation, and its conditions are judged there as they are defined.
 -- Assumes nothing.
 use mathlib.Core.List.{List, []}
-use mathlib.Core.Option.{Option}
+use Rattle.std.specs.Prelude.{Option, Some, None, Result as Fallible}
 use mathlib.Core.Path.{ap, subst, sym, ◌∙◌, ◌≡◌}
-use Prim.Native.Nat.{suc, zero, ℕ, ◌≤◌}
+use Prim.Native.Nat.{ℕ, ◌≤◌}
 use native.Mathlib.Omega.{arith}
 use lib.ListN.{length}
 use Rattle.json_text.proofs.Complete.{read_exactly}
@@ -12,8 +12,7 @@ use Rattle.json_text.specs.Bytes.{Bytes}
 use Rattle.json_text.specs.Held.{IsNode}
 use Rattle.json_text.specs.Json.{Members, Value}
 use Rattle.json_text.specs.Limits.{depth, depth_in, depth_of}
-use Rattle.json_text.specs.Reader.{json}
-use Rattle.json_text.specs.Refusal.{Result, ok, wrong_sheet, ◌>>=◌}
+use Rattle.json_text.specs.Refusal.{Result}
 use Rattle.json_text.specs.Sorted.{sorted}
 use Rattle.json_text.specs.Spans.{
   Fields,
@@ -40,15 +39,11 @@ use Rattle.json_text.specs.Spans.{
   obj,
 }
 use Rattle.json_text.specs.Table.{value_at}
-use Rattle.strings.specs.declared.rows.Found.{Found}
-use Rattle.strings.specs.declared.rows.Found.TheVariants as founds
 use Rattle.sheet.proofs.Given.{object_given, text_given, version_given}
-use Rattle.members.proofs.Shapes.{text_at_lem}
-use Rattle.members.proofs.Verdicts.{never}
-use Rattle.sheet.specs.Accepted.{Accepted, Gives, Known, MayGive, node_of}
+use Rattle.sheet.specs.Accepted.{Accepted, Gives, Known, MayGive}
 use Rattle.members.specs.Condition.{Condition, condition}
 use Rattle.members.specs.Kinds.{a_text, a_version, an_object}
-use Rattle.members.specs.Sheet.{Sheet, a_sheet, checked, or_no_sheet, read_sheet, sheet_in}
+use Rattle.members.specs.Sheet.{Sheet, or_no_sheet, sheet_in}
 use Rattle.sheet.specs.declared.shape.Members.{Members as Places}
 use Rattle.semantics.specs.Evaluate.{evaluate}
 use Rattle.semantics.specs.Semantics.{kernel}
@@ -61,7 +56,8 @@ use Rattle.paths.specs.declared.roots.Roots.{Roots}
 use Rattle.comparison.specs.Answers.{EvaluatedAs}
 use Rattle.comparison.specs.Entry.{roots_of}
 use Rattle.comparison.specs.Judge.{judge}
-use Rattle.comparison.specs.declared.comparison.Outcome.{Outcome}
+use Rattle.paths.specs.declared.operand.EvalError.{EvalError}
+use Rattle.semantics.specs.declared.truth.Truth.{Truth}
 use Rattle.evaluation.proofs.After.{gives_table, linked_table}
 use Rattle.evaluation.proofs.Limits.{condition_low, judge_read, sorted_depth}
 
@@ -109,18 +105,10 @@ module _ {s : Bytes} {t : List ℕ} {n : ℕ} where
   object_row g = let x = object_given g in record { row = record { node = record { left = 64; is_node = g.node }; kind = x.0.is_kind }; is = sym x.1 }
 
 module _ {s : Bytes} {w : List ℕ} {m : Places} {sheet : Sheet Condition} (a : Accepted s w m sheet) where
-  -- node 0 is the sheet, which is no text
-  no_text : (b : Bytes) → Gives a_text s w 0 b → ⊥
-  unfolding read_sheet checked a_sheet
-  no_text b g =
-      let v : json s ≡ ok _ = a.stored.reads ∙ ap {B = Result Value} (λ x. ok x) (text_at_lem g.node (text_given g).is_kind).0 in
-      never wrong_sheet sheet (sym (ap {B = Result (Sheet Condition)} (λ x. x >>= checked) v) ∙ a.reads)
-
-  may_be_text : (f : Found) (o : Option Bytes) → MayGive a_text s w f o → MayBeText s (table w) (node_of f) o
-  unfolding MayGive MayBeText node_of
-  may_be_text founds.Nothing o h = h
-  may_be_text (founds.At zero) o (b, e, g) = absurd (no_text b g)
-  may_be_text (founds.At (suc n)) o (b, e, g) = (b, e, text_row (gives_table g))
+  may_be_text : (f : Option ℕ) (o : Option Bytes) → MayGive a_text s w f o → MayBeText s (table w) f o
+  unfolding MayGive MayBeText
+  may_be_text None o h = h
+  may_be_text (Some n) o (b, e, g) = (b, e, text_row (gives_table g))
 
   sheet_is : sheet_in s ≡ sheet
   unfolding sheet_in
@@ -159,7 +147,7 @@ module _ {s : Bytes} {w : List ℕ} {m : Places} {sheet : Sheet Condition} (a : 
       }
 
   -- judged is what is defined
-  pub judged_as : {w' : List ℕ} (f : Frames) {n : ℕ} {c : Condition} {r : Outcome} → f.depth ≡ 0 → Gives condition s w n c →
+  pub judged_as : {w' : List ℕ} (f : Frames) {n : ℕ} {c : Condition} {r : Fallible Truth EvalError} → f.depth ≡ 0 → Gives condition s w n c →
       EvaluatedAs s w w' r (judge (sheet_in s) (frames_of s (table w) f) c) → EvaluatedAs s w w' r (evaluate kernel sheet [] c)
   unfolding top framed tree
   judged_as {w'} f {n} {c} {r} z g h =
@@ -171,19 +159,3 @@ module _ {s : Bytes} {w : List ℕ} {m : Places} {sheet : Sheet Condition} (a : 
 
 pub given_here : {s : Bytes} {w : List ℕ} {n : ℕ} → (k : Known (Gives condition s w n)) → Known (Gives condition s (table w) n) × (depth (tree s (table w) n) ≤ 64)
 given_here k = let g = gives_table k.known in (record { given = k.given; known = g }, tree_depth g.node)
-
--- ---- the roots, as code puts them together
-pub same_roots : (m : Places) (x y : ℕ) → x ≡ node_of m.id → y ≡
-    node_of m.from_state →
-    record {
-      id = x;
-      entity = m.entity;
-      version = m.version;
-      from = y;
-      to = m.to_state;
-      args = m.args;
-      fields = m.fields;
-      old = m.old_fields;
-    } ≡ roots_of m
-unfolding roots_of
-same_roots m x y e f = rw (e, f)

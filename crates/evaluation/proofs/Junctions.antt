@@ -1,5 +1,6 @@
 -- A condition by its operator, and the children of a junction, evaluated one after the other.
 -- Assumes nothing.
+use Rattle.std.specs.Prelude.{Result as Fallible, Ok, Err}
 use mathlib.Core.Bool.{Bool, false, true}
 use mathlib.Core.List.{List, [], ◌++◌}
 use mathlib.Core.Path.{ap, refl, subst, sym, ◌∙◌, ◌≡◌}
@@ -21,7 +22,7 @@ use Rattle.json_text.specs.Table.{after_at, kind_at, start_at, value_at, values_
 use Rattle.semantics.specs.Evaluate.{Answer}
 use Rattle.semantics.specs.Names.{Names}
 use Rattle.semantics.specs.Told.{truth_of}
-use Rattle.semantics.specs.Truth.{Truth, join, start}
+use Rattle.semantics.specs.Truth.{Truth, join, negate, start}
 use Rattle.semantics.specs.declared.truth.Truth as code
 use Rattle.semantics.specs.declared.truth.Truth.TheVariants as truths
 use Rattle.sheet.proofs.Given.{ObjectHere, object_here}
@@ -54,28 +55,53 @@ use Rattle.paths.specs.Lazy as lazy
 use Rattle.paths.specs.Marks.{Left}
 use Rattle.paths.specs.Stored.{HasKind, table, tree}
 use Rattle.comparison.specs.Answers.{EvaluatedAs, Marks, outcome_of}
-use Rattle.evaluation.specs.Conditions.{Negated, QuantifierAt}
+use Rattle.evaluation.specs.Conditions.{QuantifierAt}
 use Rattle.comparison.specs.Judge.{judge, judge_all}
-use Rattle.comparison.specs.declared.comparison.Outcome.{Outcome}
-use Rattle.comparison.specs.declared.comparison.Outcome.TheVariants as outcomes
+use Rattle.paths.specs.declared.operand.EvalError.{EvalError}
+use Rattle.paths.specs.declared.operand.EvalError.TheVariants as errors
+use Rattle.strings.specs.Answers.{code_of}
+use Rattle.strings.specs.declared.rows.Kind.{Kind}
+use Rattle.strings.specs.declared.rows.Kind.TheVariants as kinds
 use Rattle.comparison.proofs.Joined.{Joining, joining_last, joining_none, joining_twice}
 use Rattle.evaluation.proofs.Shallow.{array_depth, member_shallow, pair_shallow}
 
 -- ---- a condition by its kind
 module _ (sheet : Sheet Condition) (fs : lazy.Frames) {s : Bytes} {w : List ℕ} {n : ℕ} {c : Condition}
-    (g : Gives condition s (table w) n c) {k : ℕ} (q : k ≡ kind_at (table w) n) where
-  pub judged_true : k ≡ 1 → EvaluatedAs s w w (outcomes.Judged truths.True) (judge sheet fs c)
+    (g : Gives condition s (table w) n c) {k : Kind} (q : code_of k ≡ kind_at (table w) n) where
+  pub judged_true : k ≡ kinds.True → EvaluatedAs s w w (Ok truths.True) (judge sheet fs c)
   unfolding judge
-  judged_true e = rw (literal_true g (sym q ∙ e)) record { names = []; met = []; means = refl; left = left_none s w; marks = refl }
+  judged_true e = rw (literal_true g (sym q ∙ ap code_of e)) record { names = []; met = []; means = refl; left = left_none s w; marks = refl }
 
-  pub judged_false : k ≡ 2 → EvaluatedAs s w w (outcomes.Judged truths.False) (judge sheet fs c)
+  pub judged_false : k ≡ kinds.False → EvaluatedAs s w w (Ok truths.False) (judge sheet fs c)
   unfolding judge
-  judged_false e = rw (literal_false g (sym q ∙ e)) record { names = []; met = []; means = refl; left = left_none s w; marks = refl }
+  judged_false e = rw (literal_false g (sym q ∙ ap code_of e)) record { names = []; met = []; means = refl; left = left_none s w; marks = refl }
+
+-- the kinds of the codes 1 and 2
+code_true : (k : Kind) → code_of k ≡ 1 → k ≡ kinds.True
+code_true kinds.True e = refl
+code_true kinds.Null e = absurd (omega arith)
+code_true kinds.False e = absurd (omega arith)
+code_true kinds.Number e = absurd (omega arith)
+code_true kinds.Text e = absurd (omega arith)
+code_true kinds.Array e = absurd (omega arith)
+code_true kinds.Object e = absurd (omega arith)
+code_true kinds.Free e = absurd (omega arith)
+
+code_false : (k : Kind) → code_of k ≡ 2 → k ≡ kinds.False
+code_false kinds.False e = refl
+code_false kinds.Null e = absurd (omega arith)
+code_false kinds.True e = absurd (omega arith)
+code_false kinds.Number e = absurd (omega arith)
+code_false kinds.Text e = absurd (omega arith)
+code_false kinds.Array e = absurd (omega arith)
+code_false kinds.Object e = absurd (omega arith)
+code_false kinds.Free e = absurd (omega arith)
 
 -- its one member, whose value stands two nodes on
-module _ {s : Bytes} {t : List ℕ} {n : ℕ} {c : Condition} (g : Gives condition s t n c) {k : ℕ} (q : k ≡ kind_at t n) (not_true : k ≡ 1 → ⊥) (not_false : k ≡ 2 → ⊥) where
+module _ {s : Bytes} {t : List ℕ} {n : ℕ} {c : Condition} (g : Gives condition s t n c) {k : Kind} (q : code_of k ≡ kind_at t n)
+    (not_true : k ≡ kinds.True → ⊥) (not_false : k ≡ kinds.False → ⊥) where
   pub the_member : OneMember s t n c
-  the_member = one_member_lem g (λ e. not_true (q ∙ e)) (λ e. not_false (q ∙ e))
+  the_member = one_member_lem g (λ e. not_true (code_true k (q ∙ e))) (λ e. not_false (code_false k (q ∙ e)))
 
   -- it nests less deep
   less_deep : depth (tree s t (n + 1 + 1)) < depth (tree s t n)
@@ -145,34 +171,42 @@ module _ {s : Bytes} {t : List ℕ} {n : ℕ} {c : Condition} (g : Gives conditi
     pub known_quantifier : (m : CodeMode) → r ≡ ops.Quantified m → Known (QuantifierAt s t (mode_of m) (n + 2))
     known_quantifier m e = record { given = c; known = a_quantifier m e }
 
-    module _ (sheet : Sheet Condition) (fs : lazy.Frames) {w w' : List ℕ} {x : Outcome} where
+    module _ (sheet : Sheet Condition) (fs : lazy.Frames) {w w' : List ℕ} {x : Fallible code.Truth EvalError} where
       pub judged_junction : (m : CodeMode) → r ≡ ops.Junction m →
           ((cs : Conditions) → ConditionsGive s t (n + 2 + 1) (after_at t (n + 2)) cs → EvaluatedAs s w w' x
           (judge_all sheet fs (mode_of m) cs)) → EvaluatedAs s w w' x (judge sheet fs c)
       unfolding judge
       judged_junction m e h = let y = given_junction the_member a p r f m e in rw y.1 (h y.0 (subst (λ (i : ℕ). ConditionsGive s t (i + 1) (after_at t i) y.0) two_on y.3))
 
-      pub judged_negation :
-          r ≡ ops.Negation → ((d : Condition) → Gives condition s t (n + 2) d → EvaluatedAs s w w' x (judge sheet fs d)) → {y : Outcome} →
-          Negated x y → EvaluatedAs s w w' y (judge sheet fs c)
+      negated : r ≡ ops.Negation → ((d : Condition) → Gives condition s t (n + 2) d → EvaluatedAs s w w' x (judge sheet fs d)) →
+          (d : Condition) × (c ≡ negation d) × EvaluatedAs s w w' x (judge sheet fs d)
+      negated e h = let z = given_negation the_member a p r f e in (z.0, z.1, h z.0 (subst (λ (i : ℕ). Gives condition s t i z.0) two_on z.2))
+
+      pub judged_negation : r ≡ ops.Negation → ((d : Condition) → Gives condition s t (n + 2) d → EvaluatedAs s w w' x (judge sheet fs d)) →
+          (u : code.Truth) → x ≡ Ok u → {v : code.Truth} → truth_of v ≡ negate (truth_of u) → EvaluatedAs s w w' (Ok v) (judge sheet fs c)
       unfolding judge
-      judged_negation e h {y} o =
-          let z = given_negation the_member a p r f e in
-          rw z.1 (go z.0 x (h z.0 (subst (λ (i : ℕ). Gives condition s t i z.0) two_on z.2)) o)
+      judged_negation e h u i {v} j =
+          let z = negated e h in
+          let b : EvaluatedAs s w w' (Ok u) (judge sheet fs z.0) = subst (λ (y : Fallible code.Truth EvalError). EvaluatedAs s w w' y (judge sheet fs z.0)) i z.2 in
+          rw z.1
+          record {
+            names = b.names;
+            met = b.met;
+            means = ap {B = Result Answer} (λ (y : Truth). ok (record { truth = y; names = b.names })) j ∙ sym (bind_ok _ (sym b.means));
+            left = b.left;
+            marks = b.marks;
+          }
+
+      pub refused_negation : r ≡ ops.Negation → ((d : Condition) → Gives condition s t (n + 2) d → EvaluatedAs s w w' x (judge sheet fs d)) →
+          (y : EvalError) → x ≡ Err y → EvaluatedAs s w w' (Err y) (judge sheet fs c)
+      unfolding judge
+      refused_negation e h y i =
+          let z = negated e h in
+          rw z.1 (go z.0 y (subst (λ (v : Fallible code.Truth EvalError). EvaluatedAs s w w' v (judge sheet fs z.0)) i z.2))
         where
-          go : (d : Condition) (v : Outcome) → EvaluatedAs s w w' v (judge sheet fs d) → Negated v y → EvaluatedAs s w w' y (judge sheet fs (negation d))
-          go d (outcomes.Judged u) b (v, i, j) =
-              rw i
-              record {
-                names = b.names;
-                met = b.met;
-                means = ap {B = Result Answer} (λ (z : Truth). ok (record { truth = z; names = b.names })) j ∙
-                    sym (bind_ok _ (sym b.means));
-                left = b.left;
-                marks = b.marks;
-              }
-          go d (outcomes.Unknown u) b i = rw i record { names = b.names; met = b.met; means = sym (bind_refused _ (sym b.means)); left = b.left; marks = b.marks }
-          go d outcomes.NoId b i = rw i record { names = b.names; met = b.met; means = sym (bind_refused _ (sym b.means)); left = b.left; marks = tt }
+          go : (d : Condition) (v : EvalError) → EvaluatedAs s w w' (Err v) (judge sheet fs d) → EvaluatedAs s w w' (Err v) (judge sheet fs (negation d))
+          go d (errors.UnknownExpression u) b = record { names = b.names; met = b.met; means = sym (bind_refused _ (sym b.means)); left = b.left; marks = b.marks }
+          go d errors.NoId b = record { names = b.names; met = b.met; means = sym (bind_refused _ (sym b.means)); left = b.left; marks = tt }
 
       pub judged_exists : r ≡ ops.Exists → EvaluatedAs s w w' x (judge sheet fs (exists (tree s t (n + 2)))) → EvaluatedAs s w w' x (judge sheet fs c)
       unfolding tree
@@ -201,7 +235,7 @@ pub record Collecting (s : Bytes) (w₀ : List ℕ) (sheet : Sheet Condition) (f
       judge_all sheet fs m cs ≡ Joining m (record { truth = truth_of truth; names = names }) (judge_all sheet fs m others)
 
 -- whichever conditions the nodes give
-abbrev pub AllAs : Bytes → List ℕ → List ℕ → Sheet Condition → lazy.Frames → Mode → ℕ → Outcome → Type 0
+abbrev pub AllAs : Bytes → List ℕ → List ℕ → Sheet Condition → lazy.Frames → Mode → ℕ → Fallible code.Truth EvalError → Type 0
 AllAs s w w' sheet fs m n r = (cs : Conditions) → ConditionsGive s (table w) (n + 1) (after_at (table w) n) cs → EvaluatedAs s w w' r (judge_all sheet fs m cs)
 
 same_conditions : {s : Bytes} {t : List ℕ} {k e : ℕ} {cs ds : Conditions} → ConditionsGive s t k e cs → ConditionsGive s t k e ds → cs ≡ ds
@@ -229,7 +263,7 @@ module _ {s : Bytes} {w₀ : List ℕ} {sheet : Sheet Condition} {fs : lazy.Fram
   so_far = record { truth = truth_of truth; names = g.names }
 
   -- no child is left
-  pub collect_end : e ≤ k → AllAs s w₀ w sheet fs m n (outcomes.Judged truth)
+  pub collect_end : e ≤ k → AllAs s w₀ w sheet fs m n (Ok truth)
   unfolding judge
   collect_end h cs c = record { names = g.names; met = g.names; means = sym (g.whole cs c ∙ rw (conditions_done g.rest h) (joining_last m so_far)); left = g.left; marks = refl }
 
@@ -257,7 +291,7 @@ module _ {s : Bytes} {w₀ : List ℕ} {sheet : Sheet Condition} {fs : lazy.Fram
         ap (λ (ds : Conditions). Joining m so_far (judge_all sheet fs m ds)) child.is_also ∙
         ap (λ (y : Result Answer). Joining m so_far (y >>= λ a. Joining m a (judge_all sheet fs m child.others))) e
 
-    module _ {w' : List ℕ} {r : Outcome} (judged : (c : Condition) → Gives condition s (table w₀) k c → EvaluatedAs s w w' r (judge sheet fs c)) where
+    module _ {w' : List ℕ} {r : Fallible code.Truth EvalError} (judged : (c : Condition) → Gives condition s (table w₀) k c → EvaluatedAs s w w' r (judge sheet fs c)) where
       a : EvaluatedAs s w w' r (judge sheet fs child.first)
       a = judged child.first child.here
 
@@ -267,19 +301,18 @@ module _ {s : Bytes} {w₀ : List ℕ} {sheet : Sheet Condition} {fs : lazy.Fram
       pub collect_less : {k' : ℕ} → k' ≡ after_at (table w') k → e - k' < e - k
       collect_less q = let z = q ∙ ap (λ (t : List ℕ). after_at t k) (a.left.rows ∙ g.left.rows) in omega (arith, child.past, child.upto)
 
-      answered : {x : Outcome} → r ≡ x → judge sheet fs child.first ≡ outcome_of s (table w₀) a.names x
+      answered : {x : Fallible code.Truth EvalError} → r ≡ x → judge sheet fs child.first ≡ outcome_of s (table w₀) a.names x
       answered {x} e = sym a.means ∙ ap (outcome_of s (table w) a.names) e ∙ ap (λ (t : List ℕ). outcome_of s t a.names x) g.left.rows
 
-      marked : {x : Outcome} → r ≡ x → Marks s (table w₀) a.names a.met x
+      marked : {x : Fallible code.Truth EvalError} → r ≡ x → Marks s (table w₀) a.names a.met x
       marked {x} e = subst (λ (t : List ℕ). Marks s t a.names a.met x) g.left.rows (subst (Marks s (table w) a.names a.met) e a.marks)
 
-      pub collect_unknown : (u : ℕ) → r ≡ outcomes.Unknown u → AllAs s w₀ w' sheet fs m n (outcomes.Unknown u)
-      collect_unknown u e cs c = record { names = []; met = g.names ++ a.met; means = sym (turn (answered e) cs c); left = left_then g.left a.left; marks = marked e }
+      pub collect_refused : (y : EvalError) → r ≡ Err y → AllAs s w₀ w' sheet fs m n (Err y)
+      collect_refused (errors.UnknownExpression u) e cs c =
+          record { names = []; met = g.names ++ a.met; means = sym (turn (answered e) cs c); left = left_then g.left a.left; marks = marked e }
+      collect_refused errors.NoId e cs c = record { names = []; met = g.names ++ a.met; means = sym (turn (answered e) cs c); left = left_then g.left a.left; marks = tt }
 
-      pub collect_no_id : r ≡ outcomes.NoId → AllAs s w₀ w' sheet fs m n outcomes.NoId
-      collect_no_id e cs c = record { names = []; met = g.names ++ a.met; means = sym (turn (answered e) cs c); left = left_then g.left a.left; marks = tt }
-
-      pub collect_on : {t truth' : code.Truth} → r ≡ outcomes.Judged t → truth_of truth' ≡ join m (truth_of truth) (truth_of t) → {k' : ℕ} →
+      pub collect_on : {t truth' : code.Truth} → r ≡ Ok t → truth_of truth' ≡ join m (truth_of truth) (truth_of t) → {k' : ℕ} →
           k' ≡ after_at (table w') k → Collecting s w₀ sheet fs m n l e w' truth' k'
       collect_on {t} {truth'} i j q = rw (q, a.left.rows, g.left.rows) record {
         ends = g.ends;

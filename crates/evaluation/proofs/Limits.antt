@@ -2,7 +2,7 @@
 -- Assumes nothing.
 use mathlib.Core.Path.{◌≡◌, refl}
 use mathlib.Core.List.{[]}
-use mathlib.Core.Option.{some}
+use Rattle.std.specs.Prelude.{Some}
 use Prim.Native.Nat.{◌≤◌, max, Ordering}
 use native.Mathlib.Omega.{arith}
 use Rattle.paths.proofs.Nesting.{Low, LowSheet, Shallow, members_low}
@@ -59,7 +59,7 @@ mutual
       omega arith
 
 -- a part has no more brackets than the whole
-pub find_shallow : (k : Bytes) (ms : Members) (v : Value) → find k (entries ms) ≡ some v → depth v ≤ depth_of ms
+pub find_shallow : (k : Bytes) (ms : Members) (v : Value) → find k (entries ms) ≡ Some v → depth v ≤ depth_of ms
 find_shallow k ms v e = find_entry (λ x. depth x ≤ depth_of ms) k (entries ms) (members_low (depth_of ms) ms (omega arith)) e
 
 elements_low : (vs : Values) → depth_in vs ≤ 64 → All Shallow (elements vs)

@@ -2,13 +2,11 @@
 -- Assumes nothing.
 use mathlib.Core.Bool.{Bool, false, true}
 use mathlib.Core.List.{List, [], ◌++◌, ◌∷◌}
-use mathlib.Core.Option.{Option, none, some}
+use Rattle.std.specs.Prelude.{Option, None, Some, Result as Fallible, Ok, Err, unwrap_or}
 use mathlib.Core.Path.{ap, refl, subst, sym, ◌∙◌, ◌≡◌}
 use Prim.Native.Nat.{ℕ, ◌%◌, ◌*◌, ◌+◌, ◌-◌, ◌<◌, ◌≤◌}
 use native.Mathlib.Omega.{arith}
-use lib.Dec.{eqb}
 use lib.ListN.{length}
-use borrow.Author.Tests.{eqb-false, eqb-true}
 use Rattle.json_text.proofs.Laws.{bind_ok}
 use Rattle.strings.specs.Answers.{FoundIn, FoundTold, found_of}
 use Rattle.json_text.specs.Bytes.{Bytes, ascii, find}
@@ -20,8 +18,6 @@ use Rattle.json_text.specs.Links.{Linked}
 use Rattle.json_text.specs.Refusal.{Refusal, Result, ok, refused, ◌>>=◌}
 use Rattle.json_text.specs.Spans.{text_at}
 use Rattle.json_text.specs.Table.{after_at, kind_at, members_at, start_at, value_at}
-use Rattle.strings.specs.declared.rows.Found.{Found}
-use Rattle.strings.specs.declared.rows.Found.TheVariants as founds
 use Rattle.semantics.specs.Evaluate.{Answer, joined, unknown}
 use Rattle.semantics.specs.Names.{Names}
 use Rattle.semantics.specs.Operand.{Resolved}
@@ -33,18 +29,18 @@ use Rattle.sheet.proofs.Given.{ObjectHere, text_given}
 use Rattle.sheet.proofs.GivenConditions.{quantified_here}
 use Rattle.members.proofs.Shapes.{object_at}
 use Rattle.members.proofs.Walks.{full_members}
-use Rattle.sheet.specs.Accepted.{Gives, Known, node_of}
+use Rattle.sheet.specs.Accepted.{Gives, Known}
 use Rattle.members.specs.Answers.{Located}
 use Rattle.members.specs.Condition.{Condition, Mode, condition, quantified}
 use Rattle.members.specs.Sheet.{Sheet}
-use Rattle.resolving.proofs.Alike.{value_there, walk_begins, walk_kids, walk_named}
-use Rattle.resolving.proofs.Layered.{array_is, array_kind, class_is, class_small, object_is, object_kind, shape_kind, shape_class}
+use Rattle.resolving.proofs.Alike.{holder_class, value_there, walk_begins, walk_kids, walk_named}
+use Rattle.resolving.proofs.Layered.{array_is, array_kind, class_is, object_is, object_kind, shape_kind, shape_class}
 use Rattle.resolving.proofs.Marking.{left_none, left_then}
 use Rattle.paths.proofs.Ordered.{child_end, child_given, node_below}
 use Rattle.paths.proofs.Words.{row_word, table_twice}
 use Rattle.paths.specs.Children.{ChildAt, ChildrenAt, Given, begun, children_of, next_of}
 use Rattle.paths.specs.Comparing.{shape}
-use Rattle.paths.specs.Layered.{class_of, each_name, each_node, kids, part_at, shape_of, value_node}
+use Rattle.paths.specs.Layered.{Flat, class_of, each_name, each_node, kids, part_at, shape_of, value_node}
 use Rattle.paths.specs.Lazy as lazy
 use Rattle.paths.specs.Lazy.{operand}
 use Rattle.paths.specs.Marks.{Left, ResolvedAs}
@@ -53,24 +49,22 @@ use Rattle.paths.specs.Ready.{Ready}
 use Rattle.paths.specs.Shape.{Shape, collected, digits, fields, items, nothing, seconds, truth, words}
 use Rattle.paths.specs.Stack.{Named, Small, held}
 use Rattle.paths.specs.Stored.{Bound, HasKind, Means, OperandAt, framed, frames_of, operand_of, table, tree}
-use Rattle.paths.specs.declared.children.Child.{Child}
-use Rattle.paths.specs.declared.children.Child.TheVariants as child
 use Rattle.paths.specs.declared.children.Children.{Children}
 use Rattle.paths.specs.declared.children.Next.{Next}
 use Rattle.paths.specs.declared.frames.Frames.{Frames}
 use Rattle.paths.specs.declared.operand.Operand.{Operand}
-use Rattle.paths.specs.declared.operand.Resolved as code_resolved
-use Rattle.paths.specs.declared.operand.Resolved.TheVariants as answers
+use Rattle.paths.specs.declared.operand.EvalError.TheVariants as errors
 use Rattle.paths.specs.declared.roots.Roots.{Roots}
+use Rattle.strings.specs.declared.rows.Kind.{Kind as Class}
+use Rattle.strings.specs.declared.rows.Kind.TheVariants as classes
 use Rattle.comparison.specs.Answers.{EvaluatedAs, Marks, outcome_of}
 use Rattle.evaluation.specs.Conditions.{QuantifierAt, QuantifierParts, each_of}
 use Rattle.comparison.specs.Judge.{in_turn, judge, over_of}
-use Rattle.comparison.specs.declared.comparison.Outcome.{Outcome}
-use Rattle.comparison.specs.declared.comparison.Outcome.TheVariants as outcomes
+use Rattle.paths.specs.declared.operand.EvalError.{EvalError}
 use Rattle.evaluation.specs.declared.condition.Quantifier.{Quantifier}
 use Rattle.evaluation.proofs.After.{node_rows}
 use Rattle.comparison.proofs.Joined.{Joining, joining_last, joining_none, joining_twice}
-use Rattle.comparison.proofs.Judging.{is_missing, is_present_lem, no_id_first, unknown_first}
+use Rattle.comparison.proofs.Judging.{is_missing, is_present_lem, refused_first}
 use Rattle.evaluation.proofs.Shallow.{member_shallow}
 
 -- ---- its members
@@ -82,13 +76,13 @@ module _ (s : Bytes) (w : List ℕ) where
   to_rows : {left n : ℕ} → IsNode s w left n → IsNode s (table w) left n × (value_at s (table w) n ≡ value_at s w n)
   to_rows h = node_rows (table_twice w) h
 
-  told_rows : {x : Option Value} {r : Found} → FoundTold s w x r → FoundTold s (table w) x r
+  told_rows : {x : Option Value} {r : Option ℕ} → FoundTold s w x r → FoundTold s (table w) x r
   unfolding found_of FoundIn
   told_rows {x} {r} f = go r f.answers f.bounds
     where
-      go : (y : Found) → x ≡ found_of s w y → FoundIn s w y → FoundTold s (table w) x y
-      go founds.Nothing a b = record { answers = a; bounds = tt }
-      go (founds.At n) a b = let z = to_rows b.is_node in record { answers = a ∙ ap {B = Option Value} (λ v. some v) (sym z.1); bounds = record { left = b.left; is_node = z.0 } }
+      go : (y : Option ℕ) → x ≡ found_of s w y → FoundIn s w y → FoundTold s (table w) x y
+      go None a b = record { answers = a; bounds = tt }
+      go (Some n) a b = let z = to_rows b.is_node in record { answers = a ∙ ap {B = Option Value} (λ v. Some v) (sym z.1); bounds = record { left = b.left; is_node = z.0 } }
 
   -- the members of an object
   members_rows : {n : ℕ} → n < 4096 → ObjectHere s (table w) n → IsNode s (table w) 64 n →
@@ -103,14 +97,13 @@ module _ (s : Bytes) (w : List ℕ) where
       let p : members_at s w (n + 1) (after_at w n) ≡ members_at s (table w) (n + 1) (after_at (table w) n) = cc (q) in
       (subst (AreMembers s w 64 (n + 1)) e (full_members o.1), ap (members_at s w (n + 1)) (sym e) ∙ p)
 
-found_shallow : {s : Bytes} {t : List ℕ} {n : ℕ} → ObjectHere s t n → (k : Bytes) (j : ℕ) {r : Found} →
-    FoundTold s t (find k (entries (members_at s t (n + 1) (after_at t n)))) r → r ≡ founds.At j → depth (tree s t j) < depth (tree s t n)
+found_shallow : {s : Bytes} {t : List ℕ} {n : ℕ} → ObjectHere s t n → (k : Bytes) (j : ℕ) {r : Option ℕ} →
+    FoundTold s t (find k (entries (members_at s t (n + 1) (after_at t n)))) r → r ≡ Some j → depth (tree s t j) < depth (tree s t n)
 unfolding found_of
 found_shallow {s} {t} x k j f e = member_shallow x k j (f.answers ∙ ap (found_of s t) e)
 
-node_is : {r : Found} {j : ℕ} (q : ℕ) → q ≡ node_of r → r ≡ founds.At j → q ≡ j
-unfolding node_of
-node_is q e i = e ∙ ap node_of i
+node_is : {r : Option ℕ} {j : ℕ} (q : ℕ) → q ≡ unwrap_or r 0 → r ≡ Some j → q ≡ j
+node_is q e i = e ∙ ap (λ (x : Option ℕ). unwrap_or x 0) i
 
 module _ {s : Bytes} (w : List ℕ) {m : Mode} {n : ℕ} {c : Condition} (g : QuantifierAt s (table w) m n c) {e : ℕ} (is_end : e ≡ after_at (table w) n) where
   here : ObjectHere s (table w) n
@@ -124,40 +117,52 @@ module _ {s : Bytes} (w : List ℕ) {m : Mode} {n : ℕ} {c : Condition} (g : Qu
   quantifier_members = rw is_end rows.0
 
   -- and what it finds
-  member_found : (k : Bytes) {r : Found} → Located s w (n + 1) e (find k (entries (members_at s w (n + 1) e))) r →
+  member_found : (k : Bytes) {r : Option ℕ} → Located s w (n + 1) e (find k (entries (members_at s w (n + 1) e))) r →
       FoundTold s (table w) (find k (entries (members_at s (table w) (n + 1) (after_at (table w) n)))) r
   member_found k {r} l =
       let f = told_rows s w l.told in
       record { answers = sym (ap (λ (ms : Members). find k (entries ms)) (ap (members_at s w (n + 1)) is_end ∙ rows.1)) ∙ f.answers; bounds = f.bounds }
 
   pub quantifier_parts :
-      (q : Quantifier) {r_in r_as r_that : Found} → Located s w (n + 1) e (find (ascii "in") (entries (members_at s w (n + 1) e))) r_in →
+      (q : Quantifier) {r_in r_as r_that : Option ℕ} → Located s w (n + 1) e (find (ascii "in") (entries (members_at s w (n + 1) e))) r_in →
       Located s w (n + 1) e (find (ascii "as") (entries (members_at s w (n + 1) e))) r_as →
-      Located s w (n + 1) e (find (ascii "that") (entries (members_at s w (n + 1) e))) r_that → q.over ≡ node_of r_in → q.bind ≡ node_of r_as →
-      q.body ≡ node_of r_that → QuantifierParts s (table w) m n q c
+      Located s w (n + 1) e (find (ascii "that") (entries (members_at s w (n + 1) e))) r_that → q.over ≡ unwrap_or r_in 0 → {b : ℕ} → b ≡ unwrap_or r_as 0 →
+      q.name ≡ start_at (table w) b → q.body ≡ unwrap_or r_that 0 → QuantifierParts s (table w) m n q c
   unfolding tree
-  quantifier_parts q {r_in} {r_as} {r_that} l_in l_as l_that e_in e_as e_that =
+  quantifier_parts q {r_in} {r_as} {r_that} l_in l_as l_that e_in {b} e_as e_name e_that =
       let f_in = member_found (ascii "in") l_in in
       let f_as = member_found (ascii "as") l_as in
       let f_that = member_found (ascii "that") l_that in
       let x = (quantified_here g.node g.is_tidy m c g.is).1 r_in r_as r_that f_in f_as f_that in
       let is_over : q.over ≡ x.over = node_is q.over e_in x.is_in in
-      let is_bind : q.bind ≡ x.bind = node_is q.bind e_as x.is_as in
+      let is_bind : b ≡ x.bind = node_is b e_as x.is_as in
       let is_body : q.body ≡ x.body = node_is q.body e_that x.is_that in
-      let b = text_given x.binder in
+      let text = text_given x.binder in
       record {
         over = subst (HasNode s (table w)) (sym is_over) (record { left = 64; is_node = x.over_node });
-        bind = subst (λ (j : ℕ). HasKind s (table w) j 4) (sym is_bind) (record { node = record { left = 64; is_node = x.binder.node }; kind = b.is_kind });
+        bind = b;
+        binder = subst (λ (j : ℕ). HasKind s (table w) j 4) (sym is_bind) (record { node = record { left = 64; is_node = x.binder.node }; kind = text.is_kind });
+        name = e_name;
         body = x.that;
         gives = subst (λ (j : ℕ). Gives condition s (table w) j x.that) (sym is_body) x.inside;
         is =
             x.is ∙
-            ap (λ (y : Bytes). quantified m (tree s (table w) x.over) y x.that) b.bytes ∙
+            ap (λ (y : Bytes). quantified m (tree s (table w) x.over) y x.that) text.bytes ∙
             ap (λ (j : ℕ). quantified m (tree s (table w) x.over) (text_at s (start_at (table w) j)) x.that) (sym is_bind) ∙
-            ap (λ (j : ℕ). quantified m (tree s (table w) j) (text_at s (start_at (table w) q.bind)) x.that) (sym is_over);
+            ap (λ (j : ℕ). quantified m (tree s (table w) x.over) (text_at s j) x.that) (sym e_name) ∙
+            ap (λ (j : ℕ). quantified m (tree s (table w) j) (text_at s q.name) x.that) (sym is_over);
         over_depth = subst (λ (j : ℕ). depth (tree s (table w) j) < depth (tree s (table w) n)) (sym is_over) (found_shallow here (ascii "in") x.over f_in x.is_in);
         body_depth = subst (λ (j : ℕ). depth (tree s (table w) j) < depth (tree s (table w) n)) (sym is_body) (found_shallow here (ascii "that") x.body f_that x.is_that);
       }
+
+  -- the binder's node is among the rows
+  pub binder_room : {r : Option ℕ} → Located s w (n + 1) e (find (ascii "as") (entries (members_at s w (n + 1) e))) r → {b : ℕ} → b ≡ unwrap_or r 0 → b < 4096
+  unfolding FoundIn
+  binder_room {r} l {b} e = go r e l.told.bounds
+    where
+      go : (x : Option ℕ) → b ≡ unwrap_or x 0 → FoundIn s w x → b < 4096
+      go None i h = omega arith
+      go (Some j) i h = omega (arith, node_below s w h)
 
 -- ---- what it goes over
 -- the parts at these children
@@ -176,36 +181,26 @@ unfolding each_name seconds each_part value_node
 parts_fields s t g [] = refl
 parts_fields s t g (k ∷ ks) = ap (λ (l : List lazy.Operand). g (k + 1) ∷ l) (parts_fields s t g ks)
 
-none_collected : (p : Shape lazy.Operand) → shape_class p < 5 → collected p ≡ none
+none_collected : (p : Shape lazy.Operand) → Flat (shape_class p) → collected p ≡ None
 none_collected nothing h = refl
 none_collected (truth false) h = refl
 none_collected (truth true) h = refl
 none_collected (digits x) h = refl
 none_collected (words x) h = refl
-none_collected (items x) h = absurd (omega arith)
-none_collected (fields x) h = absurd (omega arith)
+none_collected (items x) h = absurd (h.no_array refl)
+none_collected (fields x) h = absurd (h.no_object refl)
 
 -- an operand that has parts is an array or an object
-module _ (s : Bytes) (t : List ℕ) (o : Operand) {k : ℕ} (is_class : k ≡ class_of o.kind) (big : 5 ≤ k) where
-  is_array : eqb k 6 ≡ false → class_of o.kind ≡ 5
-  is_array q = let l = class_small o.kind in let n = eqb-false k 6 q in omega arith
-
-  is_object : eqb k 6 ≡ true → class_of o.kind ≡ 6
-  is_object q = sym is_class ∙ eqb-true k 6 q
-
-  pub each_holds : OperandAt s t o → Holds s t (eqb k 6) o.node
-  each_holds f = go (eqb k 6) refl
-    where
-      go : (b : Bool) → eqb k 6 ≡ b → Holds s t b o.node
-      go true q = object_kind s t o.node o.kind f.fits (is_object q)
-      go false q = array_kind s t o.node o.kind f.fits (is_array q)
+pub each_holds : (s : Bytes) (t : List ℕ) (o : Operand) (named : Bool) → class_of o.kind ≡ holder_class named → OperandAt s t o → Holds s t named o.node
+each_holds s t o true e f = object_kind s t o.node o.kind f.fits e
+each_holds s t o false e f = array_kind s t o.node o.kind f.fits e
 
 -- an answer for each of the parts that an operand has
 abbrev Over : Mode → (lazy.Operand → Result Answer) → Option (List lazy.Operand) → Result Answer
-Over m body none = ok (unknown [])
-Over m body (some xs) = in_turn m body xs
+Over m body None = ok (unknown [])
+Over m body (Some xs) = in_turn m body xs
 
-module _ (sheet : Sheet Condition) (s : Bytes) (t : List ℕ) (fs : lazy.Frames) (m : Mode) (x : Bytes) (that : Condition) (o : Operand) {k : ℕ} (is_class : k ≡ class_of o.kind) where
+module _ (sheet : Sheet Condition) (s : Bytes) (t : List ℕ) (fs : lazy.Frames) (m : Mode) (x : Bytes) (that : Condition) (o : Operand) where
   abbrev answer : lazy.Operand → Result Answer
   answer p = judge sheet ((x, p) ∷ fs) that
 
@@ -215,24 +210,22 @@ module _ (sheet : Sheet Condition) (s : Bytes) (t : List ℕ) (fs : lazy.Frames)
     where
       go : (p : Option (List lazy.Operand)) → collected (shape sheet fs (operand_of s t o)) ≡ p →
           each_of sheet fs m x that (operand_of s t o) ≡ Over m answer (collected (shape sheet fs (operand_of s t o)))
-      go none q = rw (q, over_of)
-      go (some xs) q = rw (q, over_of)
+      go None q = rw (q, over_of)
+      go (Some xs) q = rw (q, over_of)
 
-  each_none : k < 5 → each_of sheet fs m x that (operand_of s t o) ≡ ok (unknown [])
-  each_none h = opened ∙ ap (Over m answer) (none_collected (shape_of sheet s t fs o) (omega (arith, class_is sheet s t fs o.node o.depth o.kind)))
+  each_none : Flat (class_of o.kind) → each_of sheet fs m x that (operand_of s t o) ≡ ok (unknown [])
+  each_none h = opened ∙ ap (Over m answer) (none_collected (shape_of sheet s t fs o) (subst Flat (sym (class_is sheet s t fs o.node o.depth o.kind)) h))
 
-  each_parts : 5 ≤ k → each_of sheet fs m x that (operand_of s t o) ≡ in_turn m answer (each_part (part_at sheet s t fs o) (eqb k 6) (kids s t o.node (eqb k 6)))
-  each_parts h = opened ∙ go (eqb k 6) refl
-    where
-      go : (b : Bool) → eqb k 6 ≡ b → Over m answer (collected (shape_of sheet s t fs o)) ≡ in_turn m answer (each_part (part_at sheet s t fs o) b (kids s t o.node b))
-      go true q =
-          ap (λ (p : Shape lazy.Operand). Over m answer (collected p))
-          (object_is sheet s t fs o.node o.depth o.kind (is_object s t o is_class h q)) ∙
-          ap (in_turn m answer) (parts_fields s t (part_at sheet s t fs o) (kids s t o.node true))
-      go false q =
-          ap (λ (p : Shape lazy.Operand). Over m answer (collected p))
-          (array_is sheet s t fs o.node o.depth o.kind (is_array s t o is_class h q)) ∙
-          ap (in_turn m answer) (parts_items (part_at sheet s t fs o) (kids s t o.node false))
+  each_parts : (named : Bool) → class_of o.kind ≡ holder_class named →
+      each_of sheet fs m x that (operand_of s t o) ≡ in_turn m answer (each_part (part_at sheet s t fs o) named (kids s t o.node named))
+  each_parts true e =
+      opened ∙
+      ap (λ (p : Shape lazy.Operand). Over m answer (collected p)) (object_is sheet s t fs o.node o.depth o.kind e) ∙
+      ap (in_turn m answer) (parts_fields s t (part_at sheet s t fs o) (kids s t o.node true))
+  each_parts false e =
+      opened ∙
+      ap (λ (p : Shape lazy.Operand). Over m answer (collected p)) (array_is sheet s t fs o.node o.depth o.kind e) ∙
+      ap (in_turn m answer) (parts_items (part_at sheet s t fs o) (kids s t o.node false))
 
 -- a body's answer for the first part
 module _ (m : Mode) (body : lazy.Operand → Result Answer) (p : lazy.Operand) (ps : List lazy.Operand) where
@@ -267,35 +260,35 @@ pub record Turning (s : Bytes) (w₀ : List ℕ) (sheet : Sheet Condition) (f : 
       (each_part (part_at sheet s (table w₀) (frames_of s (table w₀) f) o) named (children_of (table w₀) c)))
 
 -- whichever condition the body's node gives: under these frames, and over all parts
-abbrev pub BodyAs : Bytes → List ℕ → List ℕ → Sheet Condition → lazy.Frames → ℕ → Outcome → Type 0
+abbrev pub BodyAs : Bytes → List ℕ → List ℕ → Sheet Condition → lazy.Frames → ℕ → Fallible code.Truth EvalError → Type 0
 BodyAs s w w' sheet fs node r = (d : Condition) → Gives condition s (table w) node d → EvaluatedAs s w w' r (judge sheet fs d)
 
-abbrev pub EachAs : Bytes → List ℕ → List ℕ → Sheet Condition → Frames → Mode → ℕ → ℕ → Operand → Outcome → Type 0
+abbrev pub EachAs : Bytes → List ℕ → List ℕ → Sheet Condition → Frames → Mode → ℕ → ℕ → Operand → Fallible code.Truth EvalError → Type 0
 EachAs s w w' sheet f m name node o r =
     (d : Condition) → Gives condition s (table w) node d → EvaluatedAs s w w' r
     (each_of sheet (frames_of s (table w) f) m (text_at s name) d (operand_of s (table w) o))
 
-module _ (s : Bytes) (w : List ℕ) (sheet : Sheet Condition) (f : Frames) (m : Mode) (name node : ℕ) (o : Operand) {k : ℕ} (is_class : k ≡ class_of o.kind) where
+module _ (s : Bytes) (w : List ℕ) (sheet : Sheet Condition) (f : Frames) (m : Mode) (name node : ℕ) (o : Operand) where
   -- what is no collection
-  pub each_unknown : k < 5 → EachAs s w w sheet f m name node o (outcomes.Judged truths.Unknown)
-  each_unknown h d g = record { names = []; met = []; means = sym (each_none sheet s (table w) (frames_of s (table w) f) m (text_at s name) d o is_class h); left = left_none s w; marks = refl }
+  pub each_unknown : Flat (class_of o.kind) → EachAs s w w sheet f m name node o (Ok truths.Unknown)
+  each_unknown h d g = record { names = []; met = []; means = sym (each_none sheet s (table w) (frames_of s (table w) f) m (text_at s name) d o h); left = left_none s w; marks = refl }
 
-  pub turn_begin : 5 ≤ k → OperandAt s (table w) o → Linked s (table w) → Known (Gives condition s (table w) node) → {t : code.Truth} →
-      truth_of t ≡ start m → {c : Children} → c ≡ begun (table w) o.node (eqb k 6) → Turning s w sheet f m name node o (eqb k 6) w t c
-  turn_begin big fits linked known e {c} q =
+  pub turn_begin : (named : Bool) → class_of o.kind ≡ holder_class named → OperandAt s (table w) o → Linked s (table w) → Known (Gives condition s (table w) node) →
+      {t : code.Truth} → truth_of t ≡ start m → {c : Children} → c ≡ begun (table w) o.node named → Turning s w sheet f m name node o named w t c
+  turn_begin named is_class fits linked known e {c} q =
       let body : lazy.Operand → Result Answer = λ p. judge sheet ((text_at s name, p) ∷ frames_of s (table w) f) known.given in
-      let over : List ℕ → Result Answer = λ ks. in_turn m body (each_part (part_at sheet s (table w) (frames_of s (table w) f) o) (eqb k 6) ks) in
-      let h = each_holds s (table w) o is_class big fits in
+      let over : List ℕ → Result Answer = λ ks. in_turn m body (each_part (part_at sheet s (table w) (frames_of s (table w) f) o) named ks) in
+      let h = each_holds s (table w) o named is_class fits in
       record {
         that = known.given;
         gives = known.known;
         names = [];
         left = left_none s w;
-        walk = walk_begins (eqb k 6) h linked q;
-        over = walk_named (eqb k 6) h linked q;
+        walk = walk_begins named h linked q;
+        over = walk_named named h linked q;
         rest =
-            each_parts sheet s (table w) (frames_of s (table w) f) m (text_at s name) known.given o is_class big ∙
-            ap over (sym (walk_kids (eqb k 6) h linked q)) ∙
+            each_parts sheet s (table w) (frames_of s (table w) f) m (text_at s name) known.given o named is_class ∙
+            ap over (sym (walk_kids named h linked q)) ∙
             sym (joining_none m (over (children_of (table w) c))) ∙
             ap (λ (y : Truth). Joining m (record { truth = y; names = [] }) (over (children_of (table w) c))) (sym e);
       }
@@ -314,7 +307,7 @@ module _ {s : Bytes} {w₀ : List ℕ} {sheet : Sheet Condition} {f : Frames} {m
   abbrev part : ℕ → lazy.Operand
   part k = part_at sheet s (table w₀) fs o (value_node named k)
 
-  for_each : {w' : List ℕ} {r : Outcome} →
+  for_each : {w' : List ℕ} {r : Fallible code.Truth EvalError} →
       EvaluatedAs s w₀ w' r (each_of sheet (frames_of s (table w₀) f) m (text_at s name) g.that (operand_of s (table w₀) o)) →
       EachAs s w₀ w' sheet f m name node o r
   for_each {w'} {r} a d h = subst (λ (x : Condition). EvaluatedAs s w₀ w' r (each_of sheet fs m (text_at s name) x (operand_of s (table w₀) o))) (same_given g.gives h) a
@@ -332,20 +325,20 @@ module _ {s : Bytes} {w₀ : List ℕ} {sheet : Sheet Condition} {f : Frames} {m
   none_left e = rw e
 
   -- what the walk told, among the rows at entry
-  told : {r : Child} → r ≡ next_of (table w) c → r ≡ next_of (table w₀) c
+  told : {r : Option Next} → r ≡ next_of (table w) c → r ≡ next_of (table w₀) c
   told h = h ∙ ap (λ (y : List ℕ). next_of y c) g.left.rows
 
   -- no part is left
-  pub turn_end : {r : Child} → r ≡ next_of (table w) c → r ≡ child.End → EachAs s w₀ w sheet f m name node o (outcomes.Judged t)
+  pub turn_end : {r : Option Next} → r ≡ next_of (table w) c → r ≡ None → EachAs s w₀ w sheet f m name node o (Ok t)
   turn_end h i =
       let e = child_end g.walk (told h) i in
       let done : each_of sheet fs m (text_at s name) g.that (operand_of s (table w₀) o) ≡ ok so_far = g.rest ∙ ap (Joining m so_far) (none_left e) ∙ joining_last m so_far in
       for_each (record { names = g.names; met = g.names; means = sym done; left = g.left; marks = refl })
 
-  pub turn_given : {r : Child} → r ≡ next_of (table w) c → (x : Next) → r ≡ child.Is x → Given s (table w₀) c x.node x.rest
+  pub turn_given : {r : Option Next} → r ≡ next_of (table w) c → (x : Next) → r ≡ Some x → Given s (table w₀) c x.node x.rest
   turn_given h x i = child_given g.walk (told h) x i
 
-  pub turn_long : {w' : List ℕ} {r : Outcome} {y : Condition → Result Answer} →
+  pub turn_long : {w' : List ℕ} {r : Fallible code.Truth EvalError} {y : Condition → Result Answer} →
       ((d : Condition) → Gives condition s (table w) node d → EvaluatedAs s w w' r (y d)) → length w' ≡ length w₀
   turn_long h = (h g.that gives_now).left.long ∙ g.left.long
 
@@ -369,7 +362,7 @@ module _ {s : Bytes} {w₀ : List ℕ} {sheet : Sheet Condition} {f : Frames} {m
     turn e = g.rest ∙ ap (λ (ks : List ℕ). Joining m so_far (in_turn m body (each_part (part_at sheet s (table w₀) fs o) named ks))) x.children ∙ ap (Joining m so_far) e
 
     -- the body, under the part's frame
-    module _ {v : ℕ} (is_node : v ≡ value_node named k) {w' : List ℕ} {r : Outcome}
+    module _ {v : ℕ} (is_node : v ≡ value_node named k) {w' : List ℕ} {r : Fallible code.Truth EvalError}
         (evaluated : BodyAs s w w' sheet ((text_at s name, part_at sheet s (table w) (frames_of s (table w) f) o v) ∷ frames_of s (table w) f)
         node r) where
       a : EvaluatedAs s w w' r (judge sheet ((text_at s name, part_at sheet s (table w) (frames_of s (table w) f) o v) ∷ frames_of s (table w) f) g.that)
@@ -386,29 +379,28 @@ module _ {s : Bytes} {w₀ : List ℕ} {sheet : Sheet Condition} {f : Frames} {m
       marked : Marks s (table w₀) a.names a.met r
       marked = subst (λ (y : List ℕ). Marks s y a.names a.met r) g.left.rows a.marks
 
-      pub turn_unknown : (n : ℕ) → r ≡ outcomes.Unknown n → EachAs s w₀ w' sheet f m name node o (outcomes.Unknown n)
-      turn_unknown n e =
-          for_each
-          (record {
-            names = [];
-            met = g.names ++ a.met;
-            means = sym (turn (first_refused m body (part k) _ _ (sym (ap (outcome_of s (table w₀) a.names) (sym e) ∙ answered))));
-            left = left_then g.left a.left;
-            marks = subst (Marks s (table w₀) a.names a.met) e marked;
-          })
+      pub turn_refused : (x : EvalError) → r ≡ Err x → EachAs s w₀ w' sheet f m name node o (Err x)
+      turn_refused x e = for_each (go x e)
+        where
+          go : (y : EvalError) → r ≡ Err y → EvaluatedAs s w₀ w' (Err y) (each_of sheet (frames_of s (table w₀) f) m (text_at s name) g.that (operand_of s (table w₀) o))
+          go (errors.UnknownExpression n) i =
+              record {
+                names = [];
+                met = g.names ++ a.met;
+                means = sym (turn (first_refused m body (part k) _ _ (sym (ap (outcome_of s (table w₀) a.names) (sym i) ∙ answered))));
+                left = left_then g.left a.left;
+                marks = subst (Marks s (table w₀) a.names a.met) i marked;
+              }
+          go errors.NoId i =
+              record {
+                names = [];
+                met = g.names ++ a.met;
+                means = sym (turn (first_refused m body (part k) _ _ (sym (ap (outcome_of s (table w₀) a.names) (sym i) ∙ answered))));
+                left = left_then g.left a.left;
+                marks = tt;
+              }
 
-      pub turn_no_id : r ≡ outcomes.NoId → EachAs s w₀ w' sheet f m name node o outcomes.NoId
-      turn_no_id e =
-          for_each
-          (record {
-            names = [];
-            met = g.names ++ a.met;
-            means = sym (turn (first_refused m body (part k) _ _ (sym (ap (outcome_of s (table w₀) a.names) (sym e) ∙ answered))));
-            left = left_then g.left a.left;
-            marks = tt;
-          })
-
-      module _ (u : code.Truth) (e : r ≡ outcomes.Judged u) (t' : code.Truth) (is_join : truth_of t' ≡ join m (truth_of t) (truth_of u))
+      module _ (u : code.Truth) (e : r ≡ Ok u) (t' : code.Truth) (is_join : truth_of t' ≡ join m (truth_of t) (truth_of u))
           {b : Bool} (is_settled : b ≡ settles m (truth_of u)) where
         abbrev now : Answer
         now = record { truth = truth_of u; names = a.names }
@@ -422,7 +414,7 @@ module _ {s : Bytes} {w₀ : List ℕ} {sheet : Sheet Condition} {f : Frames} {m
         answer_is : joined m so_far now ≡ record { truth = truth_of t'; names = g.names ++ a.names }
         answer_is = ap (λ (y : Truth). record { truth = y; names = g.names ++ a.names }) (sym is_join)
 
-        pub turn_settled : b ≡ true → EachAs s w₀ w' sheet f m name node o (outcomes.Judged t')
+        pub turn_settled : b ≡ true → EachAs s w₀ w' sheet f m name node o (Ok t')
         turn_settled q =
             for_each
             (record {
@@ -474,7 +466,7 @@ pushed r l n p d h = record {
 
 -- the body under such frames
 pub body_under : (sheet : Sheet Condition) (f g : Frames) {s : Bytes} {w w' : List ℕ} {name node : ℕ} {p : Operand}
-    {part : lazy.Operand} {r : Outcome} → Means s (table w) p part → held g ≡
+    {part : lazy.Operand} {r : Fallible code.Truth EvalError} → Means s (table w) p part → held g ≡
     record { name = name; operand = p } ∷ held f → BodyAs s w w' sheet (frames_of s (table w) g) node r → BodyAs s w w' sheet
     ((text_at s name, part) ∷ frames_of s (table w) f) node r
 unfolding framed
@@ -485,7 +477,7 @@ body_under sheet f g {s} {w} {w'} {name = name} {r = r} i h b d x =
 -- ---- the whole quantifier
 -- marks of nothing before it change nothing
 after_none :
-    {s : Bytes} {w w' w'' : List ℕ} {ns : Names} {r : Outcome} {m : Result Answer} → Left s w w' ns → ns ≡ [] → EvaluatedAs s w' w'' r m →
+    {s : Bytes} {w w' w'' : List ℕ} {ns : Names} {r : Fallible code.Truth EvalError} {m : Result Answer} → Left s w w' ns → ns ≡ [] → EvaluatedAs s w' w'' r m →
     EvaluatedAs s w w'' r m
 after_none {s} {w} {w'} {w''} {ns} {r} l e a = record {
   names = a.names;
@@ -496,13 +488,13 @@ after_none {s} {w} {w'} {w''} {ns} {r} l e a = record {
 }
 
 module _ {s : Bytes} {w w' : List ℕ} (sheet : Sheet Condition) (f : Frames) {m : Mode} {n : ℕ} {q : Quantifier} {c : Condition}
-    (p : QuantifierParts s (table w) m n q c) {r : code_resolved.Resolved}
+    (p : QuantifierParts s (table w) m n q c) {r : Fallible (Option Operand) EvalError}
     (a : ResolvedAs false s w w' r (operand sheet (frames_of s (table w) f) (tree s (table w) q.over))) where
   abbrev frames : lazy.Frames
   frames = frames_of s (table w) f
 
   abbrev over : Resolved lazy.Operand → Result Answer
-  over x = over_of sheet frames m (λ y. judge sheet ((text_at s (start_at (table w) q.bind), y) ∷ frames) p.body) x
+  over x = over_of sheet frames m (λ y. judge sheet ((text_at s q.name, y) ∷ frames) p.body) x
 
   judged : {x : Result (Resolved lazy.Operand)} → operand sheet frames (tree s (table w) q.over) ≡ x → judge sheet frames c ≡ (x >>= over)
   unfolding judge
@@ -511,13 +503,10 @@ module _ {s : Bytes} {w w' : List ℕ} (sheet : Sheet Condition) (f : Frames) {m
   quantify_refused : (g : Refusal) → operand sheet frames (tree s (table w) q.over) ≡ refused g → judge sheet frames c ≡ refused g
   quantify_refused g e = judged e
 
-  pub quantify_unknown : (k : ℕ) → r ≡ answers.Unknown k → EvaluatedAs s w w' (outcomes.Unknown k) (judge sheet (frames_of s (table w) f) c)
-  quantify_unknown k e = unknown_first a k e quantify_refused
+  pub quantify_stops : (x : EvalError) → r ≡ Err x → EvaluatedAs s w w' (Err x) (judge sheet (frames_of s (table w) f) c)
+  quantify_stops x e = refused_first a x e quantify_refused
 
-  pub quantify_no_id : r ≡ answers.NoId → EvaluatedAs s w w' outcomes.NoId (judge sheet (frames_of s (table w) f) c)
-  quantify_no_id e = no_id_first a e quantify_refused
-
-  pub quantify_missing : r ≡ answers.Missing → EvaluatedAs s w w' (outcomes.Judged truths.Unknown) (judge sheet (frames_of s (table w) f) c)
+  pub quantify_missing : r ≡ (Ok None) → EvaluatedAs s w w' (Ok truths.Unknown) (judge sheet (frames_of s (table w) f) c)
   unfolding over_of
   quantify_missing e = let x = is_missing a e in record { names = a.names; met = a.met; means = sym (judged x.0); left = a.left; marks = x.1 }
 
@@ -525,7 +514,7 @@ module _ {s : Bytes} {w w' : List ℕ} (sheet : Sheet Condition) (f : Frames) {m
   gives_after = subst (λ (t : List ℕ). Gives condition s t q.body p.body) (sym a.left.rows) p.gives
 
   -- what the walk over its parts asks
-  pub over_fits : (o : Operand) → r ≡ answers.Present o → OperandAt s (table w') o
+  pub over_fits : (o : Operand) → r ≡ Ok (Some o) → OperandAt s (table w') o
   over_fits o e = rw a.left.rows (is_present_lem a o e).1
 
   pub body_known : Known (Gives condition s (table w') q.body)
@@ -534,18 +523,17 @@ module _ {s : Bytes} {w w' : List ℕ} (sheet : Sheet Condition) (f : Frames) {m
   pub body_shallow : {l : ℕ} → depth (tree s (table w) n) ≤ l → depth (tree s (table w') q.body) ≤ l - 1
   body_shallow h = rw a.left.rows (omega (arith, p.body_depth))
 
-  pub quantify_long : {w'' : List ℕ} {x : Outcome} {y : Condition → Result Answer} →
+  pub quantify_long : {w'' : List ℕ} {x : Fallible code.Truth EvalError} {y : Condition → Result Answer} →
       ((d : Condition) → Gives condition s (table w') q.body d → EvaluatedAs s w' w'' x (y d)) → length w'' ≡ length w
   quantify_long h = (h p.body gives_after).left.long ∙ a.left.long
 
-  pub quantify_each : (o : Operand) → r ≡ answers.Present o → {name : ℕ} → name ≡ start_at (table w) q.bind → {w'' : List ℕ} {y : Outcome} →
-      EachAs s w' w'' sheet f m name q.body o y → EvaluatedAs s w w'' y (judge sheet (frames_of s (table w) f) c)
+  pub quantify_each : (o : Operand) → r ≡ Ok (Some o) → {w'' : List ℕ} {y : Fallible code.Truth EvalError} →
+      EachAs s w' w'' sheet f m q.name q.body o y → EvaluatedAs s w w'' y (judge sheet (frames_of s (table w) f) c)
   unfolding each_of
-  quantify_each o e {name} i {w''} {y} h =
+  quantify_each o e {w''} {y} h =
       let x = is_present_lem a o e in
-      let z : each_of sheet (frames_of s (table w') f) m (text_at s name) p.body (operand_of s (table w') o) ≡
-      judge sheet frames c = ap (λ (t : List ℕ). each_of sheet (frames_of s t f) m (text_at s name) p.body (operand_of s t o))
+      let z : each_of sheet (frames_of s (table w') f) m (text_at s q.name) p.body (operand_of s (table w') o) ≡
+      judge sheet frames c = ap (λ (t : List ℕ). each_of sheet (frames_of s t f) m (text_at s q.name) p.body (operand_of s t o))
       a.left.rows ∙
-      ap (λ (j : ℕ). each_of sheet frames m (text_at s j) p.body (operand_of s (table w) o)) i ∙
       sym (judged x.0) in
       after_none a.left x.2 (subst (EvaluatedAs s w' w'' y) z (h p.body gives_after))

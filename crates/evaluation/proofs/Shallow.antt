@@ -1,7 +1,7 @@
 -- What stands inside nests less deep than what holds it.
 -- Assumes nothing.
 use mathlib.Core.List.{List}
-use mathlib.Core.Option.{some}
+use Rattle.std.specs.Prelude.{Some}
 use mathlib.Core.Path.{ap, refl, sym, ◌∙◌, ◌≡◌}
 use Prim.Native.Nat.{ℕ, ◌+◌, ◌<◌}
 use native.Mathlib.Omega.{arith}
@@ -27,7 +27,7 @@ module _ {s : Bytes} {t : List ℕ} {n : ℕ} where
 
   -- a member that is found in an object
   pub member_shallow :
-      ObjectHere s t n → (k : Bytes) (j : ℕ) → find k (entries (members_at s t (n + 1) (after_at t n))) ≡ some (value_at s t j) →
+      ObjectHere s t n → (k : Bytes) (j : ℕ) → find k (entries (members_at s t (n + 1) (after_at t n))) ≡ Some (value_at s t j) →
       depth (tree s t j) < depth (tree s t n)
   unfolding tree sorted depth
   member_shallow x k j e =

@@ -16,47 +16,50 @@ ghost use Rattle.paths.specs.Ready.{Ready};
 ghost use Rattle.members.specs.Sheet.{sheet_in};
 ghost use Rattle.paths.specs.Stored.{HasKind, OperandAt, Room, frames_of, operand_of, table, tree};
 ghost use Rattle.comparison.specs.Answers.{EvaluatedAs};
-ghost use Rattle.evaluation.specs.Conditions.{Negated, QuantifierAt, QuantifierParts, each_of};
+ghost use Rattle.evaluation.specs.Conditions.{QuantifierAt, QuantifierParts, each_of};
 ghost use Rattle.comparison.specs.Judge.{judge, judge_all};
 
-use comparison::comparison::{Outcome, exists_at, pair_at};
+use comparison::comparison::{exists_at, pair_at};
 use members::member::named;
 use members::told::{Mode, Operator};
-use paths::children::{Child, Children};
-use paths::frames::{Frame, Frames};
-use paths::operand::{Operand, Resolved};
-use paths::roots::Roots;
+use paths::children::Children;
+use paths::frames::Frame;
+use paths::operand::{EvalError, Operand};
 use paths::rows::{after_at, kind_at, start_at};
-use resolving::layer::{class_of, part_of, value_node};
+use paths::scope::Scope;
+use resolving::layer::{part_of, value_node};
 use resolving::resolve::resolve;
 use semantics::truth::Truth;
-use sheet::shape::node_of;
+use strings::rows::Kind;
 use syntax::condition::operator_at;
 
-// The nodes of what a quantifier goes over, its binder's name and its body.
+// A quantifier: how its truths are joined, the node of what it goes over, the place of its binder's name, and the node of its body.
 #[derive(Clone, Copy)]
 pub struct Quantifier {
+    pub mode: Mode,
     pub over: usize,
-    pub bind: usize,
+    pub name: usize,
     pub body: usize,
 }
 
-fn quantifier_at(s: &[u8], work: &[u32], node: usize) -> Quantifier
+fn quantifier_at(s: &[u8], work: &[u32], mode: Mode, node: usize) -> Quantifier
     requires { Room work.now node × Known (λ (m : conditions.Mode). Known (QuantifierAt s.now (table work.now) m node)) }
-    ensures { (m : conditions.Mode) (c : Condition) → QuantifierAt s.now (table work.now) m node c → QuantifierParts s.now (table work.now) m node result c }
+    ensures joins { result.mode ≡ mode }
+    ensures parts { (m : conditions.Mode) (c : Condition) → QuantifierAt s.now (table work.now) m node c → QuantifierParts s.now (table work.now) m node result c }
 {
     let end = after_at(work, node);
-    let over = node_of(named(s, work, node + 1, end, b"in"));
-    let bind = node_of(named(s, work, node + 1, end, b"as"));
-    let body = node_of(named(s, work, node + 1, end, b"that"));
+    // all three are there, since the sheet's shape was checked: the 0 is never read, and with an Option `quantify` would have to open what is always there
+    let bind = named(s, work, node + 1, end, b"as").unwrap_or(0);
     Quantifier {
-        over: over,
-        bind: bind,
-        body: body,
+        mode,
+        over: named(s, work, node + 1, end, b"in").unwrap_or(0),
+        name: start_at(work, bind),
+        body: named(s, work, node + 1, end, b"that").unwrap_or(0),
     }
 }
 
 // What an empty collection gives.
+// Three functions and no methods: `Mode` is another crate's type, and a trait for it alone would be no plainer.
 fn start(mode: Mode) -> Truth
     ensures { truth_of result ≡ start (mode_of mode) }
 {
@@ -81,30 +84,8 @@ fn settles(mode: Mode, t: Truth) -> bool
     ensures { result ≡ settles (mode_of mode) (truth_of t) }
 {
     match mode {
-        Mode::Every => match t {
-            Truth::True => false,
-            Truth::False => true,
-            Truth::Unknown => false,
-        },
-        Mode::Any => match t {
-            Truth::True => true,
-            Truth::False => false,
-            Truth::Unknown => false,
-        },
-    }
-}
-
-// The opposite truth; a refusal stays.
-fn negated(r: Outcome) -> Outcome
-    ensures { Negated r result }
-{
-    match r {
-        Outcome::Judged(t) => {
-            let u = t.not();
-            Outcome::Judged(u)
-        }
-        Outcome::Unknown(n) => Outcome::Unknown(n),
-        Outcome::NoId => Outcome::NoId,
+        Mode::Every => t == Truth::False,
+        Mode::Any => t == Truth::True,
     }
 }
 
@@ -113,34 +94,31 @@ fn negated(r: Outcome) -> Outcome
 pub fn evaluate(
     s: &[u8],
     work: &mut [u32],
-    roots: Roots,
-    frames: Frames,
+    scope: Scope,
     node: usize,
     left: usize,
-) -> Outcome
-    requires { Ready s.now work.old roots frames × (2 * frames.depth + left ≤ 64) × Known (Gives condition s.now (table work.old) node) × (depth (tree s.now (table work.old) node) ≤ left) }
-    ensures { (c : Condition) → Gives condition s.now (table work.old) node c → EvaluatedAs s.now work.old work.new result (judge (sheet_in s.now) (frames_of s.now (table work.old) frames) c) }
+) -> Result<Truth, EvalError>
+    requires { Ready s.now work.old scope.roots scope.frames × (2 * scope.frames.depth + left ≤ 64) × Known (Gives condition s.now (table work.old) node) × (depth (tree s.now (table work.old) node) ≤ left) }
+    ensures { (c : Condition) → Gives condition s.now (table work.old) node c → EvaluatedAs s.now work.old work.new result (judge (sheet_in s.now) (frames_of s.now (table work.old) scope.frames) c) }
 {
-    let kind = kind_at(work, node);
-    if kind == 1 {
-        return Outcome::Judged(Truth::True);
-    }
-    if kind == 2 {
-        return Outcome::Judged(Truth::False);
+    match kind_at(work, node) {
+        Kind::True => return Ok(Truth::True),
+        Kind::False => return Ok(Truth::False),
+        _ => {}
     }
     let name = start_at(work, node + 1);
     let inner = node + 2;
+    let left = left - 1;
     match operator_at(s, name) {
-        Operator::Junction(m) => junction(s, work, roots, frames, m, inner, left - 1),
-        Operator::Negation => negated(evaluate(s, work, roots, frames, inner, left - 1)),
-        Operator::Exists => exists_at(s, work, roots, frames, inner, left - 1),
+        Operator::Junction(m) => junction(s, work, scope, m, inner, left),
+        Operator::Negation => Ok(evaluate(s, work, scope, inner, left)?.not()),
+        Operator::Exists => exists_at(s, work, scope, inner, left),
         Operator::Pair(f) => {
             let second = after_at(work, inner + 1);
-            pair_at(s, work, roots, frames, f, inner + 1, second, left - 1)
+            pair_at(s, work, scope, f, inner + 1, second, left)
         }
-        Operator::Quantified(m) => quantify(s, work, roots, frames, m, inner, left - 1),
-        Operator::NotCarried => Outcome::NoId,
-        Operator::Unknown => Outcome::NoId,
+        Operator::Quantified(m) => quantify(s, work, scope, m, inner, left),
+        Operator::NotCarried | Operator::Unknown => Err(EvalError::NoId),
     }
 }
 
@@ -149,29 +127,24 @@ pub fn evaluate(
 fn junction(
     s: &[u8],
     work: &mut [u32],
-    roots: Roots,
-    frames: Frames,
+    scope: Scope,
     mode: Mode,
     node: usize,
     left: usize,
-) -> Outcome
-    requires { Ready s.now work.old roots frames × (2 * frames.depth + left ≤ 64) × HasKind s.now (table work.old) node 5 × Known (ConditionsGive s.now (table work.old) (node + 1) (after_at (table work.old) node)) × (depth (tree s.now (table work.old) node) ≤ left) }
-    ensures { (cs : Conditions) → ConditionsGive s.now (table work.old) (node + 1) (after_at (table work.old) node) cs → EvaluatedAs s.now work.old work.new result (judge_all (sheet_in s.now) (frames_of s.now (table work.old) frames) (mode_of mode) cs) }
+) -> Result<Truth, EvalError>
+    requires { Ready s.now work.old scope.roots scope.frames × (2 * scope.frames.depth + left ≤ 64) × HasKind s.now (table work.old) node 5 × Known (ConditionsGive s.now (table work.old) (node + 1) (after_at (table work.old) node)) × (depth (tree s.now (table work.old) node) ≤ left) }
+    ensures { (cs : Conditions) → ConditionsGive s.now (table work.old) (node + 1) (after_at (table work.old) node) cs → EvaluatedAs s.now work.old work.new result (judge_all (sheet_in s.now) (frames_of s.now (table work.old) scope.frames) (mode_of mode) cs) }
 {
     let end = after_at(work, node);
     let mut truth = start(mode);
     let mut k = node + 1;
+    // from row to row: each turn marks the table, so no iterator can hold it
     while k < end {
-        match evaluate(s, work, roots, frames, k, left - 1) {
-            Outcome::Judged(t) => {
-                truth = join(mode, truth, t);
-            }
-            Outcome::Unknown(n) => return Outcome::Unknown(n),
-            Outcome::NoId => return Outcome::NoId,
-        }
+        let t = evaluate(s, work, scope, k, left - 1)?;
+        truth = join(mode, truth, t);
         k = after_at(work, k);
     }
-    Outcome::Judged(truth)
+    Ok(truth)
 }
 
 // What a quantifier goes over is resolved first; where it is missing its names are marked and the truth is unknown.
@@ -179,23 +152,18 @@ fn junction(
 fn quantify(
     s: &[u8],
     work: &mut [u32],
-    roots: Roots,
-    frames: Frames,
+    scope: Scope,
     mode: Mode,
     node: usize,
     left: usize,
-) -> Outcome
-    requires { Ready s.now work.old roots frames × (2 * frames.depth + left + 1 ≤ 64) × Known (QuantifierAt s.now (table work.old) (mode_of mode) node) × (depth (tree s.now (table work.old) node) ≤ left) }
-    ensures { (c : Condition) → QuantifierAt s.now (table work.old) (mode_of mode) node c → EvaluatedAs s.now work.old work.new result (judge (sheet_in s.now) (frames_of s.now (table work.old) frames) c) }
+) -> Result<Truth, EvalError>
+    requires { Ready s.now work.old scope.roots scope.frames × (2 * scope.frames.depth + left + 1 ≤ 64) × Known (QuantifierAt s.now (table work.old) (mode_of mode) node) × (depth (tree s.now (table work.old) node) ≤ left) }
+    ensures { (c : Condition) → QuantifierAt s.now (table work.old) (mode_of mode) node c → EvaluatedAs s.now work.old work.new result (judge (sheet_in s.now) (frames_of s.now (table work.old) scope.frames) c) }
 {
-    let q = quantifier_at(s, work, node);
-    let body = q.body;
-    let name = start_at(work, q.bind);
-    match resolve(s, work, roots, frames, q.over, false, left - 1) {
-        Resolved::Present(o) => each(s, work, roots, frames, mode, o, name, body, left - 1),
-        Resolved::Missing => Outcome::Judged(Truth::Unknown),
-        Resolved::Unknown(n) => Outcome::Unknown(n),
-        Resolved::NoId => Outcome::NoId,
+    let q = quantifier_at(s, work, mode, node);
+    match resolve(s, work, scope, q.over, false, left - 1)? {
+        Some(o) => each(s, work, scope, q, o, left - 1),
+        None => Ok(Truth::Unknown),
     }
 }
 
@@ -204,41 +172,30 @@ fn quantify(
 fn each(
     s: &[u8],
     work: &mut [u32],
-    roots: Roots,
-    frames: Frames,
-    mode: Mode,
+    scope: Scope,
+    q: Quantifier,
     o: Operand,
-    name: usize,
-    body: usize,
     left: usize,
-) -> Outcome
-    requires { Ready s.now work.old roots frames × (2 * frames.depth + 2 + left ≤ 64) × OperandAt s.now (table work.old) o × OnText s.now name 0 × Known (Gives condition s.now (table work.old) body) × (depth (tree s.now (table work.old) body) ≤ left) }
-    ensures { (c : Condition) → Gives condition s.now (table work.old) body c → EvaluatedAs s.now work.old work.new result (each_of (sheet_in s.now) (frames_of s.now (table work.old) frames) (mode_of mode) (text_at s.now name) c (operand_of s.now (table work.old) o)) }
+) -> Result<Truth, EvalError>
+    requires { Ready s.now work.old scope.roots scope.frames × (2 * scope.frames.depth + 2 + left ≤ 64) × OperandAt s.now (table work.old) o × OnText s.now q.name 0 × Known (Gives condition s.now (table work.old) q.body) × (depth (tree s.now (table work.old) q.body) ≤ left) }
+    ensures { (c : Condition) → Gives condition s.now (table work.old) q.body c → EvaluatedAs s.now work.old work.new result (each_of (sheet_in s.now) (frames_of s.now (table work.old) scope.frames) (mode_of q.mode) (text_at s.now q.name) c (operand_of s.now (table work.old) o)) }
 {
-    let kind = o.kind;
-    let class = class_of(kind);
-    if class < 5 {
-        return Outcome::Judged(Truth::Unknown);
-    }
-    let mut truth = start(mode);
-    let mut c = Children::of(work, o.node, class == 6);
-    loop {
-        let Child::Is(x) = c.next(work) else {
-            return Outcome::Judged(truth);
-        };
-        let v = value_node(class == 6, x.node);
-        match with_part(s, work, roots, frames, o, v, name, body, left) {
-            Outcome::Judged(t) => {
-                truth = join(mode, truth, t);
-                if settles(mode, t) {
-                    return Outcome::Judged(truth);
-                }
-            }
-            Outcome::Unknown(n) => return Outcome::Unknown(n),
-            Outcome::NoId => return Outcome::NoId,
+    let named = match o.kind.class() {
+        Kind::Array => false,
+        Kind::Object => true,
+        _ => return Ok(Truth::Unknown),
+    };
+    let mut truth = start(q.mode);
+    let mut c = Children::of(work, o.node, named);
+    while let Some(x) = c.next(work) {
+        let t = with_part(s, work, scope, q, o, value_node(named, x.node), left)?;
+        truth = join(q.mode, truth, t);
+        if settles(q.mode, t) {
+            return Ok(truth);
         }
         c = x.rest;
     }
+    Ok(truth)
 }
 
 // The body under its binder, which stands for the part of the collection at a node.
@@ -246,21 +203,19 @@ fn each(
 fn with_part(
     s: &[u8],
     work: &mut [u32],
-    roots: Roots,
-    frames: Frames,
+    scope: Scope,
+    q: Quantifier,
     o: Operand,
     node: usize,
-    name: usize,
-    body: usize,
     left: usize,
-) -> Outcome
-    requires { Ready s.now work.old roots frames × (2 * frames.depth + 2 + left ≤ 64) × HasNode s.now (table work.old) node × OnText s.now name 0 × Known (Gives condition s.now (table work.old) body) × (depth (tree s.now (table work.old) body) ≤ left) }
-    ensures { (c : Condition) → Gives condition s.now (table work.old) body c → EvaluatedAs s.now work.old work.new result (judge (sheet_in s.now) ((text_at s.now name, part_at (sheet_in s.now) s.now (table work.old) (frames_of s.now (table work.old) frames) o node) ∷ frames_of s.now (table work.old) frames) c) }
+) -> Result<Truth, EvalError>
+    requires { Ready s.now work.old scope.roots scope.frames × (2 * scope.frames.depth + 2 + left ≤ 64) × HasNode s.now (table work.old) node × OnText s.now q.name 0 × Known (Gives condition s.now (table work.old) q.body) × (depth (tree s.now (table work.old) q.body) ≤ left) }
+    ensures { (c : Condition) → Gives condition s.now (table work.old) q.body c → EvaluatedAs s.now work.old work.new result (judge (sheet_in s.now) ((text_at s.now q.name, part_at (sheet_in s.now) s.now (table work.old) (frames_of s.now (table work.old) scope.frames) o node) ∷ frames_of s.now (table work.old) scope.frames) c) }
 {
-    let part = part_of(s, work, roots, frames, o, node);
-    let inner = frames.push(Frame {
-        name: name,
-        operand: part,
+    let operand = part_of(s, work, scope, o, node);
+    let inner = scope.push(Frame {
+        name: q.name,
+        operand,
     });
-    evaluate(s, work, roots, inner, body, left)
+    evaluate(s, work, inner, q.body, left)
 }

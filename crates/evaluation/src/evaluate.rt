@@ -8,22 +8,21 @@ ghost use Rattle.semantics.specs.Semantics.{kernel};
 ghost use Rattle.comparison.specs.Answers.{EvaluatedAs};
 ghost use Rattle.comparison.specs.Entry.{roots_of};
 
-use comparison::comparison::Outcome;
-use paths::frames::Frames;
+use paths::operand::EvalError;
 use paths::roots::Roots;
+use paths::scope::Scope;
+use semantics::truth::Truth;
 use sheet::shape::Members;
 
-// The nodes that expressions start from.
+// The nodes that expressions start from. Neither type is this crate's, so it is no `From`.
 fn roots_of(m: Members) -> Roots
     ensures { result ≡ roots_of m }
 {
-    let id = m.id;
-    let from = m.from_state;
     Roots {
-        id: sheet::shape::node_of(id),
+        id: m.id,
         entity: m.entity,
         version: m.version,
-        from: sheet::shape::node_of(from),
+        from: m.from_state,
         to: m.to_state,
         args: m.args,
         fields: m.fields,
@@ -32,9 +31,14 @@ fn roots_of(m: Members) -> Roots
 }
 
 // A condition of an accepted sheet: its truth with its names marked, or 13 or 14.
-pub fn evaluate_condition(s: &[u8], work: &mut [u32], m: Members, node: usize) -> Outcome
+pub fn evaluate_condition(
+    s: &[u8],
+    work: &mut [u32],
+    m: Members,
+    node: usize,
+) -> Result<Truth, EvalError>
     requires { (16384 ≤ length work.old) × Known (Accepted s.now work.old m) × Known (Gives condition s.now work.old node) }
     ensures { (sheet : Sheet Condition) (c : Condition) → Accepted s.now work.old m sheet → Gives condition s.now work.old node c → EvaluatedAs s.now work.old work.new result (evaluate kernel sheet [] c) }
 {
-    crate::condition::evaluate(s, work, roots_of(m), Frames::new(), node, 64)
+    crate::condition::evaluate(s, work, Scope::new(roots_of(m)), node, 64)
 }

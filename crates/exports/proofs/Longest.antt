@@ -2,7 +2,7 @@
 -- Assumes nothing.
 use mathlib.Core.Bool.{Bool, false, true}
 use mathlib.Core.List.{List, [], ◌∷◌}
-use mathlib.Core.Option.{Option, none, some}
+use Rattle.std.specs.Prelude.{Option, None, Some}
 use mathlib.Core.Path.{refl, ◌≡◌}
 use Prim.Native.Nat.{suc, ℕ, ◌+◌, ◌≤◌}
 use native.Mathlib.Omega.{arith}
@@ -36,8 +36,8 @@ use Rattle.answers.specs.Outcomes.{Placed, at, eligible, first_from, guard, sele
 use Rattle.answers.specs.Reply.{fitted, line_size, or_empty, reply}
 use Rattle.decision.proofs.Calls.{of_verdict}
 use Rattle.decision.specs.Calls.{call_of, verdict_of}
-use Rattle.decision.specs.declared.call.Call.{Call}
-use Rattle.decision.specs.declared.call.Call.TheVariants as calls
+use Rattle.calling.specs.declared.Call.{Call}
+use Rattle.calling.specs.declared.Call.TheVariants as calls
 use Rattle.answers.specs.Rules.{check}
 use Rattle.answers.specs.Verdict.{Verdict, admitted, answered, passed, selected}
 use Rattle.json_text.proofs.FirstFault.{first_fault}
@@ -250,8 +250,8 @@ module _ (sheet : Sheet Condition) (k : LightSheet sheet) where
 
   maybe_light : (d : Bytes) (x : Option Bytes) → length d ≤ 98303 →
       Maybe (TextHas (Light k.written k.light) (light_parts k.written k.light)) x → length (quoted_or d x) ≤ 98303
-  maybe_light d none h n = h
-  maybe_light d (some t) h n = text_light k.written k.light n
+  maybe_light d None h n = h
+  maybe_light d (Some t) h n = text_light k.written k.light n
 
   check_fine : (kind : Rules) (i : ℕ) (rs : List (Rule Condition)) → All (LightRule k.written k.light) rs → Fine Short (check sheet kind i rs)
   unfolding check verdict_form refusal_form
@@ -305,8 +305,8 @@ module _ (sheet : Sheet Condition) (k : LightSheet sheet) where
 
   guard_fine : (w : Option Condition) → Maybe (Asserts k.written k.light) w → Fine Named (guard sheet w)
   unfolding guard
-  guard_fine none h = fine {a = certain true} (λ x m. elim m [ ])
-  guard_fine (some c) h = evaluated c h
+  guard_fine None h = fine {a = certain true} (λ x m. elim m [ ])
+  guard_fine (Some c) h = evaluated c h
 
   select_fine : (i : ℕ) (os : List (Outcome Condition)) → LightOutcomes os → Fine LightPlaced (select sheet i os)
   unfolding select refusal_form
@@ -359,7 +359,7 @@ module _ (sheet : Sheet Condition) (k : LightSheet sheet) where
   first_light test i (o ∷ os) h = go (first_light test (i + 1) os h.1) (test o)
     where
       go : Maybe LightPlaced (first_from test (i + 1) os) → (b : Bool) → Maybe {A = Placed} LightPlaced
-          (elim b [ true ↦ some (record { place = i; outcome = o }) | false ↦ first_from test (i + 1) os ])
+          (elim b [ true ↦ Some (record { place = i; outcome = o }) | false ↦ first_from test (i + 1) os ])
       go rest true = h.0
       go rest false = rest
 
@@ -370,8 +370,8 @@ module _ (sheet : Sheet Condition) (k : LightSheet sheet) where
   at_light i (suc n) (o ∷ os) h = at_light (i + 1) n os h.1
 
   or_shown : {A : Type 0} {Q : A → Type 0} (x : Option A) (r : Refusal) → Maybe Q x → Shown r → Fine Q (or_else x r)
-  or_shown none r h n = shown n
-  or_shown (some a) r h n = fine h
+  or_shown None r h n = shown n
+  or_shown (Some a) r h n = fine h
 
   admit_fine : (s : Bytes) (p : Placed) → length (quoted s) ≤ 98303 → LightPlaced p → Fine LightPlaced (admit sheet.states sheet.outcomes s p)
   unfolding admit refusal_form
@@ -443,8 +443,8 @@ module _ (sheet : Sheet Condition) (k : LightSheet sheet) where
   LightText t = length (quoted t) ≤ 98303
 
   state_light : (x : Option Bytes) → Maybe (TextHas (Light k.written k.light) (light_parts k.written k.light)) x → Maybe LightText x
-  state_light none h = tt
-  state_light (some t) h = text_light k.written k.light h
+  state_light None h = tt
+  state_light (Some t) h = text_light k.written k.light h
 
   in_state : Fine LightText (or_else sheet.state no_input)
   in_state = or_shown sheet.state no_input (state_light sheet.state k.has.state) no_input_lem
@@ -502,18 +502,18 @@ module _ (sheet : Sheet Condition) (k : LightSheet sheet) where
 
 -- ---- what is given back
 kept_short : (n m : ℕ) (f : Bytes) → length f ≤ 294975 → (b : Bool) → line_size
-    (elim b [ true ↦ record { number = m; line = some (end_line f) } | false ↦ record { number = refusal_number line_too_long; line = none } ])
+    (elim b [ true ↦ record { number = m; line = Some (end_line f) } | false ↦ record { number = refusal_number line_too_long; line = None } ])
     ≤ 294976
 kept_short n m f h true = simp length-append (omega arith)
 kept_short n m f h false = omega arith
 
 fitted_short : (n m : ℕ) (f : Option Bytes) → length (or_empty f) ≤ 294975 → line_size (fitted n m (each_line f)) ≤ 294976
-fitted_short n m none h = omega arith
-fitted_short n m (some f) h = kept_short n m f h (leb (length (end_line f)) n)
+fitted_short n m None h = omega arith
+fitted_short n m (Some f) h = kept_short n m f h (leb (length (end_line f)) n)
 
 reply_short : (n : ℕ) {x : Result Verdict} → Fine Short x → line_size (reply n x) ≤ 294976
 unfolding reply verdict_line refusal_line
-reply_short n (fine {a = v} h) = fitted_short n 0 (some (verdict_form v)) h
+reply_short n (fine {a = v} h) = fitted_short n 0 (Some (verdict_form v)) h
 reply_short n (shown {r = r} h) = fitted_short n (refusal_number r) (refusal_form r) h
 
 enough_fine : (words : ℕ) → Fine Anything (enough words)

@@ -5,7 +5,7 @@ use mathlib.Core.Bool.{Bool, false, true}
 use mathlib.Core.List.Memᴰ
 use mathlib.Core.List.{List, [], ◌++◌, ◌∷◌}
 use mathlib.Core.Logic.{inl, inr, ⊎_elim, ◌⊎◌}
-use mathlib.Core.Option.{Option, none, some}
+use Rattle.std.specs.Prelude.{Option, None, Some}
 use mathlib.Core.Path.{ap, refl, subst, sym, ◌≡◌}
 use Prim.Native.Nat.{Ordering, ℕ, ◌+◌, ◌≤◌}
 use native.Mathlib.Omega.{arith}
@@ -167,21 +167,21 @@ module _ (ts : List Bytes) (light : weight ts ≤ 98304) where
 
     id_fine : (x : Option Bytes) → Fine Any (id_of x)
     unfolding refusal_form
-    id_fine none = shown {r = no_id} (omega arith)
-    id_fine (some s) = fine tt
+    id_fine None = shown {r = no_id} (omega arith)
+    id_fine (Some s) = fine tt
 
     unbound_fine : (e name : Bytes) (ps : List Bytes) → Named (36 ∷ e) ts → Fine Any (unbound sem sheet e name ps)
     unfolding unbound
     unbound_fine e name [] h = go (find name (roots sheet)) refl
       where
-        go : (x : Option (Result (Option Value))) → find name (roots sheet) ≡ x → Fine Any (elim x [ none ↦ refused (unknown_expression (36 ∷ e)) | some r ↦ r ])
-        go none q = shown (one_shown (36 ∷ e) h)
-        go (some r) q = find_entry (Fine Any) name (roots sheet) (id_fine sheet.id, (fine tt, (fine tt, (fine tt, (fine tt, (fine tt, (fine tt, (fine tt, (fine tt, tt))))))))) q
+        go : (x : Option (Result (Option Value))) → find name (roots sheet) ≡ x → Fine Any (elim x [ None ↦ refused (unknown_expression (36 ∷ e)) | Some r ↦ r ])
+        go None q = shown (one_shown (36 ∷ e) h)
+        go (Some r) q = find_entry (Fine Any) name (roots sheet) (id_fine sheet.id, (fine tt, (fine tt, (fine tt, (fine tt, (fine tt, (fine tt, (fine tt, (fine tt, tt))))))))) q
     unbound_fine e name (p ∷ ps) h = go (find name (bases sheet))
       where
-        go : (x : Option Members) → Fine Any (elim x [ none ↦ refused (unknown_expression (36 ∷ e)) | some ms ↦ ok (below sem sheet p ps ms) ])
-        go none = shown (one_shown (36 ∷ e) h)
-        go (some ms) = fine tt
+        go : (x : Option Members) → Fine Any (elim x [ None ↦ refused (unknown_expression (36 ∷ e)) | Some ms ↦ ok (below sem sheet p ps ms) ])
+        go None = shown (one_shown (36 ∷ e) h)
+        go (Some ms) = fine tt
 
     gives_fine : (env : Env) (e : Bytes) → Named (36 ∷ e) ts → Fine Any (gives sem sheet env e)
     unfolding gives gives_parts
@@ -191,9 +191,9 @@ module _ (ts : List Bytes) (light : weight ts ≤ 98304) where
         go [] = shown (one_shown (36 ∷ e) h)
         go (name ∷ path) = by (find name env)
           where
-            by : (x : Option Value) → Fine Any (elim x [ some v ↦ ok (walk sem path v) | none ↦ unbound sem sheet e name path ])
-            by none = unbound_fine e name path h
-            by (some v) = fine tt
+            by : (x : Option Value) → Fine Any (elim x [ Some v ↦ ok (walk sem path v) | None ↦ unbound sem sheet e name path ])
+            by None = unbound_fine e name path h
+            by (Some v) = fine tt
 
     -- an operand: the names of what is missing
     abbrev Missed : {A : Type 0} → Resolved A → Type 0
@@ -201,8 +201,8 @@ module _ (ts : List Bytes) (light : weight ts ≤ 98304) where
     Missed (missing ns) = Among ts ns
 
     observed_missed : (e : Bytes) (g : Option Value) → Named (36 ∷ e) ts → Missed (observed e g)
-    observed_missed e none h = among_one h
-    observed_missed e (some v) h = go (is_null v)
+    observed_missed e None h = among_one h
+    observed_missed e (Some v) h = go (is_null v)
       where
         go : (b : Bool) → Missed {A = Value} (elim b [ true ↦ missing (one_name (36 ∷ e)) | false ↦ present v ])
         go true = among_one h
@@ -285,9 +285,9 @@ module _ (ts : List Bytes) (light : weight ts ≤ 98304) where
     over_fine m body (missing ns) h k = fine h
     over_fine m body (present v) h k = go (collection v)
       where
-        go : (x : Option (List Value)) → Fine NamesAmong (elim x [ none ↦ ok (unknown no_names) | some vs ↦ each m body vs ])
-        go none = fine among_nothing
-        go (some vs) = each_fine m body vs k
+        go : (x : Option (List Value)) → Fine NamesAmong (elim x [ None ↦ ok (unknown no_names) | Some vs ↦ each m body vs ])
+        go None = fine among_nothing
+        go (Some vs) = each_fine m body vs k
 
     mutual
       unfolding evaluate Operands

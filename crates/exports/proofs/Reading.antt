@@ -2,7 +2,7 @@
 -- Assumes nothing.
 use mathlib.Core.Bool.{Bool, false, true}
 use mathlib.Core.List.{List, [], ◌∷◌}
-use mathlib.Core.Option.{Option, none, some}
+use Rattle.std.specs.Prelude.{Option, None, Some}
 use Prim.Native.Nat.{ℕ}
 use native.Mathlib.Omega.{arith}
 use lib.Dec.{eqb}
@@ -77,15 +77,15 @@ fault_shown (fault.past {q} h k p) = go p.stands
 
 -- what a table holds under a name
 abbrev pub Maybe : {A : Type 0} → (A → Type 0) → Option A → Type 0
-Maybe P none = Unit {0}
-Maybe P (some a) = P a
+Maybe P None = Unit {0}
+Maybe P (Some a) = P a
 
 pub maybe_found : {A : Type 0} (P : A → Type 0) (k : Bytes) (xs : List (Bytes × A)) → Entries P xs → Maybe P (find k xs)
 unfolding find
 maybe_found P k [] h = tt
 maybe_found {A} P k (x ∷ xs) h = go (maybe_found P k xs h.1) (same_bytes k x.0)
   where
-    go : Maybe P (find k xs) → (b : Bool) → Maybe {A = A} P (elim b [ true ↦ some x.1 | false ↦ find k xs ])
+    go : Maybe P (find k xs) → (b : Bool) → Maybe {A = A} P (elim b [ true ↦ Some x.1 | false ↦ find k xs ])
     go rest true = h.0
     go rest false = rest
 
@@ -95,12 +95,12 @@ module _ (P : Value → Type 0) (parts : Hereditary P) where
   Sub x = P x.0 × Fine (Operands P) x.1
 
   or_shape : {A : Type 0} (Q : A → Type 0) (x : Option A) → Maybe Q x → Fine Q (or_else x wrong_shape)
-  or_shape Q none h = not_shape
-  or_shape Q (some a) h = fine h
+  or_shape Q None h = not_shape
+  or_shape Q (Some a) h = fine h
 
   any_shape : {A : Type 0} (x : Option A) → Fine Anything (or_else x wrong_shape)
-  any_shape none = not_shape
-  any_shape (some a) = fine tt
+  any_shape None = not_shape
+  any_shape (Some a) = fine tt
 
   two_fine : (f : Form) (v : Value) → P v → Fine (Operands P) (two_of f v)
   unfolding Operands
@@ -150,13 +150,13 @@ module _ (P : Value → Type 0) (parts : Hereditary P) where
       Fine (Operands P) one → Fine (OperandsIn P) several → Fine (Entries Sub) ps → (x : Option Operator) →
       Fine (Operands P) (formed v one several ps x)
   unfolding Operands
-  formed_fine v one several ps h k l n none = not_shape
-  formed_fine v one several ps h k l n (some (op_junction m)) = fine_then _ l λ cs j. fine j
-  formed_fine v one several ps h k l n (some op_negation) = fine_then _ k λ c j. fine j
-  formed_fine v one several ps h k l n (some op_exists) = fine h
-  formed_fine v one several ps h k l n (some (op_pair f)) = two_fine f v h
-  formed_fine v one several ps h k l n (some (op_quantified m)) = fine_then _ n λ qs j. quantifier_fine m qs j
-  formed_fine v one several ps h k l n (some op_not_carried) = not_carried_lem
+  formed_fine v one several ps h k l n None = not_shape
+  formed_fine v one several ps h k l n (Some (op_junction m)) = fine_then _ l λ cs j. fine j
+  formed_fine v one several ps h k l n (Some op_negation) = fine_then _ k λ c j. fine j
+  formed_fine v one several ps h k l n (Some op_exists) = fine h
+  formed_fine v one several ps h k l n (Some (op_pair f)) = two_fine f v h
+  formed_fine v one several ps h k l n (Some (op_quantified m)) = fine_then _ n λ qs j. quantifier_fine m qs j
+  formed_fine v one several ps h k l n (Some op_not_carried) = not_carried_lem
 
   mutual
     unfolding condition Operands
@@ -202,8 +202,8 @@ module _ (P : Value → Type 0) (parts : Hereditary P) where
 
   -- ---- members by their kinds
   or_sheet : {A : Type 0} (Q : A → Type 0) (x : Option A) → Maybe Q x → Fine Q (or_else x wrong_sheet)
-  or_sheet Q none h = not_sheet
-  or_sheet Q (some a) h = fine h
+  or_sheet Q None h = not_sheet
+  or_sheet Q (Some a) h = fine h
 
   only_of : (allowed ks : List Bytes) → Fine Anything (only allowed ks)
   unfolding only
@@ -261,9 +261,9 @@ module _ (P : Value → Type 0) (parts : Hereditary P) where
     optional_of : (k : Bytes) (ms : Members) → Entries P (entries ms) → Fine (Maybe Q) (optional kind k ms)
     optional_of k ms h = go (find k (entries ms)) (maybe_found P k (entries ms) h)
       where
-        go : (x : Option Value) → Maybe P x → Fine (Maybe Q) (elim x [ none ↦ ok none | some v ↦ (kind v >>= λ a. ok (some a)) ])
-        go none n = fine {a = none} tt
-        go (some v) n = fine_then _ (has v n) λ a q. fine {a = some a} q
+        go : (x : Option Value) → Maybe P x → Fine (Maybe Q) (elim x [ None ↦ ok None | Some v ↦ (kind v >>= λ a. ok (Some a)) ])
+        go None n = fine {a = None} tt
+        go (Some v) n = fine_then _ (has v n) λ a q. fine {a = Some a} q
 
     each_of_lem : (vs : List Value) → All P vs → Fine (All Q) (each_of kind vs)
     unfolding each_of
@@ -285,8 +285,8 @@ module _ (P : Value → Type 0) (parts : Hereditary P) where
     From (moves to from) = S from
 
     or_stays_lem : (x : Option Effect) → Maybe From x → From (or_stays x)
-    or_stays_lem none h = tt
-    or_stays_lem (some e) h = h
+    or_stays_lem None h = tt
+    or_stays_lem (Some e) h = h
 
     move_of : (v : Value) → P v → Fine From (a_move v)
     unfolding a_move
@@ -304,12 +304,12 @@ module _ (P : Value → Type 0) (parts : Hereditary P) where
         go : (x : Option Bytes) →
             Fine From
             (elim x [
-              | some s ↦ or_else (find s effect_words) wrong_sheet
-              | none ↦
+              | Some s ↦ or_else (find s effect_words) wrong_sheet
+              | None ↦
                   (an_object v >>= λ ms. (only (ascii "moves" ∷ []) (keys ms) >>= λ _. required a_move (ascii "moves") ms))
             ])
-        go (some s) = or_sheet From (find s effect_words) (maybe_found From s effect_words (tt, (tt, (tt, tt))))
-        go none =
+        go (Some s) = or_sheet From (find s effect_words) (maybe_found From s effect_words (tt, (tt, (tt, tt))))
+        go None =
             fine_then _ (object_of v h) λ ms k.
             fine_then _ (only_of (ascii "moves" ∷ []) (keys ms)) λ _ _.
             required_of a_move From move_of (ascii "moves") ms (parts.in_object ms k)

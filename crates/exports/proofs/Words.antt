@@ -4,10 +4,12 @@ use mathlib.Core.List.{List}
 use mathlib.Core.Path.{◌≡◌}
 use Prim.Native.Nat.{ℕ, ◌<◌, ◌≤◌}
 use native.Mathlib.Omega.{arith}
+use Rattle.decision.proofs.Calls.{of_verdict}
 use Rattle.decision.proofs.Entries.{call_small}
+use Rattle.decision.specs.Calls.{call_of, verdict_of}
+use Rattle.calling.specs.declared.Call.{Call}
 use Rattle.decision.specs.Called.{Called}
-use Rattle.answers.specs.Decide.{admit_call, decide_call, evaluate_call, invariants_call, preconditions_call, select_call}
-use Rattle.answers.specs.Entry.{Reply, admit, check_invariants, check_preconditions, decide, evaluate, select}
+use Rattle.answers.specs.Entry.{Reply}
 use Rattle.answers.specs.Reply.{line_size}
 use Rattle.writer.specs.declared.answer.Sent.{Sent}
 use Rattle.json_text.specs.Bytes.{Bytes}
@@ -17,29 +19,9 @@ use Rattle.exports.specs.Exported.{Exported, number_in, size_in, word_of}
 pub fits : {answer : Reply} {w w' : List ℕ} {o o' : Bytes} {r : Sent} → answer.number ≤ 23 → Called answer w w' o o' r → (r.number ≤ 23) × (r.size < 4294967296)
 fits small c = (rw c.is_number small, c.short)
 
-pub evaluate_small : (s : Bytes) (words size : ℕ) → (evaluate s words size).number ≤ 23
-unfolding evaluate
-evaluate_small s words size = call_small evaluate_call s words size
-
-pub preconditions_small : (s : Bytes) (words size : ℕ) → (check_preconditions s words size).number ≤ 23
-unfolding check_preconditions
-preconditions_small s words size = call_small preconditions_call s words size
-
-pub invariants_small : (s : Bytes) (words size : ℕ) → (check_invariants s words size).number ≤ 23
-unfolding check_invariants
-invariants_small s words size = call_small invariants_call s words size
-
-pub select_small : (s : Bytes) (words size : ℕ) → (select s words size).number ≤ 23
-unfolding select
-select_small s words size = call_small select_call s words size
-
-pub admit_small : (place : ℕ) (s : Bytes) (words size : ℕ) → (admit place s words size).number ≤ 23
-unfolding admit
-admit_small place s words size = call_small (λ sheet. admit_call sheet place) s words size
-
-pub decide_small : (s : Bytes) (words size : ℕ) → (decide s words size).number ≤ 23
-unfolding decide
-decide_small s words size = call_small decide_call s words size
+-- of each call
+pub small : (x : Call) (s : Bytes) (words size : ℕ) → (call_of x s words size).number ≤ 23
+small x s words size = rw of_verdict (call_small (verdict_of x) s words size)
 
 pub exported :
     {answer : Reply} {w w' : List ℕ} {o o' : Bytes} {r : Sent} {n : ℕ} → Called answer w w' o o' r → n ≡ word_of r.number r.size →

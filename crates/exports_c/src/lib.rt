@@ -1,4 +1,4 @@
-// The static library for C and Rust (include/intake.h): the calls of exports under the names that C links. A slice crosses as a pointer and a length.
+// The static library for C and Rust (include/intake.h): each call under the name that C links. A slice crosses as a pointer and a length.
 #![tactic(auto)]
 
 ghost use Rattle.std.specs.Prelude.{◌≡◌, length};
@@ -6,12 +6,17 @@ ghost use Rattle.answers.specs.Entry.{admit, check_invariants, check_preconditio
 ghost use Rattle.exports.specs.Exported.{Exported};
 ghost use Rattle.exports.specs.Version.{version};
 
+use calling::Call;
+use exports::call_word;
+
+// The six differ in their Call alone: C links each by its own name.
+
 // The truth of the sheet's condition, with its names.
 #[unsafe(no_mangle)]
 pub extern "C" fn intake_evaluate(sheet: &[u8], work: &mut [u32], out: &mut [u8]) -> u64
     ensures { Exported (evaluate sheet.now (length work.old) (length out.old)) work.old work.new out.old out.new result }
 {
-    exports::intake_evaluate(sheet, work, out)
+    call_word(sheet, work, out, Call::Evaluate)
 }
 
 // Whether the preconditions hold.
@@ -19,7 +24,7 @@ pub extern "C" fn intake_evaluate(sheet: &[u8], work: &mut [u32], out: &mut [u8]
 pub extern "C" fn intake_preconditions(sheet: &[u8], work: &mut [u32], out: &mut [u8]) -> u64
     ensures { Exported (check_preconditions sheet.now (length work.old) (length out.old)) work.old work.new out.old out.new result }
 {
-    exports::intake_preconditions(sheet, work, out)
+    call_word(sheet, work, out, Call::Preconditions)
 }
 
 // Whether the invariants hold.
@@ -27,7 +32,7 @@ pub extern "C" fn intake_preconditions(sheet: &[u8], work: &mut [u32], out: &mut
 pub extern "C" fn intake_invariants(sheet: &[u8], work: &mut [u32], out: &mut [u8]) -> u64
     ensures { Exported (check_invariants sheet.now (length work.old) (length out.old)) work.old work.new out.old out.new result }
 {
-    exports::intake_invariants(sheet, work, out)
+    call_word(sheet, work, out, Call::Invariants)
 }
 
 // The first eligible outcome whose guard holds.
@@ -35,7 +40,7 @@ pub extern "C" fn intake_invariants(sheet: &[u8], work: &mut [u32], out: &mut [u
 pub extern "C" fn intake_select(sheet: &[u8], work: &mut [u32], out: &mut [u8]) -> u64
     ensures { Exported (select sheet.now (length work.old) (length out.old)) work.old work.new out.old out.new result }
 {
-    exports::intake_select(sheet, work, out)
+    call_word(sheet, work, out, Call::Select)
 }
 
 // Whether the outcome at a place is kept in the sheet's state.
@@ -43,7 +48,7 @@ pub extern "C" fn intake_select(sheet: &[u8], work: &mut [u32], out: &mut [u8]) 
 pub extern "C" fn intake_admit(place: u64, sheet: &[u8], work: &mut [u32], out: &mut [u8]) -> u64
     ensures { Exported (admit place sheet.now (length work.old) (length out.old)) work.old work.new out.old out.new result }
 {
-    exports::intake_admit(place, sheet, work, out)
+    call_word(sheet, work, out, Call::Admit(place as usize))
 }
 
 // The whole decision: preconditions, selection, admission.
@@ -51,7 +56,7 @@ pub extern "C" fn intake_admit(place: u64, sheet: &[u8], work: &mut [u32], out: 
 pub extern "C" fn intake_decide(sheet: &[u8], work: &mut [u32], out: &mut [u8]) -> u64
     ensures { Exported (decide sheet.now (length work.old) (length out.old)) work.old work.new out.old out.new result }
 {
-    exports::intake_decide(sheet, work, out)
+    call_word(sheet, work, out, Call::Decide)
 }
 
 // The library's version.

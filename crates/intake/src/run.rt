@@ -1,14 +1,15 @@
 // What was asked, done.
-ghost use Rattle.std.specs.Prelude.{◌≡◌, ◌≤◌, length};
+ghost use Rattle.std.specs.Prelude.{IfOk, ◌≡◌, ◌≤◌, length};
 
-use crate::input::{Got, read_all, read_some};
+use crate::input::read_all;
 use crate::output::{help, print, version};
 use crate::said::{argument, complain, complain_of, failed};
-use arguments::asked::{Asked, Call, Source, Task};
+use arguments::asked::{Asked, Misuse, Task};
+use calling::Call;
 use printing::call::answer;
 use printing::lines::{answer_last, answer_lines, keep};
 use std::fs;
-use std::io::{Error, Read};
+use std::io::{self, Error, Read};
 
 // One byte more than a sheet may have: a longer input is refused as too long however it goes on.
 const MOST: usize = 32769;
@@ -16,99 +17,63 @@ const MOST: usize = 32769;
 // One call on one sheet.
 fn one<R: Read>(rt: &HostRuntime, call: Call, input: &mut R, name: &[u8]) {
     let mut sheet = [0u8; MOST];
-    let got = read_all(input, &mut sheet);
-    if let Some(error) = got.failed {
-        failed(rt, name, error);
-        return;
-    }
-    let n = got.bytes;
+    let n = match read_all(input, &mut sheet) {
+        Ok(n) => n,
+        Err(error) => return failed(rt, name, error),
+    };
     let mut work = [0u32; 16384];
     let mut out = [0u8; 65536];
     let size = answer(call, &sheet[..n], &mut work, &mut out);
     print(rt, &out[..size]);
 }
 
-// Writes the answers to the lines that have their LF, and answers how many bytes these lines have, or why a write has failed.
-fn hand_on(rt: &impl Print, input: &[u8], work: &mut [u32], out: &mut [u8]) -> Got
+// Writes the answers to the lines that have their LF, and answers how many bytes these lines have.
+fn hand_on(rt: &impl Print, input: &[u8], work: &mut [u32], out: &mut [u8]) -> io::Result<usize>
     requires { (length work.old ≡ 16384) × (65536 ≤ length out.old) }
-    ensures { result.bytes ≤ length input.now }
+    ensures { IfOk result (λ n. n ≤ length input.now) }
 {
     let mut at = 0;
+    // each turn goes on by as many bytes as were answered: no range counts these
     loop {
         let p = answer_lines(&input[at..], work, out);
-        let put = p.put;
-        if let Err(error) = rt.write_all(&out[..put]) {
-            return Got {
-                bytes: at,
-                failed: Some(error),
-            };
-        }
+        rt.write_all(&out[..p.put])?;
         at += p.used;
         if p.done {
-            return Got {
-                bytes: at,
-                failed: None,
-            };
+            return Ok(at);
         }
     }
 }
 
-// Why reading and answering ended.
+// Why reading and answering ended before the input did.
 #[derive(Clone, Copy)]
-enum End {
-    Input,
+enum Failed {
     Unread(Error),
     Unwritten(Error),
 }
 
-// What is left then: a last line without LF, or the start of an overlong one.
-#[derive(Clone, Copy)]
-struct Left {
-    bytes: usize,
-    end: End,
-}
-
-// Reads chunk after chunk behind what is left of the one before. The turns are more than any input has bytes.
+// Reads chunk after chunk behind what is left of the one before, and answers how much is left in the end: a last line without LF, or the start
+// of an overlong one. The turns are more than any input has bytes.
 fn each_chunk<R: Read>(
     rt: &impl Print,
     source: &mut R,
     input: &mut [u8],
     work: &mut [u32],
     out: &mut [u8],
-) -> Left
+) -> Result<usize, Failed>
     requires { (length input.old ≡ 65536) × ((length work.old ≡ 16384) × (length out.old ≡ 65536)) }
-    ensures { result.bytes ≤ length input.new }
+    ensures { IfOk result (λ n. n ≤ length input.new) }
 {
     let mut n = 0;
-    let mut turns: u64 = 18446744073709551615;
-    while 0 < turns {
-        let got = read_some(source, &mut input[n..]);
-        if let Some(error) = got.failed {
-            return Left {
-                bytes: 0,
-                end: End::Unread(error),
-            };
-        }
-        let more = got.bytes;
+    for _ in 0..u64::MAX {
+        let more = source.read(&mut input[n..]).map_err(Failed::Unread)?;
         if more == 0 {
             break;
         }
         let end = n + more;
-        let used = hand_on(rt, &input[..end], work, out);
-        if let Some(error) = used.failed {
-            return Left {
-                bytes: 0,
-                end: End::Unwritten(error),
-            };
-        }
-        let from = used.bytes;
-        n = keep(input, from, end);
-        turns -= 1;
+        let used = hand_on(rt, &input[..end], work, out).map_err(Failed::Unwritten)?;
+        n = keep(input, used, end);
     }
-    Left {
-        bytes: n,
-        end: End::Input,
-    }
+    Ok(n)
 }
 
 // A decision of each line.
@@ -116,13 +81,10 @@ fn lines<R: Read>(rt: &HostRuntime, source: &mut R, name: &[u8]) {
     let mut input = [0u8; 65536];
     let mut work = [0u32; 16384];
     let mut out = [0u8; 65536];
-    let left = each_chunk(rt, source, &mut input, &mut work, &mut out);
-    let n = left.bytes;
-    let end = left.end;
-    match end {
-        End::Unread(error) => failed(rt, name, error),
-        End::Unwritten(error) => failed(rt, b"standard output", error),
-        End::Input => last(rt, &input[..n], &mut work),
+    match each_chunk(rt, source, &mut input, &mut work, &mut out) {
+        Ok(n) => last(rt, &input[..n], &mut work),
+        Err(Failed::Unread(error)) => failed(rt, name, error),
+        Err(Failed::Unwritten(error)) => failed(rt, b"standard output", error),
     }
 }
 
@@ -160,29 +122,37 @@ fn run_file(rt: &HostRuntime, task: Task, place: usize) {
     }
 }
 
-fn run_task(rt: &HostRuntime, task: Task, source: Source) {
-    match source {
-        Source::Input => run_on(rt, task, &mut rt.stdin(), b"standard input"),
-        Source::Named(place) => run_file(rt, task, place),
+// What is done on the file that an argument names, or on standard input.
+fn run_task(rt: &HostRuntime, task: Task, file: Option<usize>) {
+    match file {
+        None => run_on(rt, task, &mut rt.stdin(), b"standard input"),
+        Some(place) => run_file(rt, task, place),
     }
 }
 
-pub fn run(rt: &HostRuntime, asked: Asked) {
-    match asked {
-        Asked::Run(task, source) => run_task(rt, task, source),
-        Asked::Help => help(rt),
-        Asked::Version => version(rt),
-        Asked::UnknownOption => complain_of(
+// What is said of arguments that ask nothing.
+fn misused(rt: &HostRuntime, why: Misuse) {
+    match why {
+        Misuse::UnknownOption => complain_of(
             rt,
             0,
             b"no such option; intake --help says which there are",
         ),
-        Asked::NoPlace => complain_of(rt, 0, b"the place is missing"),
-        Asked::WrongPlace => complain_of(
+        Misuse::NoPlace => complain_of(rt, 0, b"the place is missing"),
+        Misuse::WrongPlace => complain_of(
             rt,
             1,
             b"a place is plain digits below 2^64, without a zero in front",
         ),
-        Asked::Further(place) => complain_of(rt, place, b"one argument too many"),
+        Misuse::Further(place) => complain_of(rt, place, b"one argument too many"),
+    }
+}
+
+pub fn run(rt: &HostRuntime, asked: Result<Asked, Misuse>) {
+    match asked {
+        Ok(Asked::Run(task, file)) => run_task(rt, task, file),
+        Ok(Asked::Help) => help(rt),
+        Ok(Asked::Version) => version(rt),
+        Err(why) => misused(rt, why),
     }
 }

@@ -10,6 +10,7 @@ pub fn argument(rt: &impl Env, place: usize, buf: &mut [u8]) -> Option<usize>
     ensures { IfSome result (λ n. n ≤ length buf.new) }
 {
     match rt.arg(place.wrapping_add(1), buf) {
+        // 0 bytes and no case of its own: how many arguments there are is asked apart
         Ok(n) => Some(n),
         Err(FillError::TooLong) => None,
         Err(FillError::NotPresent) => Some(0),
@@ -26,14 +27,12 @@ fn is_there(rt: &impl Env, place: usize) -> bool {
 
 // How many arguments stand behind the program's name.
 pub fn count(rt: &impl Env) -> usize {
-    let mut n: usize = 0;
-    while n < usize::MAX {
+    for n in 0..usize::MAX {
         if !is_there(rt, n) {
-            break;
+            return n;
         }
-        n += 1;
     }
-    n
+    usize::MAX
 }
 
 // A write that fails here is said nowhere.

@@ -2,7 +2,7 @@
 -- Assumes nothing.
 use mathlib.Core.Bool.{Bool, false, true}
 use mathlib.Core.List.{List, [], ◌++◌, ◌∷◌}
-use mathlib.Core.Option.{Option, none, some}
+use Rattle.std.specs.Prelude.{Option, None, Some}
 use mathlib.Core.Path.{ap, refl, subst, sym, ◌∙◌, ◌≡◌}
 use Prim.Native.Nat.{suc, zero, ℕ, ◌+◌, ◌-◌, ◌<◌, ◌≤◌}
 use native.Mathlib.Numerals.{add-one}
@@ -261,8 +261,8 @@ sep_view end s k z = go (drop k s) (get_or s k 0) (at_view s k)
     go t c (outside h) = rw (z, choose) fails
 
 pub data ClosedView (s : Bytes) (k : ℕ) : Option Bytes → Bool → Type 0 where
-  is_shut : k < length s → ClosedView s k (some (drop (k + 1) s)) true
-  is_open : ClosedView s k none false
+  is_shut : k < length s → ClosedView s k (Some (drop (k + 1) s)) true
+  is_open : ClosedView s k None false
 
 closed_view : (end : ℕ) (s : Bytes) (k : ℕ) → eqb 0 end ≡ false → ClosedView s k (Reader.is_closed end (drop k s)) (eqb (get_or s k 0) end)
 closed_view end s k z = go (drop k s) (get_or s k 0) (at_view s k)
@@ -495,8 +495,8 @@ module _ (s : Bytes) (left : ℕ) (val : Reader.Parser Value) (vat : Placer Node
   abbrev ArrayBody : Bytes → ℕ → Option Bytes → Result (Parsed Value)
   ArrayBody t m o =
       elim o [
-        | some w ↦ ok (record { tree = array nil; rest = skip w; count = m })
-        | none ↦
+        | Some w ↦ ok (record { tree = array nil; rest = skip w; count = m })
+        | None ↦
             (Reader.items val (length t) m (skip t) >>= λ vs. ok (record { tree = array vs.tree; rest = vs.rest; count = vs.count }))
       ]
 
@@ -512,8 +512,8 @@ module _ (s : Bytes) (left : ℕ) (val : Reader.Parser Value) (vat : Placer Node
   abbrev ObjectBody : Bytes → ℕ → Option Bytes → Result (Parsed Value)
   ObjectBody t m o =
       elim o [
-        | some w ↦ ok (record { tree = object empty; rest = skip w; count = m })
-        | none ↦
+        | Some w ↦ ok (record { tree = object empty; rest = skip w; count = m })
+        | None ↦
             (Reader.fields val (length t) [] m (skip t) >>= λ ms. ok
             (record { tree = object ms.tree; rest = ms.rest; count = ms.count }))
       ]

@@ -3,7 +3,7 @@
 use mathlib.Core.Bool.{Bool, false, false≢true, true, true≢false}
 use mathlib.Core.List.{[], ◌++◌, ◌∷◌}
 use mathlib.Core.Logic.{inl, inr, ◌≢◌}
-use mathlib.Core.Option.{none, some}
+use Rattle.std.specs.Prelude.{None, Some}
 use mathlib.Core.Path.{refl, subst, sym, ◌∙◌, ◌≡◌}
 use Prim.Native.Nat.{suc, zero, ℕ, ◌≤◌}
 use native.Mathlib.Omega.{arith}
@@ -79,16 +79,16 @@ digit_ascii c n = go (digit_view c) n
     go (v_e (inr e)) h = rw e refl
     go v_other h = absurd (h refl)
 
-pub hex_ascii : (c d : ℕ) → hex_digit c ≡ some d → is_ascii c ≡ true
+pub hex_ascii : (c d : ℕ) → hex_digit c ≡ Some d → is_ascii c ≡ true
 hex_ascii c d e =
     ascii_unless c λ h. absurd
     (none_is_some
     (sym (rw (outside 48 57 c h (omega arith), outside 65 70 c h (omega arith), outside 97 102 c h (omega arith), choose) refl) ∙ e))
   where
-    none_is_some : none ≡ some d → ⊥
+    none_is_some : None ≡ Some d → ⊥
     none_is_some p = let z : ◌≡◌ {A = Bool} true false = cc in true≢false z
 
-pub simple_ascii : (c d : ℕ) → simple_escape c ≡ some d → is_ascii c ≡ true
+pub simple_ascii : (c d : ℕ) → simple_escape c ≡ Some d → is_ascii c ≡ true
 simple_ascii c d e =
     ascii_unless c λ h. absurd
     (none_is_some
@@ -107,7 +107,7 @@ simple_ascii c d e =
     ) refl) ∙
     e))
   where
-    none_is_some : none ≡ some d → ⊥
+    none_is_some : None ≡ Some d → ⊥
     none_is_some p = let z : ◌≡◌ {A = Bool} true false = cc in true≢false z
 
 pub start_ascii : (c : ℕ) → start c ≢ start_nothing → is_ascii c ≡ true

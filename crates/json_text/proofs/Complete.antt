@@ -3,7 +3,7 @@
 use mathlib.Core.Bool.{Bool, false, false≢true, not, true, true≢false, ◌&&◌, ◌||◌}
 use mathlib.Core.List.{List, [], ◌++◌, ◌∷◌}
 use mathlib.Core.Logic.{inl, inr, ◌↔◌, ◌⊎◌}
-use mathlib.Core.Option.{none, some}
+use Rattle.std.specs.Prelude.{None, Some}
 use mathlib.Core.Path.{ap, refl, subst, sym, ◌∙◌, ◌≡◌}
 use Prim.Native.Nat.{suc, zero, ℕ, ◌*◌, ◌+◌, ◌-◌, ◌<◌, ◌≤◌}
 use native.Mathlib.Omega.{arith}
@@ -187,7 +187,7 @@ high_half_complete : (high low : ℕ) (u r : Bytes) → Hex 4 0 low u r → betw
 unfolding high_half
 high_half_complete high low u r h b = bind_ok (low_half high) (hex_complete h) ∙ low_half_complete high low r b
 
-not_simple : (c : ℕ) → c ≡ 117 → simple_escape c ≡ none
+not_simple : (c : ℕ) → c ≡ 117 → simple_escape c ≡ None
 not_simple c e = rw e refl
 
 pub escape_complete : {x s r : Bytes} → Escape x s r → escape s ≡ ok (record { got = x; rest = r })
@@ -717,16 +717,16 @@ module _ {C D : Refusal → Type 0} {p : Parsed Members} (val : Reader.Parser Va
 abbrev ArrayBody : Reader.Parser Value → ℕ → ℕ → Bytes → Result (Parsed Value)
 ArrayBody val f m x =
     elim (Reader.is_closed 93 x) [
-      | some w ↦ ok (record { tree = array nil; rest = skip w; count = m })
-      | none ↦
+      | Some w ↦ ok (record { tree = array nil; rest = skip w; count = m })
+      | None ↦
           (Reader.items val f m x >>= λ vs. ok (record { tree = array vs.tree; rest = vs.rest; count = vs.count }))
     ]
 
 abbrev ObjectBody : Reader.Parser Value → ℕ → ℕ → Bytes → Result (Parsed Value)
 ObjectBody val f m x =
     elim (Reader.is_closed 125 x) [
-      | some w ↦ ok (record { tree = object empty; rest = skip w; count = m })
-      | none ↦
+      | Some w ↦ ok (record { tree = object empty; rest = skip w; count = m })
+      | None ↦
           (Reader.fields val f [] m x >>= λ ms. ok (record { tree = object ms.tree; rest = ms.rest; count = ms.count }))
     ]
 
@@ -746,16 +746,16 @@ too_deep_lem : (n : ℕ) (t : Bytes) → (Reader.value 0 n (91 ∷ t) ≡ refuse
 unfolding Reader.value
 too_deep_lem n t = (refl, refl)
 
-not_closed : (end c : ℕ) (s : Bytes) → eqb c end ≡ false → Reader.is_closed end (c ∷ s) ≡ none
+not_closed : (end c : ℕ) (s : Bytes) → eqb c end ≡ false → Reader.is_closed end (c ∷ s) ≡ None
 not_closed end c s e = rw (e, Reader.is_closed) refl
 
 array_items : {C : Refusal → Type 0} (val : Reader.Parser Value) (f m : ℕ) (x : Bytes) (q : Parsed Values) → Reader.is_closed 93 x ≡
-    none → Why (Reader.items val f m x) q C → Why (ArrayBody val f m x)
+    None → Why (Reader.items val f m x) q C → Why (ArrayBody val f m x)
     (record { tree = array q.tree; rest = q.rest; count = q.count }) C
 array_items val f m x q e g = rw (e, ArrayBody) (why_bind _ g (λ r c. c) (reads refl))
 
 object_fields : {C : Refusal → Type 0} (val : Reader.Parser Value) (f m : ℕ) (x : Bytes) (q : Parsed Members) → Reader.is_closed 125 x ≡
-    none → Why (Reader.fields val f [] m x) q C → Why (ObjectBody val f m x)
+    None → Why (Reader.fields val f [] m x) q C → Why (ObjectBody val f m x)
     (record { tree = object q.tree; rest = q.rest; count = q.count }) C
 object_fields val f m x q e g = rw (e, ObjectBody) (why_bind _ g (λ r c. c) (reads refl))
 

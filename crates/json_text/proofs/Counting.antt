@@ -3,7 +3,7 @@
 use mathlib.Core.Bool.{Bool, false, false≢true, true, true≢false}
 use mathlib.Core.List.{append_assoc, [], ◌++◌, ◌∷◌}
 use mathlib.Core.Logic.{inl, inr}
-use mathlib.Core.Option.{none, some}
+use Rattle.std.specs.Prelude.{None, Some}
 use mathlib.Core.Path.{ap, refl, subst, sym, ◌∙◌, ◌≡◌}
 use Prim.Native.Nat.{ℕ, ◌+◌, ◌-◌, ◌≤◌}
 use native.Mathlib.Omega.{arith}
@@ -125,7 +125,7 @@ structural_counted {c} n d e h p q m b i (structural {t = t} x y) =
 quoted_byte : (n d c : ℕ) → eqb c 34 ≡ false → eqb c 92 ≡ false → further (tally n d Tally.quoted) c ≡ tally n d Tally.quoted
 quoted_byte n d c p q = rw (p, q, choose) refl
 
-none_some : {d : ℕ} → none ≡ some d → ⊥
+none_some : {d : ℕ} → None ≡ Some d → ⊥
 none_some e = let z : ◌≡◌ {A = Bool} true false = cc in true≢false z
 
 -- what stands in front of a rest, and what has been counted behind it
@@ -159,8 +159,8 @@ hex_over : {k u v : ℕ} {s r : Bytes} (n d : ℕ) → Hex k u v s r → Over (t
 hex_over n d no_hex = over_none
 hex_over n d (one_hex {d = x} {c} e k) = over_byte (quoted_byte n d c (not_at 34 λ i. none_some i) (not_at 92 λ i. none_some i)) (hex_over n d k)
   where
-    not_at : (b : ℕ) → (hex_digit b ≡ some x → ⊥) → eqb c b ≡ false
-    not_at b f = eqb_false c b λ i. f (subst (λ (y : ℕ). hex_digit y ≡ some x) i e)
+    not_at : (b : ℕ) → (hex_digit b ≡ Some x → ⊥) → eqb c b ≡ false
+    not_at b f = eqb_false c b λ i. f (subst (λ (y : ℕ). hex_digit y ≡ Some x) i e)
 
 escape_over : {y s t : Bytes} (n d : ℕ) → Escape y s t → Over (tally n d Tally.escaped) s t (tally n d Tally.quoted)
 escape_over n d (simple e) = over_byte refl over_none

@@ -3,7 +3,7 @@
 use mathlib.Core.Bool.{Bool, false, false≢true, true, true≢false, ◌&&◌}
 use mathlib.Core.List.{List, [], ◌∷◌}
 use mathlib.Core.Logic.{◌≢◌}
-use mathlib.Core.Option.{none, some}
+use Rattle.std.specs.Prelude.{None, Some}
 use mathlib.Core.Path.{ap, refl, subst, sym, ◌∙◌, ◌≡◌}
 use Prim.Native.Nat.{Ordering, compare, ℕ, ◌<◌, ◌≤◌}
 use lib.Dec.{T, eqb, eqb_refl, eqb→eq, compare_is_eq, leb, le→leb, ltb, lt→ltb}
@@ -71,21 +71,21 @@ abbrev pub names_of : {A : Type 0} → List (Bytes × A) → List Bytes
 names_of [] = []
 names_of (x ∷ xs) = x.0 ∷ names_of xs
 
-pub find_none : {A : Type 0} (k : Bytes) (xs : List (Bytes × A)) → is_one_of k (names_of xs) ≡ false → find k xs ≡ none
+pub find_none : {A : Type 0} (k : Bytes) (xs : List (Bytes × A)) → is_one_of k (names_of xs) ≡ false → find k xs ≡ None
 unfolding find is_one_of
 find_none k [] e = refl
 find_none {A} k (x ∷ xs) e = go (λ h. find_none k xs h) (same_bytes k x.0) refl
   where
-    go : (is_one_of k (names_of xs) ≡ false → find k xs ≡ none) → (b : Bool) → same_bytes k x.0 ≡ b → find k (x ∷ xs) ≡ none
+    go : (is_one_of k (names_of xs) ≡ false → find k xs ≡ None) → (b : Bool) → same_bytes k x.0 ≡ b → find k (x ∷ xs) ≡ None
     go below true q = absurd (true≢false (rw (q, is_one_of) at e))
     go below false q = rw (q, find) (below (rw (q, is_one_of) at e))
 
-pub find_some : {A : Type 0} (k : Bytes) (xs : List (Bytes × A)) → is_one_of k (names_of xs) ≡ true → (a : A) × (find k xs ≡ some a)
+pub find_some : {A : Type 0} (k : Bytes) (xs : List (Bytes × A)) → is_one_of k (names_of xs) ≡ true → (a : A) × (find k xs ≡ Some a)
 unfolding find is_one_of
 find_some k [] e = absurd (false≢true e)
 find_some {A} k (x ∷ xs) e = go (λ h. find_some k xs h) (same_bytes k x.0) refl
   where
-    go : (is_one_of k (names_of xs) ≡ true → (a : A) × (find k xs ≡ some a)) → (b : Bool) → same_bytes k x.0 ≡ b → (a : A) × (find k (x ∷ xs) ≡ some a)
+    go : (is_one_of k (names_of xs) ≡ true → (a : A) × (find k xs ≡ Some a)) → (b : Bool) → same_bytes k x.0 ≡ b → (a : A) × (find k (x ∷ xs) ≡ Some a)
     go below true q = (x.1, rw (q, find) refl)
     go below false q = let r = below (rw (q, is_one_of) at e) in (r.0, rw (q, find) r.1)
 

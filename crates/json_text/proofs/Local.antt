@@ -3,7 +3,7 @@
 use mathlib.Core.Bool.{Bool, false, false≢true, true}
 use mathlib.Core.List.{List, append_assoc, append-nil, [], ◌++◌, ◌∷◌}
 use mathlib.Core.Logic.{inl, inr, ◌⊎◌, ◌≢◌}
-use mathlib.Core.Option.{Option, none, some}
+use Rattle.std.specs.Prelude.{Option, None, Some}
 use mathlib.Core.Path.{ap, refl, subst, sym, ◌∙◌, ◌≡◌}
 use Prim.Native.Nat.{suc, zero, ℕ, ◌+◌, ◌-◌, ◌≤◌}
 use native.Mathlib.Omega.{arith}
@@ -157,8 +157,8 @@ module _ (left : ℕ) (val : Parser Value) (vlocal : ValueLocal left val) (vsoun
 abbrev Entered : {L : Type 0} → Value → (L → Value) → ℕ → Result (Parsed L) → Option Bytes → Result (Parsed Value)
 Entered none_in wrap m x o =
     elim o [
-      | some t ↦ ok (record { tree = none_in; rest = skip t; count = m })
-      | none ↦
+      | Some t ↦ ok (record { tree = none_in; rest = skip t; count = m })
+      | None ↦
           (x >>= λ l. ok (record { tree = wrap l.tree; rest = l.rest; count = l.count }))
     ]
 

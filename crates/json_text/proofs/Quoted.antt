@@ -2,7 +2,7 @@
 -- Assumes nothing.
 use mathlib.Core.Bool.{Bool, false, false≢true, not, true, true≢false}
 use mathlib.Core.List.{append-nil, [], ◌++◌, ◌∷◌}
-use mathlib.Core.Option.{Option, none, some}
+use Rattle.std.specs.Prelude.{Option, None, Some}
 use mathlib.Core.Path.{ap, refl, subst, sym, ◌∙◌, ◌≡◌}
 use Prim.Native.Nat.{suc, zero, ℕ, ◌*◌, ◌+◌, ◌-◌, ◌≤◌}
 use native.Mathlib.Omega.{arith}
@@ -56,13 +56,13 @@ pub highest_mono : (n a b : ℕ) → a ≤ b → highest n a ≤ highest n b
 highest_mono zero a b h = h
 highest_mono (suc n) a b h = highest_mono n (a * 16 + 15) (b * 16 + 15) (omega arith)
 
-some_same : {a b : ℕ} → some a ≡ some b → a ≡ b
+some_same : {a b : ℕ} → Some a ≡ Some b → a ≡ b
 some_same e = cc
 
-none_some : {d : ℕ} {X : Type 0} → none ≡ some d → X
+none_some : {d : ℕ} {X : Type 0} → None ≡ Some d → X
 none_some e = let z : ◌≡◌ {A = Bool} true false = cc in absurd (true≢false z)
 
-pub hex_digit_small : (c d : ℕ) → hex_digit c ≡ some d → d ≤ 15
+pub hex_digit_small : (c d : ℕ) → hex_digit c ≡ Some d → d ≤ 15
 hex_digit_small c d e = go (between 48 57 c) (between 65 70 c) (between 97 102 c) refl refl refl
   where
     go : (a b h : Bool) → between 48 57 c ≡ a → between 65 70 c ≡ b → between 97 102 c ≡ h → d ≤ 15
@@ -82,8 +82,8 @@ hex_dead f (suc n) u h (c ∷ t) = go (λ d k. hex_dead f n (u * 16 + d) k t) (h
   where
     go : ((d : ℕ) → ((v : ℕ) (r : Bytes) → lowest n (u * 16 + d) ≤ v → v ≤ highest n (u * 16 + d) → f (read_of v r) ≡ refused not_json) →
         (hex n (u * 16 + d) t >>= f) ≡ refused not_json) → (o : Option ℕ) → hex_digit c ≡ o → (hex (suc n) u (c ∷ t) >>= f) ≡ refused not_json
-    go below none q = rw (q, hex) refl
-    go below (some d) q =
+    go below None q = rw (q, hex) refl
+    go below (Some d) q =
         rw (q, hex) (below d λ v r a b.
         h v r (omega (arith, lowest_mono n (u * 16 + 0) (u * 16 + d) (omega arith))) (omega (arith, highest_mono n (u * 16 + d) (u * 16 + 15) (omega (arith, hex_digit_small c d q)))))
 
@@ -107,7 +107,7 @@ module _ (f : Read ℕ → Result (Read Bytes)) (Then : ℕ → Bytes → Bytes 
   hex_local st alive k (suc n) u l a [] = cut refl (k.opens (suc n) u l a)
   hex_local st alive k (suc n) u l a (c ∷ s) = go (λ d e. hex_local (further st c) alive k n (u * 16 + d) (omega arith) e s) (hex_digit c) refl
     where
-      digit : (d : ℕ) → hex_digit c ≡ some d → (alive n (u * 16 + d) ≡ true → HexLocal (further st c) n (u * 16 + d) s) → (b : Bool) →
+      digit : (d : ℕ) → hex_digit c ≡ Some d → (alive n (u * 16 + d) ≡ true → HexLocal (further st c) n (u * 16 + d) s) → (b : Bool) →
           alive n (u * 16 + d) ≡ b → HexLocal st (suc n) u (c ∷ s)
       digit d q below true e =
           step c s (hex_ascii c d q) (λ x. rw (q, hex) refl)
@@ -118,8 +118,8 @@ module _ (f : Read ℕ → Result (Read Bytes)) (Then : ℕ → Bytes → Bytes 
           (k.opens (suc n) u l a) dead
 
       go : ((d : ℕ) → alive n (u * 16 + d) ≡ true → HexLocal (further st c) n (u * 16 + d) s) → (o : Option ℕ) → hex_digit c ≡ o → HexLocal st (suc n) u (c ∷ s)
-      go below none q = stopped not_json c s (λ x. rw (q, hex) refl) early (k.opens (suc n) u l a) dead
-      go below (some d) q = digit d q (below d) (alive n (u * 16 + d)) refl
+      go below None q = stopped not_json c s (λ x. rw (q, hex) refl) early (k.opens (suc n) u l a) dead
+      go below (Some d) q = digit d q (below d) (alive n (u * 16 + d)) refl
 
 -- the second half of a pair: it must come to lie from DC00 to DFFF
 abbrev LowThen : ℕ → ℕ → Bytes → Bytes → Bytes → Type 0
@@ -286,7 +286,7 @@ unfolding escape unicode
 escape_local st [] = cut refl escape_opens
 escape_local st (c ∷ s) = go (simple_escape c) refl
   where
-    is_u : (b : Bool) → eqb c 117 ≡ b → simple_escape c ≡ none → Outcome st read_of escape (Either (Completes Escape)) (Takes Escape) (c ∷ s)
+    is_u : (b : Bool) → eqb c 117 ≡ b → simple_escape c ≡ None → Outcome st read_of escape (Either (Completes Escape)) (Takes Escape) (c ∷ s)
     is_u true p q =
         subst (λ (d : ℕ). Outcome st read_of escape (Either (Completes Escape)) (Takes Escape) (d ∷ s)) (sym (eqb_true c 117 p))
         (step 117 s refl (λ x. refl)
@@ -295,8 +295,8 @@ escape_local st (c ∷ s) = go (simple_escape c) refl
     is_u false p q = stopped not_json c s (λ x. rw (q, escape, p) refl) early escape_opens dead
 
     go : (o : Option ℕ) → simple_escape c ≡ o → Outcome st read_of escape (Either (Completes Escape)) (Takes Escape) (c ∷ s)
-    go (some d) q = step c s (simple_ascii c d q) (λ x. rw (q, escape) refl) (done (d ∷ []) s (λ r. simple q))
-    go none q = is_u (eqb c 117) refl q
+    go (Some d) q = step c s (simple_ascii c d q) (λ x. rw (q, escape) refl) (done (d ∷ []) s (λ r. simple q))
+    go None q = is_u (eqb c 117) refl q
 
 -- strings, with as many steps as there are bytes; more make no difference
 abbrev pub chars_of : Bytes → Result (Read Bytes)

@@ -3,7 +3,7 @@
 use mathlib.Core.Bool.{Bool, false, false≢true, not, true, true≢false, ◌&&◌}
 use mathlib.Core.List.{List, [], ◌++◌, ◌∷◌}
 use mathlib.Core.Logic.{inl, inr, ◌⊎◌}
-use mathlib.Core.Option.{Option, none, some}
+use Rattle.std.specs.Prelude.{Option, None, Some}
 use mathlib.Core.Path.{ap, refl, subst, sym, ◌∙◌, ◌≡◌}
 use Prim.Native.Nat.{suc, zero, ℕ, ◌*◌, ◌+◌, ◌-◌, ◌<◌, ◌≤◌}
 use native.Mathlib.Omega.{arith}
@@ -135,8 +135,8 @@ hex_sound (suc n) u [] x e = not_ok not_json e
 hex_sound (suc n) u (c ∷ s) x e = go (λ v h. hex_sound n v s x h) (hex_digit c) refl
   where
     go : ((v : ℕ) → hex n v s ≡ ok x → Hex n v x.got s x.rest) → (o : Option ℕ) → hex_digit c ≡ o → Hex (suc n) u x.got (c ∷ s) x.rest
-    go below none q = not_ok not_json (rw (q, hex) at e)
-    go below (some d) q = one_hex q (below (u * 16 + d) (rw (q, hex) at e))
+    go below None q = not_ok not_json (rw (q, hex) at e)
+    go below (Some d) q = one_hex q (below (u * 16 + d) (rw (q, hex) at e))
 
 -- tests of numbers as facts
 pub leb_le : {m n : ℕ} → leb m n ≡ true → m ≤ n
@@ -232,15 +232,15 @@ unfolding escape unicode
 escape_sound [] x e = not_ok not_json e
 escape_sound (c ∷ s) x e = go (simple_escape c) refl
   where
-    is_u : (b : Bool) → eqb c 117 ≡ b → simple_escape c ≡ none → Escape x.got (c ∷ s) x.rest
+    is_u : (b : Bool) → eqb c 117 ≡ b → simple_escape c ≡ None → Escape x.got (c ∷ s) x.rest
     is_u true p q =
         let u = bind_inv (hex 4 0 s) of_unit (rw (q, escape, p) at e) in
         of_unit_sound c s u.0 x (eqb_true c 117 p) (hex_sound 4 0 s u.0 u.1) u.2
     is_u false p q = not_ok not_json (rw (q, escape, p) at e)
 
     go : (o : Option ℕ) → simple_escape c ≡ o → Escape x.got (c ∷ s) x.rest
-    go (some d) q = subst (λ (y : Read Bytes). Escape y.got (c ∷ s) y.rest) (ok_injective (rw (q, escape) at e)) (simple q)
-    go none q = is_u (eqb c 117) refl q
+    go (Some d) q = subst (λ (y : Read Bytes). Escape y.got (c ∷ s) y.rest) (ok_injective (rw (q, escape) at e)) (simple q)
+    go None q = is_u (eqb c 117) refl q
 
 pub data CharView (c : ℕ) : Strings.Char → Type 0 where
   is_quote : c ≡ 34 → CharView c quote
@@ -545,7 +545,7 @@ next_view end (c ∷ s) = go (eqb c 44) (eqb c end) refl refl
     go false true p q = rw (p, q, choose) (ends (ap (λ (x : ℕ). x ∷ s) (eqb_true c end q)))
     go false false p q = rw (p, q, choose) fails
 
-closed_sound : (end : ℕ) (s t : Bytes) → Reader.is_closed end s ≡ some t → s ≡ end ∷ t
+closed_sound : (end : ℕ) (s t : Bytes) → Reader.is_closed end s ≡ Some t → s ≡ end ∷ t
 closed_sound end [] t e = let z : ◌≡◌ {A = Bool} true false = cc in absurd (true≢false z)
 closed_sound end (c ∷ s) t e = go (eqb c end) refl
   where
@@ -781,12 +781,12 @@ array_sound left val vsound n c s p q e = bind_with (Reader.one_node n) _ e λ m
         (m ≤ Limits.max_nodes) → (o : Option Bytes) → Reader.is_closed 93 (skip s) ≡
         o →
         (elim o [
-          | some t ↦ ok (record { tree = array nil; rest = skip t; count = m })
-          | none ↦
+          | Some t ↦ ok (record { tree = array nil; rest = skip t; count = m })
+          | None ↦
               (Reader.items val (length s) m (skip s) >>= λ vs. ok
               (record { tree = array vs.tree; rest = vs.rest; count = vs.count }))
         ]) ≡ ok p → ValueRead (suc left) n (c ∷ s) p
-    by m b (some t) i g =
+    by m b (Some t) i g =
         read (ok_injective g)
         (record {
           to = skip t;
@@ -797,7 +797,7 @@ array_sound left val vsound n c s p q e = bind_with (Reader.one_node n) _ e λ m
           deep = omega arith;
           is_tidy = refl;
         })
-    by m b none i g =
+    by m b None i g =
         bind_with (Reader.items val (length s) m (skip s)) _ g λ vs f j.
         let l = items_sound left val vsound (length s) m (skip s) vs f in
         read (ok_injective j)
@@ -825,12 +825,12 @@ object_sound left val vsound n c s p q e = bind_with (Reader.one_node n) _ e λ 
         (m ≤ Limits.max_nodes) → (o : Option Bytes) → Reader.is_closed 125 (skip s) ≡
         o →
         (elim o [
-          | some t ↦ ok (record { tree = object empty; rest = skip t; count = m })
-          | none ↦
+          | Some t ↦ ok (record { tree = object empty; rest = skip t; count = m })
+          | None ↦
               (Reader.fields val (length s) [] m (skip s) >>= λ ms. ok
               (record { tree = object ms.tree; rest = ms.rest; count = ms.count }))
         ]) ≡ ok p → ValueRead (suc left) n (c ∷ s) p
-    by m b (some t) i g =
+    by m b (Some t) i g =
         read (ok_injective g)
         (record {
           to = skip t;
@@ -841,7 +841,7 @@ object_sound left val vsound n c s p q e = bind_with (Reader.one_node n) _ e λ 
           deep = omega arith;
           is_tidy = refl;
         })
-    by m b none i g =
+    by m b None i g =
         bind_with (Reader.fields val (length s) [] m (skip s)) _ g λ ms f j.
         let l = fields_sound left val vsound (length s) [] m (skip s) ms f in
         read (ok_injective j)

@@ -2,7 +2,7 @@
 -- Assumes nothing.
 use mathlib.Core.Bool.{Bool, false, true}
 use mathlib.Core.List.{[], ◌++◌, ◌∷◌}
-use mathlib.Core.Option.{Option, none, some}
+use Rattle.std.specs.Prelude.{Option, None, Some}
 use mathlib.Core.Path.{ap, refl, subst, sym, ◌∙◌, ◌≡◌}
 use Prim.Native.Nat.{ℕ, ◌+◌, ◌-◌, ◌<◌, ◌≤◌}
 use native.Mathlib.Nat.{add-zero}
@@ -29,16 +29,16 @@ use Rattle.json_text.specs.Utf8.{encode}
 abbrev pub in_bytes : Read ℕ → Result (Read Bytes)
 in_bytes u = ok (record { got = encode u.got; rest = u.rest })
 
-simple_byte : (c d : ℕ) → simple_escape c ≡ some d → encode d ≡ d ∷ []
+simple_byte : (c d : ℕ) → simple_escape c ≡ Some d → encode d ≡ d ∷ []
 unfolding encode
 simple_byte c d e = go (eqb c 34) (eqb c 92) (eqb c 47) (eqb c 98) (eqb c 102) (eqb c 110) (eqb c 114) (eqb c 116) e
   where
-    is : (k : ℕ) → ◌≡◌ {A = Option ℕ} (some k) (some d) → encode k ≡ k ∷ [] → encode d ≡ d ∷ []
+    is : (k : ℕ) → ◌≡◌ {A = Option ℕ} (Some k) (Some d) → encode k ≡ k ∷ [] → encode d ≡ d ∷ []
     is k q r = let z : k ≡ d = cc in subst (λ (x : ℕ). encode x ≡ x ∷ []) z r
 
     go : (a b f g h i j k : Bool) →
-        choose ((a, some 34) ∷ (b, some 92) ∷ (f, some 47) ∷ (g, some 8) ∷ (h, some 12) ∷ (i, some 10) ∷ (j, some 13) ∷ (k, some 9) ∷ [])
-        none ≡ some d → encode d ≡ d ∷ []
+        choose ((a, Some 34) ∷ (b, Some 92) ∷ (f, Some 47) ∷ (g, Some 8) ∷ (h, Some 12) ∷ (i, Some 10) ∷ (j, Some 13) ∷ (k, Some 9) ∷ [])
+        None ≡ Some d → encode d ≡ d ∷ []
     go true b f g h i j k q = is 34 q refl
     go false true f g h i j k q = is 92 q refl
     go false false true g h i j k q = is 47 q refl
@@ -88,13 +88,13 @@ escape_is (c ∷ s) = go (simple_escape c) refl
     by (ok u) = of_unit_is u
     by (refused r) = refl
 
-    is_u : (b : Bool) → eqb c 117 ≡ b → simple_escape c ≡ none → escape (c ∷ s) ≡ (escaped (c ∷ s) >>= in_bytes)
+    is_u : (b : Bool) → eqb c 117 ≡ b → simple_escape c ≡ None → escape (c ∷ s) ≡ (escaped (c ∷ s) >>= in_bytes)
     is_u true q e = rw (e, escape, escaped, q) (by (hex 4 0 s))
     is_u false q e = rw (e, escape, escaped, q)
 
     go : (o : Option ℕ) → simple_escape c ≡ o → escape (c ∷ s) ≡ (escaped (c ∷ s) >>= in_bytes)
-    go (some d) e = rw (e, escape, escaped, simple_byte c d e)
-    go none e = is_u (eqb c 117) refl e
+    go (Some d) e = rw (e, escape, escaped, simple_byte c d e)
+    go None e = is_u (eqb c 117) refl e
 
 -- ---- a text, and what stands at its beginning
 pub text_spelled : (s : Bytes) (a e : ℕ) → Text s a e → Chars (text_at s a) (drop a s) (drop (e + 1) s)

@@ -3,7 +3,7 @@
 use mathlib.Core.Bool.{Bool, false, false≢true, true, true≢false}
 use mathlib.Core.List.{[], ◌++◌, ◌∷◌}
 use mathlib.Core.Logic.{inl, inr, ◌≢◌}
-use mathlib.Core.Option.{Option, none, some}
+use Rattle.std.specs.Prelude.{Option, None, Some}
 use mathlib.Core.Path.{ap, refl, subst, sym, ◌∙◌, ◌≡◌}
 use Prim.Native.Nat.{suc, zero, ℕ, ◌*◌, ◌+◌, ◌-◌, ◌<◌, ◌≤◌}
 use native.Mathlib.Omega.{arith}
@@ -72,18 +72,18 @@ hex_on : {n u v : ℕ} {s r : Bytes} → Hex n u v s r → utf8 scalar s ≡ tru
 hex_on no_hex h = h
 hex_on (one_hex {d = d} {c} {s} e k) h = hex_on k (ascii_on c s (hex_ascii c d e) h)
 
-simple_small : (c d : ℕ) → simple_escape c ≡ some d → d < 128
+simple_small : (c d : ℕ) → simple_escape c ≡ Some d → d < 128
 simple_small c d e = go (eqb c 34) (eqb c 92) (eqb c 47) (eqb c 98) (eqb c 102) (eqb c 110) (eqb c 114) (eqb c 116) e
   where
-    is : (k : ℕ) → k < 128 → ◌≡◌ {A = Option ℕ} (some k) (some d) → d < 128
+    is : (k : ℕ) → k < 128 → ◌≡◌ {A = Option ℕ} (Some k) (Some d) → d < 128
     is k l q = let z : k ≡ d = cc in omega arith
 
-    none_is : ◌≡◌ {A = Option ℕ} none (some d) → d < 128
+    none_is : ◌≡◌ {A = Option ℕ} None (Some d) → d < 128
     none_is q = let z : ◌≡◌ {A = Bool} true false = cc in absurd (true≢false z)
 
     go : (a b f g h i j k : Bool) →
-        choose ((a, some 34) ∷ (b, some 92) ∷ (f, some 47) ∷ (g, some 8) ∷ (h, some 12) ∷ (i, some 10) ∷ (j, some 13) ∷ (k, some 9) ∷ [])
-        none ≡ some d → d < 128
+        choose ((a, Some 34) ∷ (b, Some 92) ∷ (f, Some 47) ∷ (g, Some 8) ∷ (h, Some 12) ∷ (i, Some 10) ∷ (j, Some 13) ∷ (k, Some 9) ∷ [])
+        None ≡ Some d → d < 128
     go true b f g h i j k q = is 34 (omega arith) q
     go false true f g h i j k q = is 92 (omega arith) q
     go false false true g h i j k q = is 47 (omega arith) q

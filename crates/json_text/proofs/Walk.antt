@@ -2,7 +2,7 @@
 -- Assumes nothing.
 use mathlib.Core.Bool.{false, true}
 use mathlib.Core.List.{List, ◌++◌}
-use mathlib.Core.Option.{none, some}
+use Rattle.std.specs.Prelude.{None, Some}
 use mathlib.Core.Path.{ap, refl, subst, sym, ◌∙◌, ◌≡◌}
 use Prim.Native.Nat.{ℕ, ◌*◌, ◌+◌, ◌-◌, ◌<◌, ◌≤◌}
 use native.Mathlib.Omega.{arith}
@@ -178,12 +178,12 @@ module _ (s : Bytes) (w : List ℕ) where
           }
 
   -- a member by its name: the loop from k on
-  pub find_done : {left k e : ℕ} (key : Bytes) → AreMembers s w left k e → e ≤ k → find key (entries (members_at s w k e)) ≡ none
+  pub find_done : {left k e : ℕ} (key : Bytes) → AreMembers s w left k e → e ≤ k → find key (entries (members_at s w k e)) ≡ None
   unfolding find
   find_done key h q = rw (members_done h q)
 
   pub find_here : {left k e : ℕ} (key : Bytes) → AreMembers s w left k e → k < e → same_bytes key (text_at s (start_at w k)) ≡ true →
-      find key (entries (members_at s w k e)) ≡ some (value_at s w (k + 1))
+      find key (entries (members_at s w k e)) ≡ Some (value_at s w (k + 1))
   unfolding find
   find_here key h q e = rw ((members_more h q).value, e, find)
 

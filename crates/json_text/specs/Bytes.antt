@@ -1,7 +1,7 @@
 -- Bytes, byte order, and small functions on lists and options that the other definitions share.
 -- Assumes nothing.
 use Rattle.std.specs.Prelude.{Bool, false, true, ◌&&◌, List, [], ◌∷◌, eqb, leb}
-use Rattle.std.proofs.Math.Option.{Option, none, some}
+use Rattle.std.specs.Prelude.{Option, None, Some}
 use Prim.Native.Char.{code}
 use Prim.Native.Nat.{Ordering, compare, ℕ, ◌*◌, ◌+◌, ◌-◌}
 use Prim.Native.String.{String}
@@ -43,8 +43,8 @@ is_one_of k (x ∷ xs) = elim (same_bytes k x) [ true ↦ true | false ↦ is_on
 -- what a table holds under a name: its first entry of that name
 unfoldable pub find : {A : Type 0} → Bytes → List (Bytes × A) → Option A
 unfolding same_bytes
-find k [] = none
-find k (x ∷ xs) = elim (same_bytes k x.0) [ true ↦ some x.1 | false ↦ find k xs ]
+find k [] = None
+find k (x ∷ xs) = elim (same_bytes k x.0) [ true ↦ Some x.1 | false ↦ find k xs ]
 
 -- the number that decimal digits spell, after a number read before them
 unfoldable pub natural : ℕ → Bytes → ℕ

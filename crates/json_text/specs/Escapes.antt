@@ -1,7 +1,7 @@
 -- What an escape stands for, as a scalar value and not yet as bytes: what code keeps of one.
 -- Assumes nothing.
 use Rattle.std.specs.Prelude.{false, true, [], ◌∷◌, ℕ, ◌*◌, ◌+◌, ◌-◌, eqb}
-use Rattle.std.proofs.Math.Option.{none, some}
+use Rattle.std.specs.Prelude.{None, Some}
 use Rattle.json_text.specs.Bytes.{Bytes, ascii, between}
 use Rattle.json_text.specs.Refusal.{Result, not_json, ok, refused, ◌>>=◌}
 use Rattle.json_text.specs.Scan.{Read, word}
@@ -24,4 +24,4 @@ unit_scalar u = elim (unit16 u.got) [ plain_unit ↦ ok u | high_unit ↦ high_s
 unfoldable pub escaped : Bytes → Result (Read ℕ)
 unfolding hex unit_scalar
 escaped [] = refused not_json
-escaped (c ∷ s) = elim (simple_escape c) [ some d ↦ ok (record { got = d; rest = s }) | none ↦ elim (eqb c 117) [ true ↦ (hex 4 0 s >>= unit_scalar) | false ↦ refused not_json ] ]
+escaped (c ∷ s) = elim (simple_escape c) [ Some d ↦ ok (record { got = d; rest = s }) | None ↦ elim (eqb c 117) [ true ↦ (hex 4 0 s >>= unit_scalar) | false ↦ refused not_json ] ]

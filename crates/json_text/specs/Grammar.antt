@@ -1,7 +1,7 @@
 -- RFC 8259's rules, over bytes. `Rule x s r` says that `s` begins with what the rule spells, `x`, and that `r` is the rest. The text as a whole is UTF-8 (`Utf8.utf8`).
 -- Assumes nothing.
 use Rattle.std.specs.Prelude.{Bool, false, not as bool_not, true, ◌&&◌, [], ◌++◌, ◌∷◌, ◌⊎◌, ◌≡◌, suc, ℕ, ◌*◌, ◌+◌, ◌-◌, ◌≤◌, eqb, leb, length}
-use Rattle.std.proofs.Math.Option.{some}
+use Rattle.std.specs.Prelude.{Some}
 use Rattle.json_text.specs.Bytes.{Bytes, ascii, between}
 use Rattle.json_text.specs.Json.{Members, Value, Values, array, bool, cons, empty, member, nil, null, number, object, text}
 use Rattle.json_text.specs.Limits.{depth, max_bytes, max_depth, max_nodes, max_number, nodes, tidy}
@@ -61,10 +61,10 @@ pub record Number (s r : Bytes) : Type 0 where
 -- string = quotation-mark *char quotation-mark; a `\u` surrogate has its partner
 pub data Hex : ℕ → ℕ → ℕ → Bytes → Bytes → Type 0 where
   no_hex : {u : ℕ} {s : Bytes} → Hex 0 u u s s
-  one_hex : {n u v d c : ℕ} {s r : Bytes} → hex_digit c ≡ some d → Hex n (u * 16 + d) v s r → Hex (suc n) u v (c ∷ s) r
+  one_hex : {n u v d c : ℕ} {s r : Bytes} → hex_digit c ≡ Some d → Hex n (u * 16 + d) v s r → Hex (suc n) u v (c ∷ s) r
 
 pub data Escape : Bytes → Bytes → Bytes → Type 0 where
-  simple : {c d : ℕ} {s : Bytes} → simple_escape c ≡ some d → Escape (d ∷ []) (c ∷ s) s
+  simple : {c d : ℕ} {s : Bytes} → simple_escape c ≡ Some d → Escape (d ∷ []) (c ∷ s) s
   unit : {c u : ℕ} {x s r : Bytes} → c ≡ 117 → Hex 4 0 u s r → between 55296 57343 u ≡ false → x ≡ encode u → Escape x (c ∷ s) r
   pair : {c high low : ℕ} {x s t u r : Bytes} → c ≡ 117 → Hex 4 0 high s t → between 55296 56319 high ≡ true → t ≡ ascii "\\u" ++ u →
       Hex 4 0 low u r → between 56320 57343 low ≡ true → x ≡ encode (65536 + (high - 55296) * 1024 + (low - 56320)) → Escape x (c ∷ s) r

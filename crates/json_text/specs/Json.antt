@@ -1,7 +1,7 @@
 -- The tree of a JSON text. A number keeps its characters, a text its decoded bytes, an object its members as written.
 -- Assumes nothing.
 use Rattle.std.specs.Prelude.{Bool, false, true, List, [], ◌∷◌}
-use Rattle.std.proofs.Math.Option.{Option, none, some}
+use Rattle.std.specs.Prelude.{Option, None, Some}
 use Rattle.json_text.specs.Bytes.{Bytes}
 
 mutual
@@ -35,44 +35,44 @@ keys (member k v ms) = k ∷ keys ms
 
 -- each kind of value
 abbrev pub as_text : Value → Option Bytes
-as_text null = none
-as_text (bool b) = none
-as_text (number s) = none
-as_text (text s) = some s
-as_text (array vs) = none
-as_text (object ms) = none
+as_text null = None
+as_text (bool b) = None
+as_text (number s) = None
+as_text (text s) = Some s
+as_text (array vs) = None
+as_text (object ms) = None
 
 abbrev pub as_number : Value → Option Bytes
-as_number null = none
-as_number (bool b) = none
-as_number (number s) = some s
-as_number (text s) = none
-as_number (array vs) = none
-as_number (object ms) = none
+as_number null = None
+as_number (bool b) = None
+as_number (number s) = Some s
+as_number (text s) = None
+as_number (array vs) = None
+as_number (object ms) = None
 
 abbrev pub as_bool : Value → Option Bool
-as_bool null = none
-as_bool (bool b) = some b
-as_bool (number s) = none
-as_bool (text s) = none
-as_bool (array vs) = none
-as_bool (object ms) = none
+as_bool null = None
+as_bool (bool b) = Some b
+as_bool (number s) = None
+as_bool (text s) = None
+as_bool (array vs) = None
+as_bool (object ms) = None
 
 abbrev pub as_array : Value → Option Values
-as_array null = none
-as_array (bool b) = none
-as_array (number s) = none
-as_array (text s) = none
-as_array (array vs) = some vs
-as_array (object ms) = none
+as_array null = None
+as_array (bool b) = None
+as_array (number s) = None
+as_array (text s) = None
+as_array (array vs) = Some vs
+as_array (object ms) = None
 
 abbrev pub as_object : Value → Option Members
-as_object null = none
-as_object (bool b) = none
-as_object (number s) = none
-as_object (text s) = none
-as_object (array vs) = none
-as_object (object ms) = some ms
+as_object null = None
+as_object (bool b) = None
+as_object (number s) = None
+as_object (text s) = None
+as_object (array vs) = None
+as_object (object ms) = Some ms
 
 abbrev pub is_null : Value → Bool
 is_null null = true

@@ -24,3 +24,4 @@ pub mod Ascent
 pub mod Cursor
 pub mod Held
 pub mod Naming
+pub mod Orders

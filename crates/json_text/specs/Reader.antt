@@ -1,7 +1,7 @@
 -- Reading a text: the tree, or the first refusal of 2 to 8. One definition for each rule of RFC 8259; `Grammar` has the rules themselves.
 -- Assumes nothing.
 use Rattle.std.specs.Prelude.{false, true, List, [], ◌∷◌, suc, zero, ℕ, ◌+◌, ◌-◌, eqb, leb, ltb, length}
-use Rattle.std.proofs.Math.Option.{Option, none, some}
+use Rattle.std.specs.Prelude.{Option, None, Some}
 use Rattle.json_text.specs.Bytes.{Bytes, ascii, between, choose, is_one_of}
 use Rattle.json_text.specs.Json.{Members, Value, Values, array, bool, cons, empty, member, nil, null, number, object, text}
 use Rattle.json_text.specs.Limits.{max_bytes, max_depth, max_nodes, max_number}
@@ -54,8 +54,8 @@ next close [] = neither
 next close (c ∷ s) = choose ((eqb c 44, more s) ∷ (eqb c close, closed s) ∷ []) neither
 
 abbrev pub is_closed : ℕ → Bytes → Option Bytes
-is_closed close [] = none
-is_closed close (c ∷ s) = elim (eqb c close) [ true ↦ some s | false ↦ none ]
+is_closed close [] = None
+is_closed close (c ∷ s) = elim (eqb c close) [ true ↦ Some s | false ↦ None ]
 
 abbrev pub literal : Bytes → Value → ℕ → Bytes → Result (Parsed Value)
 literal w v n s = do
@@ -113,9 +113,9 @@ array_rest val n s = do
   m ← one_node n
   elim
       (is_closed 93 (skip s)) [
-        | some t ↦
+        | Some t ↦
             ok (record { tree = array nil; rest = skip t; count = m })
-        | none ↦
+        | None ↦
             (do
               vs ← items val (length s) m (skip s)
               ok (record { tree = array vs.tree; rest = vs.rest; count = vs.count }))
@@ -127,9 +127,9 @@ object_rest val n s = do
   m ← one_node n
   elim
       (is_closed 125 (skip s)) [
-        | some t ↦
+        | Some t ↦
             ok (record { tree = object empty; rest = skip t; count = m })
-        | none ↦
+        | None ↦
             (do
               ms ← fields val (length s) [] m (skip s)
               ok (record { tree = object ms.tree; rest = ms.rest; count = ms.count }))

@@ -1,7 +1,7 @@
 -- The refusals of the paper's table, and the answer of everything that may refuse.
 -- Assumes nothing.
-use Rattle.std.specs.Prelude.{List, ℕ}
-use Rattle.std.proofs.Math.Option.{Option}
+use Rattle.std.specs.Prelude.{List, ℕ, Some, None}
+use Rattle.std.specs.Prelude.{Option}
 use Rattle.json_text.specs.Bytes.{Bytes}
 
 pub data Rules : Type 0 where
@@ -38,5 +38,5 @@ refused r >>= f = refused r
 
 -- the value, or the refusal where there is none
 abbrev pub or_else : {A : Type 0} → Option A → Refusal → Result A
-or_else Option.none r = refused r
-or_else (Option.some a) r = ok a
+or_else None r = refused r
+or_else (Some a) r = ok a

@@ -1,34 +1,34 @@
 -- Reading a string: its characters and escapes up to the closing quote, decoded. One definition for each rule of RFC 8259.
 -- Assumes nothing.
 use Rattle.std.specs.Prelude.{false, true, [], ◌++◌, ◌∷◌, suc, zero, ℕ, ◌*◌, ◌+◌, ◌-◌, eqb, ltb}
-use Rattle.std.proofs.Math.Option.{Option, none, some}
+use Rattle.std.specs.Prelude.{Option, None, Some}
 use Rattle.json_text.specs.Bytes.{Bytes, ascii, between, choose}
 use Rattle.json_text.specs.Refusal.{Result, not_json, ok, refused, ◌>>=◌}
 use Rattle.json_text.specs.Scan.{Read, word}
 use Rattle.json_text.specs.Utf8.{encode}
 
 abbrev pub hex_digit : ℕ → Option ℕ
-hex_digit c = choose ((between 48 57 c, some (c - 48)) ∷ (between 65 70 c, some (c - 55)) ∷ (between 97 102 c, some (c - 87)) ∷ []) none
+hex_digit c = choose ((between 48 57 c, Some (c - 48)) ∷ (between 65 70 c, Some (c - 55)) ∷ (between 97 102 c, Some (c - 87)) ∷ []) None
 
 -- four hexadecimal digits
 unfoldable pub hex : ℕ → ℕ → Bytes → Result (Read ℕ)
 hex zero u s = ok (record { got = u; rest = s })
 hex (suc n) u [] = refused not_json
-hex (suc n) u (c ∷ s) = elim (hex_digit c) [ none ↦ refused not_json | some d ↦ hex n (u * 16 + d) s ]
+hex (suc n) u (c ∷ s) = elim (hex_digit c) [ None ↦ refused not_json | Some d ↦ hex n (u * 16 + d) s ]
 
 abbrev pub simple_escape : ℕ → Option ℕ
 simple_escape c =
     choose
-    ((eqb c 34, some 34) ∷
-    (eqb c 92, some 92) ∷
-    (eqb c 47, some 47) ∷
-    (eqb c 98, some 8) ∷
-    (eqb c 102, some 12) ∷
-    (eqb c 110, some 10) ∷
-    (eqb c 114, some 13) ∷
-    (eqb c 116, some 9) ∷
+    ((eqb c 34, Some 34) ∷
+    (eqb c 92, Some 92) ∷
+    (eqb c 47, Some 47) ∷
+    (eqb c 98, Some 8) ∷
+    (eqb c 102, Some 12) ∷
+    (eqb c 110, Some 10) ∷
+    (eqb c 114, Some 13) ∷
+    (eqb c 116, Some 9) ∷
     [])
-    none
+    None
 
 -- after `\u`: a scalar value, or a high surrogate with its partner
 pub data Unit16 : Type 0 where
@@ -61,7 +61,7 @@ unicode s = hex 4 0 s >>= of_unit
 unfoldable pub escape : Bytes → Result (Read Bytes)
 unfolding unicode
 escape [] = refused not_json
-escape (c ∷ s) = elim (simple_escape c) [ some d ↦ ok (record { got = d ∷ []; rest = s }) | none ↦ elim (eqb c 117) [ true ↦ unicode s | false ↦ refused not_json ] ]
+escape (c ∷ s) = elim (simple_escape c) [ Some d ↦ ok (record { got = d ∷ []; rest = s }) | None ↦ elim (eqb c 117) [ true ↦ unicode s | false ↦ refused not_json ] ]
 
 pub data Char : Type 0 where
   quote backslash control other : Char

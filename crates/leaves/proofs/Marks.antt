@@ -2,7 +2,9 @@
 -- Assumes nothing.
 use mathlib.Core.Bool.{Bool, false, true}
 use mathlib.Core.List.{List, []}
-use mathlib.Core.Option.{none, some}
+use Rattle.std.specs.Prelude.{None, Option, Some}
+use Rattle.std.specs.Option.{is_some}
+use Rattle.strings.specs.Answers.{found_of}
 use mathlib.Core.Path.{refl, sym, ◌∙◌, ◌≡◌}
 use Prim.Native.Nat.{ℕ, ◌%◌, ◌*◌, ◌+◌, ◌<◌}
 use native.Mathlib.Omega.{arith}
@@ -10,7 +12,7 @@ use lib.ListN.{get_or}
 use Rattle.strings.proofs.Leaves.{before_of}
 use Rattle.json_text.specs.Bytes.{Bytes, find, is_one_of, same_bytes}
 use Rattle.json_text.specs.Cursor.{OnText, Took, before}
-use Rattle.json_text.specs.Json.{Members, Value, empty, entries, keys, member}
+use Rattle.json_text.specs.Json.{Members, empty, entries, keys, member}
 use Rattle.json_text.specs.Naming.{Noted, hashed}
 use Rattle.json_text.specs.Spans.{text_at}
 use Rattle.strings.specs.declared.text.Cursor.{Cursor}
@@ -38,23 +40,20 @@ module _ {s : Bytes} {object name h : ℕ} {c : Cursor} (l : Hashing s object na
   hashed_on t b k e = record { on_text = k.on_text; small = omega arith; same = l.same ∙ rw (k.byte, e) }
 
 -- ---- a name among members, and its number
-pub found_none : (k : Bytes) (ms : Members) → find k (entries ms) ≡ none → is_one_of k (keys ms) ≡ false
+pub found_is : (k : Bytes) (ms : Members) → is_some (find k (entries ms)) ≡ is_one_of k (keys ms)
 unfolding find is_one_of
-found_none k empty e = refl
-found_none k (member l v ms) e = go (λ h. found_none k ms h) (same_bytes k l) refl
+found_is k empty = refl
+found_is k (member l v ms) = go (same_bytes k l) (found_is k ms)
   where
-    go : (find k (entries ms) ≡ none → is_one_of k (keys ms) ≡ false) → (b : Bool) → same_bytes k l ≡ b → is_one_of k (keys (member l v ms)) ≡ false
-    go below true q = let z : some v ≡ none = rw (q, find) at e in let n : ◌≡◌ {A = ℕ} 0 1 = cc in absurd (omega arith)
-    go below false q = rw (q, is_one_of) (below (rw (q, find) at e))
+    go : (b : Bool) → is_some (find k (entries ms)) ≡ is_one_of k (keys ms) →
+        is_some (elim b [ true ↦ Some v | false ↦ find k (entries ms) ]) ≡ elim b [ true ↦ true | false ↦ is_one_of k (keys ms) ]
+    go true below = refl
+    go false below = below
 
-pub found_some : (k : Bytes) (ms : Members) (v : Value) → find k (entries ms) ≡ some v → is_one_of k (keys ms) ≡ true
-unfolding find is_one_of
-found_some k empty v e = let n : ◌≡◌ {A = ℕ} 0 1 = cc in absurd (omega arith)
-found_some k (member l w ms) v e = go (λ h. found_some k ms v h) (same_bytes k l) refl
-  where
-    go : (find k (entries ms) ≡ some v → is_one_of k (keys ms) ≡ true) → (b : Bool) → same_bytes k l ≡ b → is_one_of k (keys (member l w ms)) ≡ true
-    go below true q = rw (q, is_one_of)
-    go below false q = rw (q, is_one_of) (below (rw (q, find) at e))
+pub was_found : (s : Bytes) (w : List ℕ) (r : Option ℕ) → is_some (found_of s w r) ≡ is_some r
+unfolding found_of
+was_found s w None = refl
+was_found s w (Some n) = refl
 
 -- a name with no mark is none of those that have theirs
 pub unmarked : (seen : List Bool) (object : ℕ) (names : List Bytes) (k : Bytes) → Noted seen object names → get_or seen (hashed object k) false ≡ false → is_one_of k names ≡ false

@@ -1,9 +1,13 @@
 -- What reading a name, a value and a whole sheet answers, and what it leaves in the table.
 -- Assumes nothing.
-use Rattle.std.specs.Prelude.{Bool, false, true, List, [], ◌∷◌, ◌≡◌, ℕ, ◌*◌, ◌+◌, ◌<◌, ◌≤◌, eqb, drop, get_or, length}
+use Rattle.strings.specs.declared.answer.Refusal.{Refusal as Why}
+use Rattle.strings.specs.declared.answer.Refusal.TheVariants as whys
+use Rattle.strings.specs.declared.rows.Kind.{Kind}
+use Rattle.strings.specs.declared.rows.Kind.TheVariants as kinds
+use Rattle.std.specs.Prelude.{Bool, false, true, List, [], ◌∷◌, ◌≡◌, ℕ, ◌*◌, ◌+◌, ◌<◌, ◌≤◌, drop, get_or, length, Option, None, Some, Result as Fallible, Ok, Err}
 use Rattle.std.proofs.lemmas.List.Edits.{sets}
 use Rattle.strings.specs.Answers.{refusal_of}
-use Rattle.json_text.specs.Bytes.{Bytes, ascii, choose, is_one_of}
+use Rattle.json_text.specs.Bytes.{Bytes, ascii, is_one_of}
 use Rattle.json_text.specs.Cursor.{OnText}
 use Rattle.json_text.specs.Held.{HasMembers}
 use Rattle.json_text.specs.Json.{keys}
@@ -14,13 +18,9 @@ use Rattle.json_text.specs.Reader.{Start, start_array, start_false, start_nothin
 use Rattle.json_text.specs.Refusal.{Result, ok, refused}
 use Rattle.json_text.specs.Spans.{Node, Plain, is_false, is_null, is_number, is_text, is_true, text_at}
 use Rattle.json_text.specs.Table.{members_at, rows}
-use Rattle.strings.specs.declared.answer.Parsed.{Parsed}
 use Rattle.strings.specs.declared.answer.Place.{Place}
-use Rattle.leaves.specs.declared.names.Named.{Named}
 use Rattle.leaves.specs.declared.names.Spelt.{Spelt}
 use Rattle.leaves.specs.declared.bracket.Sep.{Sep}
-use Rattle.strings.specs.declared.answer.Parsed.TheVariants as parseds
-use Rattle.leaves.specs.declared.names.Named.TheVariants as nameds
 use Rattle.leaves.specs.declared.bracket.Sep.TheVariants as seps
 
 -- ---- names
@@ -51,20 +51,31 @@ pub record NameLaid (s : Bytes) (w w' : List ℕ) (seen seen' : List Bool) (obje
   pub marked : get_or seen' (hashed object (text_at s (at + 1))) false ≡ true
   pub grown : Grown seen seen'
 
-unfoldable pub NameTold : Bytes → List ℕ → List ℕ → List Bool → List Bool → ℕ → ℕ → ℕ → Named → Type 0
-NameTold s w w' seen seen' object at count (nameds.Bad r) = (name_at s (earlier s w object count) count at ≡ refused (refusal_of r)) × (w' ≡ w) × (seen' ≡ seen)
-NameTold s w w' seen seen' object at count (nameds.Is k) = NameLaid s w w' seen seen' object at count k
+unfoldable pub NameTold : Bytes → List ℕ → List ℕ → List Bool → List Bool → ℕ → ℕ → ℕ → Fallible Spelt Why → Type 0
+NameTold s w w' seen seen' object at count (Err r) = (name_at s (earlier s w object count) count at ≡ refused (refusal_of r)) × (w' ≡ w) × (seen' ≡ seen)
+NameTold s w w' seen seen' object at count (Ok k) = NameLaid s w w' seen seen' object at count k
 
 -- ---- values
--- the kind of the value that a byte starts, by the code of its row; 7 is none
-abbrev pub start_by : ℕ → Start
-start_by k =
-    choose
-    ((eqb k 0, start_null) ∷ (eqb k 1, start_true) ∷ (eqb k 2, start_false) ∷ (eqb k 3, start_number) ∷ (eqb k 4, start_text) ∷
-    (eqb k 5, start_array) ∷ (eqb k 6, start_object) ∷ []) start_nothing
+-- the kind of a value, by how it begins
+abbrev pub kind_by : Start → Option Kind
+kind_by start_null = Some kinds.Null
+kind_by start_true = Some kinds.True
+kind_by start_false = Some kinds.False
+kind_by start_number = Some kinds.Number
+kind_by start_text = Some kinds.Text
+kind_by start_array = Some kinds.Array
+kind_by start_object = Some kinds.Object
+kind_by start_nothing = None
 
-abbrev pub plain_by : ℕ → Plain
-plain_by k = choose ((eqb k 0, is_null) ∷ (eqb k 1, is_true) ∷ (eqb k 2, is_false) ∷ (eqb k 3, is_number) ∷ []) is_text
+abbrev pub plain_by : Kind → Plain
+plain_by kinds.Null = is_null
+plain_by kinds.True = is_true
+plain_by kinds.False = is_false
+plain_by kinds.Number = is_number
+plain_by kinds.Text = is_text
+plain_by kinds.Array = is_text
+plain_by kinds.Object = is_text
+plain_by kinds.Free = is_text
 
 -- the place behind a value without brackets
 unfoldable pub scan_by : Plain → Bytes → ℕ → Result ℕ
@@ -94,26 +105,25 @@ pub record Rows (x : Result (Placed Node)) (w w' : List ℕ) (node : ℕ) (p : P
   pub words : w' ≡ sets w (3 * node) (rows tree node)
 
 -- what reading gives by its definition is what the code answers; a refusal changes no word past the table's rows
-unfoldable pub ParsedTold : Result (Placed Node) → List ℕ → List ℕ → ℕ → Parsed → Type 0
-ParsedTold x w w' node (parseds.Bad r) = (x ≡ refused (refusal_of r)) × (drop 12288 w' ≡ drop 12288 w)
-ParsedTold x w w' node (parseds.Done p) = Rows x w w' node p
+unfoldable pub ParsedTold : Result (Placed Node) → List ℕ → List ℕ → ℕ → Fallible Place Why → Type 0
+ParsedTold x w w' node (Err r) = (x ≡ refused (refusal_of r)) × (drop 12288 w' ≡ drop 12288 w)
+ParsedTold x w w' node (Ok p) = Rows x w w' node p
 
-pub record Told (x : Result (Placed Node)) (w w' : List ℕ) (seen seen' : List Bool) (node : ℕ) (r : Parsed) : Type 0 where
+pub record Told (x : Result (Placed Node)) (w w' : List ℕ) (seen seen' : List Bool) (node : ℕ) (r : Fallible Place Why) : Type 0 where
   pub parsed : ParsedTold x w w' node r
   pub grown : Grown seen seen'
 
 -- a row is written and the place behind it answered
-pub record RowLaid (w w' : List ℕ) (node kind start end after place : ℕ) (r : Parsed) : Type 0 where
+pub record RowLaid (w w' : List ℕ) (node kind start end after place : ℕ) (p : Place) : Type 0 where
   pub words : w' ≡ sets w (3 * node) ((8 * start + kind) ∷ end ∷ after ∷ [])
-  pub answer : r ≡ parseds.Done (record { at = place; node = after })
+  pub answer : p ≡ record { at = place; node = after }
 
 -- what stands behind an opening bracket, and behind an element or a member
 unfoldable pub Opens : Bytes → ℕ → ℕ → Sep → Type 0
-Opens s at close seps.Neither = ⊥
 Opens s at close (seps.Shut e) = (get_or s (skip_at s (at + 1)) 0 ≡ close) × (e ≡ skip_at s (at + 1) + 1) × (e ≤ length s)
 Opens s at close (seps.On h) = (get_or s (skip_at s (at + 1)) 0 ≡ close → ⊥) × (h ≡ skip_at s (at + 1)) × (at < h) × (h ≤ length s)
 
-unfoldable pub Continues : Bytes → ℕ → ℕ → Sep → Type 0
-Continues s at close seps.Neither = (get_or s (skip_at s at) 0 ≡ 44 → ⊥) × (get_or s (skip_at s at) 0 ≡ close → ⊥)
-Continues s at close (seps.Shut e) = (get_or s (skip_at s at) 0 ≡ close) × (e ≡ skip_at s at + 1) × (e ≤ length s)
-Continues s at close (seps.On h) = (get_or s (skip_at s at) 0 ≡ 44) × (h ≡ skip_at s (skip_at s at + 1)) × (at < h) × (h ≤ length s)
+unfoldable pub Continues : Bytes → ℕ → ℕ → Fallible Sep Why → Type 0
+Continues s at close (Err r) = (r ≡ whys.NotJson) × (get_or s (skip_at s at) 0 ≡ 44 → ⊥) × (get_or s (skip_at s at) 0 ≡ close → ⊥)
+Continues s at close (Ok (seps.Shut e)) = (get_or s (skip_at s at) 0 ≡ close) × (e ≡ skip_at s at + 1) × (e ≤ length s)
+Continues s at close (Ok (seps.On h)) = (get_or s (skip_at s at) 0 ≡ 44) × (h ≡ skip_at s (skip_at s at + 1)) × (at < h) × (h ≤ length s)

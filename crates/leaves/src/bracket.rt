@@ -2,11 +2,15 @@
 ghost use Rattle.std.specs.Prelude.{◌≤◌, ◌<◌, length};
 ghost use Rattle.leaves.specs.Laid.{Continues, Opens};
 
-// What stands where an element or a member may begin: its place, the place behind the closing bracket, or neither.
+use strings::answer::Refusal;
+
+// What stands where an element or a member may begin.
+// No Result or ControlFlow: reading goes on from a place in both cases, and their names say which.
 #[derive(Clone, Copy)]
 pub enum Sep {
-    Neither,
+    // The closing bracket: the place behind it.
     Shut(usize),
+    // An element or a member: its place.
     On(usize),
 }
 
@@ -22,18 +26,18 @@ pub fn opening(s: &[u8], at: usize, close: u8) -> Sep
     Sep::On(here)
 }
 
-// What stands behind an element or a member.
-pub fn following(s: &[u8], at: usize, close: u8) -> Sep
+// What stands behind an element or a member: a comma and the next one, or the closing bracket.
+pub fn following(s: &[u8], at: usize, close: u8) -> Result<Sep, Refusal>
     requires { (at ≤ length s.now) × (0 < close) }
     ensures { Continues s.now at close result }
 {
     let here = tokens::scan::skip(s, at);
     let c = tokens::scan::byte_at(s, here);
     if c == b',' {
-        return Sep::On(tokens::scan::skip(s, here + 1));
+        return Ok(Sep::On(tokens::scan::skip(s, here + 1)));
     }
     if c == close {
-        return Sep::Shut(here + 1);
+        return Ok(Sep::Shut(here + 1));
     }
-    Sep::Neither
+    Err(Refusal::NotJson)
 }

@@ -2,16 +2,15 @@
 // that a number made of its object and its decoded bytes gives. A name whose mark is not set is new; else it is compared with the earlier
 // names. So m names of an object cost m numbers and, if these are spread evenly, m * m * m / 98,247 comparisons: 81,000 for 2,000 names,
 // where comparing each with all before it takes 2,000,000. Names made to meet in one mark cost what comparing all costs.
-ghost use Rattle.std.specs.Prelude.{◌≡◌, ◌+◌, ◌<◌};
+ghost use Rattle.std.specs.Prelude.{◌≡◌, ◌<◌};
 ghost use Rattle.json_text.specs.Bytes.{is_one_of};
 ghost use Rattle.json_text.specs.Cursor.{OnText};
 ghost use Rattle.json_text.specs.Naming.{hashed};
 ghost use Rattle.json_text.specs.Spans.{text_at};
 ghost use Rattle.leaves.specs.Laid.{Looking, NameReady, NameTold, earlier};
 
-use strings::answer::{Refusal, Scan};
-use strings::rows::Found;
-use strings::text::Step;
+use strings::answer::Refusal;
+use strings::rows::Kind;
 
 // A name's place between the quotes, and where its value begins.
 #[derive(Clone, Copy)]
@@ -20,34 +19,18 @@ pub struct Spelt {
     pub value: usize,
 }
 
-#[derive(Clone, Copy)]
-pub enum Named {
-    Bad(Refusal),
-    Is(Spelt),
-}
-
-fn wide(c: u8) -> usize
-    ensures { result ≡ c }
-{
-    c as usize
-}
-
 // The mark of a name in an object.
 fn slot(s: &[u8], object: usize, name: usize) -> usize
     requires { OnText s.now name 0 × (object < 32749) }
     ensures { (result ≡ hashed object (text_at s.now name)) × (result < 32749) }
 {
-    let mut h = object;
-    let mut c = strings::text::begin(name);
-    loop {
-        match strings::text::next(s, c) {
-            Step::End => return h,
-            Step::Byte(t) => {
-                h = (h * 31 + wide(t.byte)) % 32749;
-                c = t.rest;
-            }
-        }
+    let mut mark = object;
+    let mut rest = strings::text::begin(name);
+    while let Some(t) = strings::text::next(s, rest) {
+        mark = (mark * 31 + usize::from(t.byte)) % 32749;
+        rest = t.rest;
     }
+    mark
 }
 
 // Whether the text at `name` is an earlier name of the object.
@@ -55,13 +38,7 @@ fn repeated(s: &[u8], work: &[u32], marked: bool, object: usize, count: usize, n
     requires { Looking s.now work.now marked object count name }
     ensures { result ≡ is_one_of (text_at s.now name) (earlier s.now work.now object count) }
 {
-    if !marked {
-        return false;
-    }
-    match strings::rows::find(s, work, object + 1, count, name) {
-        Found::Nothing => false,
-        Found::At(_n) => true,
-    }
+    marked && strings::rows::find(s, work, object + 1, count, name).is_some()
 }
 
 // The name at a place, with `count` nodes before it: its row is written and its mark set.
@@ -72,33 +49,29 @@ pub fn name(
     object: usize,
     at: usize,
     count: usize,
-) -> Named
+) -> Result<Spelt, Refusal>
     requires { NameReady s.now work.old seen.old object at count }
     ensures { NameTold s.now work.old work.new seen.old seen.new object at count result }
 {
     if tokens::scan::byte_at(s, at) != b'"' {
-        return Named::Bad(Refusal::NotJson);
+        return Err(Refusal::NotJson);
     }
     if 4096 <= count {
-        return Named::Bad(Refusal::TooManyNodes);
+        return Err(Refusal::TooManyNodes);
     }
-    match tokens::scan::string(s, at + 1) {
-        Scan::Bad(n) => Named::Bad(n),
-        Scan::End(e) => {
-            let k = slot(s, object, at + 1);
-            if repeated(s, work, seen[k], object, count, at + 1) {
-                return Named::Bad(Refusal::RepeatedName);
-            }
-            let colon = tokens::scan::skip(s, e);
-            if tokens::scan::byte_at(s, colon) != b':' {
-                return Named::Bad(Refusal::NotJson);
-            }
-            seen[k] = true;
-            strings::rows::put_row(work, count, 4, at + 1, e - 1, count + 1);
-            Named::Is(Spelt {
-                stop: e - 1,
-                value: tokens::scan::skip(s, colon + 1),
-            })
-        }
+    let end = tokens::scan::string(s, at + 1)?;
+    let mark = slot(s, object, at + 1);
+    if repeated(s, work, seen[mark], object, count, at + 1) {
+        return Err(Refusal::RepeatedName);
     }
+    let colon = tokens::scan::skip(s, end);
+    if tokens::scan::byte_at(s, colon) != b':' {
+        return Err(Refusal::NotJson);
+    }
+    seen[mark] = true;
+    strings::rows::put_row(work, count, Kind::Text, at + 1, end - 1, count + 1);
+    Ok(Spelt {
+        stop: end - 1,
+        value: tokens::scan::skip(s, colon + 1),
+    })
 }

@@ -2,7 +2,7 @@
 -- Assumes nothing.
 use mathlib.Core.Bool.{Bool, false, true}
 use mathlib.Core.List.{List, [], ◌∷◌}
-use mathlib.Core.Option.{Option, none, some}
+use Rattle.std.specs.Prelude.{Option, None, Some}
 use mathlib.Core.Path.{refl, ◌≡◌}
 use Prim.Native.Nat.{ℕ, ◌+◌, ◌≤◌, ◌<◌}
 use native.Mathlib.Omega.{arith}
@@ -64,8 +64,6 @@ use Rattle.answers.specs.Reply.{Reply, fitted, form_of, line_size, or_empty, rep
 use Rattle.answers.specs.Verdict.{Verdict}
 use Rattle.writer.specs.declared.answer.Answer.{Answer}
 use Rattle.writer.specs.declared.answer.Answer.TheVariants as answers
-use Rattle.writer.specs.declared.quote.Text.{Text}
-use Rattle.writer.specs.declared.quote.Text.TheVariants as texts
 use Rattle.writer.specs.Texts.{text_of, texts_in}
 use Rattle.line.proofs.Lengths.{digits_short, form_short, names_short, quoted_short, sources_short, text_short}
 
@@ -74,10 +72,10 @@ module _ (s : Bytes) (w : List ℕ) (h : length s ≤ 32768) where
   text_quoted : (a : ℕ) → length (quoted (text_at s a)) ≤ 786434
   text_quoted a = omega (arith, quoted_short (text_at s a), text_short s a h)
 
-  text_or : (d : Bytes) (t : Text) → length d ≤ 786434 → length (quoted_or d (text_of s t)) ≤ 786434
+  text_or : (d : Bytes) (t : Option ℕ) → length d ≤ 786434 → length (quoted_or d (text_of s t)) ≤ 786434
   unfolding text_of
-  text_or d texts.Missing k = k
-  text_or d (texts.At a) k = text_quoted a
+  text_or d None k = k
+  text_or d (Some a) k = text_quoted a
 
   digits : (n : ℕ) → length (decimal_digits n) ≤ 20
   digits n = digits_short 20 n []
@@ -162,16 +160,16 @@ module _ (s : Bytes) (w : List ℕ) (h : length s ≤ 32768) where
 
 -- what is given back: the form and LF, or nothing
 fitted_size : (n m : ℕ) (f : Option Bytes) → line_size (fitted n m (each_line f)) ≤ length (or_empty f) + 1
-fitted_size n m none = omega arith
-fitted_size n m (some f) = go (leb (length (end_line f)) n)
+fitted_size n m None = omega arith
+fitted_size n m (Some f) = go (leb (length (end_line f)) n)
   where
-    go : (b : Bool) → line_size (elim b [ true ↦ record { number = m; line = some (end_line f) } | false ↦ record { number = refusal_number line_too_long; line = none } ]) ≤ length f + 1
+    go : (b : Bool) → line_size (elim b [ true ↦ record { number = m; line = Some (end_line f) } | false ↦ record { number = refusal_number line_too_long; line = None } ]) ≤ length f + 1
     go true = simp length-append (omega arith)
     go false = omega arith
 
 reply_size : (n : ℕ) (x : Result Verdict) → line_size (reply n x) ≤ length (or_empty (form_of x)) + 1
 unfolding reply form_of verdict_line refusal_line
-reply_size n (ok v) = fitted_size n 0 (some (verdict_form v))
+reply_size n (ok v) = fitted_size n 0 (Some (verdict_form v))
 reply_size n (refused r) = fitted_size n (refusal_number r) (refusal_form r)
 
 pub line_short : (s : Bytes) (w : List ℕ) (a : Answer) (n : ℕ) → length s ≤ 32768 → Held s w a → line_size (reply n (meaning s w a)) < 4294967296
@@ -209,47 +207,47 @@ Small r = r.number ≤ 23
 
 fitted_small : (n m : ℕ) (f : Option Bytes) → m ≤ 23 → Small (fitted n m f)
 unfolding refusal_number
-fitted_small n m none h = h
-fitted_small n m (some l) h = go (leb (length l) n)
+fitted_small n m None h = h
+fitted_small n m (Some l) h = go (leb (length l) n)
   where
-    go : (b : Bool) → Small (elim b [ true ↦ record { number = m; line = some l } | false ↦ record { number = refusal_number line_too_long; line = none } ])
+    go : (b : Bool) → Small (elim b [ true ↦ record { number = m; line = Some l } | false ↦ record { number = refusal_number line_too_long; line = None } ])
     go true = h
     go false = omega arith
 
 pub number_small : (n : ℕ) (x : Result Verdict) → (reply n x).number ≤ 23
 unfolding reply
-number_small n (ok v) = fitted_small n 0 (some (verdict_line v)) (omega arith)
+number_small n (ok v) = fitted_small n 0 (Some (verdict_line v)) (omega arith)
 number_small n (refused r) = fitted_small n (refusal_number r) (refusal_line r) (refusal_small r)
 
 -- no line is empty: where the size is 0 there is none
 abbrev NoneEmpty : Reply → Type 0
-NoneEmpty r = line_size r ≡ 0 → r.line ≡ none
+NoneEmpty r = line_size r ≡ 0 → r.line ≡ None
 
 fitted_none : (n m : ℕ) (f : Option Bytes) → NoneEmpty (fitted n m (each_line f))
-fitted_none n m none e = refl
-fitted_none n m (some l) e = go (leb (length (end_line l)) n) e
+fitted_none n m None e = refl
+fitted_none n m (Some l) e = go (leb (length (end_line l)) n) e
   where
-    go : (b : Bool) → NoneEmpty (elim b [ true ↦ record { number = m; line = some (end_line l) } | false ↦ record { number = refusal_number line_too_long; line = none } ])
+    go : (b : Bool) → NoneEmpty (elim b [ true ↦ record { number = m; line = Some (end_line l) } | false ↦ record { number = refusal_number line_too_long; line = None } ])
     go true z = absurd (omega (arith, z, length-append l (10 ∷ [])))
     go false z = refl
 
-pub no_line_lem : (n : ℕ) (x : Result Verdict) → line_size (reply n x) ≡ 0 → (reply n x).line ≡ none
+pub no_line_lem : (n : ℕ) (x : Result Verdict) → line_size (reply n x) ≡ 0 → (reply n x).line ≡ None
 unfolding reply
-no_line_lem n (ok v) = fitted_none n 0 (some (verdict_form v))
+no_line_lem n (ok v) = fitted_none n 0 (Some (verdict_form v))
 no_line_lem n (refused r) = fitted_none n (refusal_number r) (refusal_form r)
 
 -- a line that is given back fits the output
 fitted_fits : (n m : ℕ) (f : Option Bytes) → line_size (fitted n m f) ≤ n
-fitted_fits n m none = omega arith
-fitted_fits n m (some l) = go (leb (length l) n) refl
+fitted_fits n m None = omega arith
+fitted_fits n m (Some l) = go (leb (length l) n) refl
   where
     go : (b : Bool) → leb (length l) n ≡ b →
         line_size
-        (elim b [ true ↦ record { number = m; line = some l } | false ↦ record { number = refusal_number line_too_long; line = none } ]) ≤ n
+        (elim b [ true ↦ record { number = m; line = Some l } | false ↦ record { number = refusal_number line_too_long; line = None } ]) ≤ n
     go true e = leb-true (length l) n e
     go false e = omega arith
 
 pub line_fits : (n : ℕ) (x : Result Verdict) → line_size (reply n x) ≤ n
 unfolding reply
-line_fits n (ok v) = fitted_fits n 0 (some (verdict_line v))
+line_fits n (ok v) = fitted_fits n 0 (Some (verdict_line v))
 line_fits n (refused r) = fitted_fits n (refusal_number r) (refusal_line r)

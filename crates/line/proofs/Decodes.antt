@@ -2,7 +2,7 @@
 -- Assumes nothing.
 use mathlib.Core.Bool.{Bool, false, true}
 use mathlib.Core.List.{append_assoc, [], ◌++◌, ◌∷◌}
-use mathlib.Core.Option.{some}
+use Rattle.std.specs.Prelude.{Some}
 use mathlib.Core.Path.{ap, refl, sym, ◌∙◌, ◌≡◌}
 use Prim.Native.Nat.{suc, ℕ, ◌%◌, ◌*◌, ◌+◌, ◌/◌, ◌<◌, ◌≤◌}
 use native.Mathlib.Omega.{arith}
@@ -22,13 +22,13 @@ abbrev pub gave : Bytes → Bytes → Result (Read Bytes)
 gave t rest = ok (record { got = t; rest = rest })
 
 -- a hexadecimal digit is read back
-digit_back : (d : ℕ) → d < 16 → hex_digit (hex_of d) ≡ some d
+digit_back : (d : ℕ) → d < 16 → hex_digit (hex_of d) ≡ Some d
 digit_back d h = go (ltb d 10) refl
   where
-    go : (b : Bool) → ltb d 10 ≡ b → hex_digit (hex_of d) ≡ some d
+    go : (b : Bool) → ltb d 10 ≡ b → hex_digit (hex_of d) ≡ Some d
     go true e =
         let l = ltb-true d 10 e in
-        rw (low_hex d l, le-leb 48 (48 + d) (omega arith), le-leb (48 + d) 57 (omega arith)) (ap some (omega arith))
+        rw (low_hex d l, le-leb 48 (48 + d) (omega arith), le-leb (48 + d) 57 (omega arith)) (ap Some (omega arith))
     go false e =
         let l = ltb-false d 10 e in
         rw (
@@ -40,7 +40,7 @@ digit_back d h = go (ltb d 10) refl
               (87 + d) 70 (omega arith),
           le-leb 97 (87 + d) (omega arith),
           le-leb (87 + d) 102 (omega arith),
-        ) (ap some (omega arith))
+        ) (ap Some (omega arith))
 
 -- a scalar value below 32 is its own byte
 unit_back : (c : ℕ) (s : Bytes) → c < 32 → of_unit (record { got = c; rest = s }) ≡ gave (c ∷ []) s

@@ -2,7 +2,7 @@
 -- Assumes nothing.
 use mathlib.Core.Bool.{Bool, false, true}
 use mathlib.Core.List.{List, [], ◌++◌, ◌∷◌}
-use mathlib.Core.Option.{Option, none, some}
+use Rattle.std.specs.Prelude.{Option, None, Some}
 use Prim.Native.Nat.{Ordering, suc, zero, ℕ, ◌%◌, ◌*◌, ◌+◌, ◌/◌, ◌-◌, ◌≤◌}
 use native.Mathlib.Omega.{arith}
 use lib.Dec.{eqb, ltb}
@@ -163,10 +163,10 @@ unfolding escape unicode
 escape_short [] = tt
 escape_short (c ∷ s) = go (simple_escape c) (eqb c 117)
   where
-    go : (d : Option ℕ) (b : Bool) → Short (elim d [ some d ↦ ok (record { got = d ∷ []; rest = s }) | none ↦ elim b [ true ↦ unicode s | false ↦ refused not_json ] ]) 4
-    go (some d) b = omega arith
-    go none true = then_short (hex 4 0 s) of_unit unit_short
-    go none false = tt
+    go : (d : Option ℕ) (b : Bool) → Short (elim d [ Some d ↦ ok (record { got = d ∷ []; rest = s }) | None ↦ elim b [ true ↦ unicode s | false ↦ refused not_json ] ]) 4
+    go (Some d) b = omega arith
+    go None true = then_short (hex 4 0 s) of_unit unit_short
+    go None false = tt
 
 chars_short : (n : ℕ) (s : Bytes) → Short (chars n s) (4 * n)
 unfolding chars

@@ -1,39 +1,38 @@
 // An answer's line, measured and then written by the same code: where it does not fit, the output is as it was.
 ghost use Rattle.std.specs.Prelude.{List, ◌≡◌, ℕ, ◌≤◌, length};
 ghost use Rattle.json_text.specs.Bytes.{Bytes};
-ghost use Rattle.writer.specs.Laid.{Laid, Room, Shown};
+ghost use Rattle.writer.specs.Laid.{Laid, Shown};
 ghost use Rattle.answers.specs.Line.{number_line};
 ghost use Rattle.writer.specs.Meaning.{Emitted, Held, meaning};
 ghost use Rattle.answers.specs.Reply.{form_of, number_of, or_empty};
 
 use forms::form::{
-    false_number, guard_unknown, kept, not_a_source, refused, refused_text, rule_false,
-    rule_unknown, truth, unknown_number,
+    guard_unknown, kept, not_a_source, refused, refused_text, rule_false, rule_unknown, truth,
 };
 use writer::answer::{Answer, Sent};
-use writer::lay::bytes;
+use writer::lay::Output;
 
 // The form of an answer; nothing where it has none.
-fn form(out: &mut [u8], limit: usize, at: usize, s: &[u8], work: &[u32], a: Answer) -> usize
-    requires { Room limit out.old at × Held s.now work.now a }
-    ensures { Laid limit out.old at (or_empty (form_of (meaning s.now work.now a))) out.new result }
+fn form(out: &mut Output, s: &[u8], work: &[u32], a: Answer)
+    requires { Held s.now work.now a }
+    ensures { Laid out.old (or_empty (form_of (meaning s.now work.now a))) out.new }
 {
     match a {
-        Answer::True => truth(out, limit, at, s, work, b"true"),
-        Answer::False => truth(out, limit, at, s, work, b"false"),
-        Answer::Unknown => truth(out, limit, at, s, work, b"unknown"),
-        Answer::Passed => bytes(out, limit, at, b"(passed)"),
-        Answer::Selected(o) => kept(out, limit, at, s, b"selected", o),
-        Answer::Admitted(o) => kept(out, limit, at, s, b"admitted", o),
-        Answer::NoInput => at,
-        Answer::UnknownExpression(text) => refused_text(out, limit, at, s, 13, text),
-        Answer::NoId => bytes(out, limit, at, b"(refused 14 \"$id\")"),
-        Answer::RuleFalse(r) => rule_false(out, limit, at, s, r),
-        Answer::RuleUnknown(r) => rule_unknown(out, limit, at, s, work, r),
-        Answer::NoOutcome => bytes(out, limit, at, b"(refused 19)"),
-        Answer::GuardUnknown(o) => guard_unknown(out, limit, at, s, work, o),
-        Answer::WrongState(text) => refused_text(out, limit, at, s, 21, text),
-        Answer::NotASource(m) => not_a_source(out, limit, at, s, work, m),
+        Answer::True => truth(out, s, work, b"true"),
+        Answer::False => truth(out, s, work, b"false"),
+        Answer::Unknown => truth(out, s, work, b"unknown"),
+        Answer::Passed => out.bytes(b"(passed)"),
+        Answer::Selected(outcome) => kept(out, s, b"selected", outcome),
+        Answer::Admitted(outcome) => kept(out, s, b"admitted", outcome),
+        Answer::NoInput => {}
+        Answer::UnknownExpression(text) => refused_text(out, s, 13, text),
+        Answer::NoId => out.bytes(b"(refused 14 \"$id\")"),
+        Answer::RuleFalse(rule) => rule_false(out, s, rule),
+        Answer::RuleUnknown(rule) => rule_unknown(out, s, work, rule),
+        Answer::NoOutcome => out.bytes(b"(refused 19)"),
+        Answer::GuardUnknown(outcome) => guard_unknown(out, s, work, outcome),
+        Answer::WrongState(text) => refused_text(out, s, 21, text),
+        Answer::NotASource(m) => not_a_source(out, s, work, m),
     }
 }
 
@@ -42,23 +41,17 @@ fn number(a: Answer) -> usize
     ensures { (s : Bytes) (w : List ℕ) → result ≡ number_of (meaning s w a) }
 {
     match a {
-        Answer::True => 0,
-        Answer::False => 0,
-        Answer::Unknown => 0,
-        Answer::Passed => 0,
-        Answer::Selected(_) => 0,
-        Answer::Admitted(_) => 0,
+        Answer::True
+        | Answer::False
+        | Answer::Unknown
+        | Answer::Passed
+        | Answer::Selected(_)
+        | Answer::Admitted(_) => 0,
         Answer::NoInput => 12,
         Answer::UnknownExpression(_) => 13,
         Answer::NoId => 14,
-        Answer::RuleFalse(r) => {
-            let rules = r.rules;
-            false_number(rules)
-        }
-        Answer::RuleUnknown(r) => {
-            let rules = r.rules;
-            unknown_number(rules)
-        }
+        Answer::RuleFalse(rule) => rule.rules.false_number(),
+        Answer::RuleUnknown(rule) => rule.rules.unknown_number(),
         Answer::NoOutcome => 19,
         Answer::GuardUnknown(_) => 20,
         Answer::WrongState(_) => 21,
@@ -71,23 +64,25 @@ pub fn emit(s: &[u8], work: &[u32], out: &mut [u8], a: Answer) -> Sent
     requires { Held s.now work.now a }
     ensures { Emitted s.now work.now a out.old out.new result }
 {
-    let n = number(a);
-    if n == 12 {
-        return Sent { number: n, size: 0 };
+    let number = number(a);
+    if number == 12 {
+        return Sent { number, size: 0 };
     }
-    let limit = out.len();
-    let size = form(&mut out[0..0], limit, 0, s, work, a);
-    if limit <= size {
+    let mut measure = Output::new(&mut []);
+    form(&mut measure, s, work, a);
+    let size = measure.count();
+    if out.len() <= size {
         return Sent {
             number: 23,
             size: 0,
         };
     }
-    let end = form(out, limit, 0, s, work, a);
-    out[end] = b'\n';
+    let mut line = Output::new(out);
+    form(&mut line, s, work, a);
+    line.byte(b'\n');
     Sent {
-        number: n,
-        size: end + 1,
+        number,
+        size: size + 1,
     }
 }
 
@@ -96,7 +91,8 @@ pub fn number_line(out: &mut [u8], n: usize) -> usize
     requires { 32 ≤ length out.old }
     ensures { Shown (number_line n) out.old out.new result }
 {
-    let limit = out.len();
-    let here = refused(out, limit, 0, n);
-    bytes(out, limit, here, b")\n")
+    let mut line = Output::new(out);
+    refused(&mut line, n);
+    line.bytes(b")\n");
+    line.count()
 }

@@ -1,7 +1,7 @@
 -- The fault of a condition by its kind, its one member and what that holds.
 -- Assumes nothing.
 use mathlib.Core.Bool.{Bool, false, true, ◌||◌}
-use mathlib.Core.Option.{Option, none, some}
+use Rattle.std.specs.Prelude.{Option, None, Some}
 use mathlib.Core.Path.{ap, refl, sym, ◌∙◌, ◌≡◌}
 use Prim.Native.Nat.{suc, ℕ}
 use native.Mathlib.Omega.{arith}
@@ -44,8 +44,8 @@ fault_last (refused r) f = refl
 
 -- the first fault of two
 abbrev pub first_of : Option Refusal → Option Refusal → Option Refusal
-first_of none o = o
-first_of (some r) o = some r
+first_of None o = o
+first_of (Some r) o = Some r
 
 pub fault_bind : {A B : Type 0} (x : Result A) (f : A → Result B) (o : Option Refusal) → ((a : A) → fault_of (f a) ≡ o) → fault_of (x >>= f) ≡ first_of (fault_of x) o
 fault_bind (ok a) f o h = h a
@@ -64,7 +64,7 @@ pair_fault_lem f (array (cons v nil)) = refl
 pair_fault_lem f (array (cons v (cons w nil))) = refl
 pair_fault_lem f (array (cons v (cons w (cons x vs)))) = refl
 
-pub no_pair : (v : Value) → (tag v ≡ 5 → ⊥) → pair_fault v ≡ some wrong_shape
+pub no_pair : (v : Value) → (tag v ≡ 5 → ⊥) → pair_fault v ≡ Some wrong_shape
 unfolding pair_fault
 no_pair null h = refl
 no_pair (bool b) h = refl
@@ -73,14 +73,14 @@ no_pair (text s) h = refl
 no_pair (object ms) h = refl
 no_pair (array vs) h = absurd (h refl)
 
-pub two : (vs : Values) → length (elements vs) ≡ 2 → pair_fault (array vs) ≡ none
+pub two : (vs : Values) → length (elements vs) ≡ 2 → pair_fault (array vs) ≡ None
 unfolding pair_fault
 two nil h = absurd (omega arith)
 two (cons v nil) h = absurd (omega arith)
 two (cons v (cons w nil)) h = refl
 two (cons v (cons w (cons x vs))) h = absurd (omega arith)
 
-pub not_two : (vs : Values) → (length (elements vs) ≡ 2 → ⊥) → pair_fault (array vs) ≡ some wrong_shape
+pub not_two : (vs : Values) → (length (elements vs) ≡ 2 → ⊥) → pair_fault (array vs) ≡ Some wrong_shape
 unfolding pair_fault
 not_two nil h = refl
 not_two (cons v nil) h = refl
@@ -88,7 +88,7 @@ not_two (cons v (cons w nil)) h = absurd (h refl)
 not_two (cons v (cons w (cons x vs))) h = refl
 
 -- ---- conditions in an array
-pub no_conditions : (v : Value) → (tag v ≡ 5 → ⊥) → fault_of (condition_array v) ≡ some wrong_shape
+pub no_conditions : (v : Value) → (tag v ≡ 5 → ⊥) → fault_of (condition_array v) ≡ Some wrong_shape
 unfolding condition_array
 no_conditions null h = refl
 no_conditions (bool b) h = refl
@@ -104,7 +104,7 @@ pub conditions_array : (vs : Values) → fault_of (condition_array (array vs)) �
 unfolding condition_array
 conditions_array vs = refl
 
-pub conditions_none : faults_in nil ≡ none
+pub conditions_none : faults_in nil ≡ None
 unfolding conditions_in
 conditions_none = refl
 
@@ -114,8 +114,8 @@ conditions_first v vs = fault_bind (condition v) _ (faults_in vs) (λ c. fault_l
 
 -- ---- quantifiers
 abbrev pub with_condition : Option Value → Option (Value × Result Condition)
-with_condition none = none
-with_condition (some v) = some (v, condition v)
+with_condition None = None
+with_condition (Some v) = Some (v, condition v)
 
 pub find_conditions : (k : Bytes) (ms : Members) → find k (conditions_of ms) ≡ with_condition (find k (entries ms))
 unfolding find conditions_of
@@ -136,7 +136,7 @@ pub quantifier_of : (ms : Members) → quantifier_fault (object ms) ≡ fault_of
 unfolding quantifier_fault condition_object
 quantifier_of ms = refl
 
-pub no_quantifier : (v : Value) → (tag v ≡ 6 → ⊥) → quantifier_fault v ≡ some wrong_shape
+pub no_quantifier : (v : Value) → (tag v ≡ 6 → ⊥) → quantifier_fault v ≡ Some wrong_shape
 unfolding quantifier_fault condition_object
 no_quantifier null h = refl
 no_quantifier (bool b) h = refl
@@ -146,7 +146,7 @@ no_quantifier (array vs) h = refl
 no_quantifier (object ms) h = absurd (h refl)
 
 module _ (m : Mode) (ms : Members) where
-  pub several : (length (entries ms) ≡ 3 → ⊥) → fault_of (quantifier m (conditions_of ms)) ≡ some wrong_shape
+  pub several : (length (entries ms) ≡ 3 → ⊥) → fault_of (quantifier m (conditions_of ms)) ≡ Some wrong_shape
   unfolding quantifier
   several h = let q : eqb (length (conditions_of ms)) 3 ≡ false = ne_eqb (length (conditions_of ms)) 3 (λ z. h (sym (length_conditions ms) ∙ z)) in rw (q, quantifier)
 
@@ -154,26 +154,26 @@ module _ (m : Mode) (ms : Members) where
     pub exactly : eqb (length (conditions_of ms)) 3 ≡ true
     exactly = eq-eqb (length (conditions_of ms)) 3 (length_conditions ms ∙ three)
 
-    pub no_in : find (ascii "in") (entries ms) ≡ none → fault_of (quantifier m (conditions_of ms)) ≡ some wrong_shape
+    pub no_in : find (ascii "in") (entries ms) ≡ None → fault_of (quantifier m (conditions_of ms)) ≡ Some wrong_shape
     unfolding quantifier
     no_in e = rw (exactly, quantifier, find_conditions (ascii "in") ms, e)
 
-    module _ (over : Value) (is_in : find (ascii "in") (entries ms) ≡ some over) where
-      pub no_as : find (ascii "as") (entries ms) ≡ none → fault_of (quantifier m (conditions_of ms)) ≡ some wrong_shape
+    module _ (over : Value) (is_in : find (ascii "in") (entries ms) ≡ Some over) where
+      pub no_as : find (ascii "as") (entries ms) ≡ None → fault_of (quantifier m (conditions_of ms)) ≡ Some wrong_shape
       unfolding quantifier
       no_as e = rw (exactly, quantifier, find_conditions (ascii "in") ms, is_in, find_conditions (ascii "as") ms, e)
 
-      module _ (bind : Value) (is_as : find (ascii "as") (entries ms) ≡ some bind) where
-        pub no_that : find (ascii "that") (entries ms) ≡ none → fault_of (quantifier m (conditions_of ms)) ≡ some wrong_shape
+      module _ (bind : Value) (is_as : find (ascii "as") (entries ms) ≡ Some bind) where
+        pub no_that : find (ascii "that") (entries ms) ≡ None → fault_of (quantifier m (conditions_of ms)) ≡ Some wrong_shape
         unfolding quantifier
         no_that e = rw (exactly, quantifier, find_conditions (ascii "in") ms, is_in, find_conditions (ascii "as") ms, is_as, find_conditions (ascii "that") ms, e)
 
-        module _ (body : Value) (is_that : find (ascii "that") (entries ms) ≡ some body) where
-          pub no_name : as_text bind ≡ none → fault_of (quantifier m (conditions_of ms)) ≡ some wrong_shape
+        module _ (body : Value) (is_that : find (ascii "that") (entries ms) ≡ Some body) where
+          pub no_name : as_text bind ≡ None → fault_of (quantifier m (conditions_of ms)) ≡ Some wrong_shape
           unfolding quantifier
           no_name e = rw (exactly, quantifier, find_conditions (ascii "in") ms, is_in, find_conditions (ascii "as") ms, is_as, find_conditions (ascii "that") ms, is_that, e)
 
-          pub the_body : (t : Bytes) → as_text bind ≡ some t → fault_of (quantifier m (conditions_of ms)) ≡ fault_of (condition body)
+          pub the_body : (t : Bytes) → as_text bind ≡ Some t → fault_of (quantifier m (conditions_of ms)) ≡ fault_of (condition body)
           unfolding quantifier
           the_body t e =
               rw (
@@ -214,16 +214,16 @@ quantifier_fault_lem m (object ms) = go (eqb (length (conditions_of ms)) 3)
         (λ over. or_else b wrong_shape >>=
         (λ bind. or_else c wrong_shape >>=
         (λ body. or_else (n bind.0) wrong_shape >>= (λ name. body.1 >>= (λ x. ok (quantified every over.0 name x)))))))
-    four none b c n = refl
-    four (some o) none c n = refl
-    four (some o) (some b) none n = refl
-    four (some o) (some b) (some c) n = named (n b.0)
+    four None b c n = refl
+    four (Some o) None c n = refl
+    four (Some o) (Some b) None n = refl
+    four (Some o) (Some b) (Some c) n = named (n b.0)
       where
         named : (t : Option Bytes) →
             fault_of (or_else t wrong_shape >>= (λ name. c.1 >>= (λ x. ok (quantified m o.0 name x)))) ≡
             fault_of (or_else t wrong_shape >>= (λ name. c.1 >>= (λ x. ok (quantified every o.0 name x))))
-        named none = refl
-        named (some t) = last c.1 (λ x. quantified m o.0 t x) (λ x. quantified every o.0 t x)
+        named None = refl
+        named (Some t) = last c.1 (λ x. quantified m o.0 t x) (λ x. quantified every o.0 t x)
 
     go : (b : Bool) → fault_of {A = Condition}
         (elim b [
@@ -248,7 +248,7 @@ quantifier_fault_lem m (object ms) = go (eqb (length (conditions_of ms)) 3)
     go true = four (find (ascii "in") (conditions_of ms)) (find (ascii "as") (conditions_of ms)) (find (ascii "that") (conditions_of ms)) as_text
 
 -- ---- a condition by its kind and its one member
-pub a_boolean : (v : Value) → (eqb (tag v) 1 || eqb (tag v) 2) ≡ true → fault_of (condition v) ≡ none
+pub a_boolean : (v : Value) → (eqb (tag v) 1 || eqb (tag v) 2) ≡ true → fault_of (condition v) ≡ None
 unfolding condition
 a_boolean null h = let z : ◌≡◌ {A = ℕ} 0 1 = cc in absurd (omega arith)
 a_boolean (bool true) h = refl
@@ -258,7 +258,7 @@ a_boolean (text s) h = let z : ◌≡◌ {A = ℕ} 0 1 = cc in absurd (omega ari
 a_boolean (array vs) h = let z : ◌≡◌ {A = ℕ} 0 1 = cc in absurd (omega arith)
 a_boolean (object ms) h = let z : ◌≡◌ {A = ℕ} 0 1 = cc in absurd (omega arith)
 
-pub no_condition : (v : Value) → (eqb (tag v) 1 || eqb (tag v) 2) ≡ false → (tag v ≡ 6 → ⊥) → fault_of (condition v) ≡ some wrong_shape
+pub no_condition : (v : Value) → (eqb (tag v) 1 || eqb (tag v) 2) ≡ false → (tag v ≡ 6 → ⊥) → fault_of (condition v) ≡ Some wrong_shape
 unfolding condition
 no_condition null h f = refl
 no_condition (bool true) h f = let z : ◌≡◌ {A = ℕ} 0 1 = cc in absurd (omega arith)
@@ -268,7 +268,7 @@ no_condition (text s) h f = refl
 no_condition (array vs) h f = refl
 no_condition (object ms) h f = absurd (f refl)
 
-pub not_one : (ms : Members) → (length (entries ms) ≡ 1 → ⊥) → fault_of (condition (object ms)) ≡ some wrong_shape
+pub not_one : (ms : Members) → (length (entries ms) ≡ 1 → ⊥) → fault_of (condition (object ms)) ≡ Some wrong_shape
 unfolding condition one_member
 not_one empty h = refl
 not_one (member k v empty) h = absurd (h refl)
@@ -282,14 +282,14 @@ pub by_operator : (k : Bytes) (v : Value) {o : Option Operator} → find k opera
 unfolding condition one_member
 by_operator k v e = ap (made v) e
 
-pub made_junction : (v : Value) (m : Mode) → made v (some (op_junction m)) ≡ fault_of (condition_array v)
+pub made_junction : (v : Value) (m : Mode) → made v (Some (op_junction m)) ≡ fault_of (condition_array v)
 made_junction v m = fault_last (condition_array v) _
 
-pub made_negation : (v : Value) → made v (some op_negation) ≡ fault_of (condition v)
+pub made_negation : (v : Value) → made v (Some op_negation) ≡ fault_of (condition v)
 made_negation v = fault_last (condition v) _
 
-pub made_pair : (v : Value) (f : Form) → made v (some (op_pair f)) ≡ pair_fault v
+pub made_pair : (v : Value) (f : Form) → made v (Some (op_pair f)) ≡ pair_fault v
 made_pair v f = pair_fault_lem f v
 
-pub made_quantified : (v : Value) (m : Mode) → made v (some (op_quantified m)) ≡ quantifier_fault v
+pub made_quantified : (v : Value) (m : Mode) → made v (Some (op_quantified m)) ≡ quantifier_fault v
 made_quantified v m = quantifier_fault_lem m v

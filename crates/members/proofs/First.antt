@@ -3,7 +3,7 @@
 use mathlib.Core.Bool.{Bool, false, true}
 use mathlib.Core.List.{List, [], ◌++◌, ◌∷◌}
 use mathlib.Core.Logic.{◌≢◌}
-use mathlib.Core.Option.{Option, none, some}
+use Rattle.std.specs.Prelude.{Option, None, Some}
 use mathlib.Core.Path.{ap, refl, sym, ◌∙◌, ◌≡◌}
 use Prim.Native.Nat.{suc, ℕ, ◌+◌, ◌<◌, ◌≤◌}
 use native.Mathlib.Omega.{arith}
@@ -68,17 +68,17 @@ use Rattle.members.specs.First.{
 use Rattle.members.specs.Sheet.{Holds, each_under, held_by, holders, itself, member_of, member_of_each, sound, written}
 use Rattle.members.specs.Verdicts.{fault_of}
 
-first_none : (a : Option Refusal) → first_of a none ≡ a
-first_none none = refl
-first_none (some q) = refl
+first_none : (a : Option Refusal) → first_of a None ≡ a
+first_none None = refl
+first_none (Some q) = refl
 
 first_assoc : (a b c : Option Refusal) → first_of a (first_of b c) ≡ first_of (first_of a b) c
-first_assoc none b c = refl
-first_assoc (some q) b c = refl
+first_assoc None b c = refl
+first_assoc (Some q) b c = refl
 
 -- the fault of the first condition of a list that has one in itself
 first_fault : Bytes → List Node → Option Refusal
-first_fault s [] = none
+first_fault s [] = None
 first_fault s (c ∷ cs) = first_of (own_fault (erase s c)) (first_fault s cs)
 
 first_append : (s : Bytes) (xs ys : List Node) → first_fault s (xs ++ ys) ≡ first_of (first_fault s xs) (first_fault s ys)
@@ -98,8 +98,8 @@ fine_length (Members.member k v ms) = ap suc (fine_length ms)
 
 -- what both find under a name
 data Both (s k : Bytes) (ms : Members) (xs : List Node) : Type 0 where
-  neither : find k (conditions_of ms) ≡ none → find k (fine_members ms) ≡ none → Both s k ms xs
-  found : (v : Value) → find k (conditions_of ms) ≡ some (v, condition v) → find k (fine_members ms) ≡ some (v, fine) → first_fault s xs ≡ fault_of (condition v) → Both s k ms xs
+  neither : find k (conditions_of ms) ≡ None → find k (fine_members ms) ≡ None → Both s k ms xs
+  found : (v : Value) → find k (conditions_of ms) ≡ Some (v, condition v) → find k (fine_members ms) ≡ Some (v, fine) → first_fault s xs ≡ fault_of (condition v) → Both s k ms xs
 
 abbrev QuantifierFirst : Bytes → Mode → Members → List Node → Type 0
 QuantifierFirst s m ms zs = fault_of (quantifier m (conditions_of ms)) ≡ first_of (fault_of (quantifier m (fine_members ms))) (first_fault s zs)
@@ -116,8 +116,8 @@ quantifier_first s m ms xs ys zs a b c = go (eqb (length (fine_members ms)) 3) r
     made v o x = fault_of (or_else o wrong_shape >>= λ name. x >>= λ d. ok (quantified m v name d))
 
     named : (v x : Value) (o : Option Bytes) → first_fault s zs ≡ fault_of (condition x) → made v o (condition x) ≡ first_of (made v o fine) (first_fault s zs)
-    named v x none h = refl
-    named v x (some n) h = bind_fault (condition x) (λ d. quantified m v n d) ∙ sym h
+    named v x None h = refl
+    named v x (Some n) h = bind_fault (condition x) (λ d. quantified m v n d) ∙ sym h
 
     go : (t : Bool) → eqb (length (fine_members ms)) 3 ≡ t → Both s (ascii "in") ms xs → Both s (ascii "as") ms ys → Both s (ascii "that") ms zs → QuantifierFirst s m ms zs
     go false p a b c = rw (same, p, quantifier) refl
@@ -142,13 +142,13 @@ formed_first :
     (s : Bytes) (v : Value) (xs ys zs : List Node) → fault_of (condition v) ≡ first_fault s xs → JunctionFirst s v ys → QuantifiedFirst s v zs →
     (o : Option Operator) → FormedFirst s v xs ys zs o
 unfolding first_fault
-formed_first s v xs ys zs a b c none = refl
-formed_first s v xs ys zs a b c (some (op_junction m)) = b m
-formed_first s v xs ys zs a b c (some op_negation) = bind_fault (condition v) negation ∙ a
-formed_first s v xs ys zs a b c (some op_exists) = refl
-formed_first s v xs ys zs a b c (some (op_pair f)) = sym (first_none (fault_of (two_of f v)))
-formed_first s v xs ys zs a b c (some (op_quantified m)) = c m
-formed_first s v xs ys zs a b c (some op_not_carried) = refl
+formed_first s v xs ys zs a b c None = refl
+formed_first s v xs ys zs a b c (Some (op_junction m)) = b m
+formed_first s v xs ys zs a b c (Some op_negation) = bind_fault (condition v) negation ∙ a
+formed_first s v xs ys zs a b c (Some op_exists) = refl
+formed_first s v xs ys zs a b c (Some (op_pair f)) = sym (first_none (fault_of (two_of f v)))
+formed_first s v xs ys zs a b c (Some (op_quantified m)) = c m
+formed_first s v xs ys zs a b c (Some op_not_carried) = refl
 
 -- one member more
 abbrev Finds : Bytes → Bytes → Fields → Type 0
@@ -253,15 +253,15 @@ under_first s k (node t ts) =
 
 holder_first : (s : Bytes) (h : Option Holds) (t : Node) → soundness (held_by h (erase s t)) ≡ first_fault s (in_holder s h t)
 unfolding sound in_holder first_fault erase
-holder_first s none t = refl
-holder_first s (some itself) t = alone_first s t
-holder_first s (some (each_under k)) (leaf Plain.is_null a e) = refl
-holder_first s (some (each_under k)) (leaf Plain.is_true a e) = refl
-holder_first s (some (each_under k)) (leaf Plain.is_false a e) = refl
-holder_first s (some (each_under k)) (leaf Plain.is_number a e) = refl
-holder_first s (some (each_under k)) (leaf Plain.is_text a e) = refl
-holder_first s (some (each_under k)) (arr a e ts) = under_first s k ts
-holder_first s (some (each_under k)) (obj a e fs) = refl
+holder_first s None t = refl
+holder_first s (Some itself) t = alone_first s t
+holder_first s (Some (each_under k)) (leaf Plain.is_null a e) = refl
+holder_first s (Some (each_under k)) (leaf Plain.is_true a e) = refl
+holder_first s (Some (each_under k)) (leaf Plain.is_false a e) = refl
+holder_first s (Some (each_under k)) (leaf Plain.is_number a e) = refl
+holder_first s (Some (each_under k)) (leaf Plain.is_text a e) = refl
+holder_first s (Some (each_under k)) (arr a e ts) = under_first s k ts
+holder_first s (Some (each_under k)) (obj a e fs) = refl
 
 sheet_first : (s : Bytes) (fs : Fields) → soundness (written (entries (erase_of s fs))) ≡ first_fault s (in_sheet s fs)
 unfolding sound written in_sheet first_fault erase
@@ -293,13 +293,13 @@ rises_within : (low from middle high : ℕ) (xs : List Node) → low ≤ from �
 rises_within low from middle high xs h k r = rises_from low from high xs h (rises_upto from middle high xs k r)
 
 under_rises : (low high : ℕ) (xs ys zs : List Node) (o : Option Operator) → Rises low high xs → Rises low high ys → Rises low high zs → Rises low high (under xs ys zs o)
-under_rises low high xs ys zs none a b c = tt
-under_rises low high xs ys zs (some (op_junction m)) a b c = b
-under_rises low high xs ys zs (some op_negation) a b c = a
-under_rises low high xs ys zs (some op_exists) a b c = tt
-under_rises low high xs ys zs (some (op_pair f)) a b c = tt
-under_rises low high xs ys zs (some (op_quantified m)) a b c = c
-under_rises low high xs ys zs (some op_not_carried) a b c = tt
+under_rises low high xs ys zs None a b c = tt
+under_rises low high xs ys zs (Some (op_junction m)) a b c = b
+under_rises low high xs ys zs (Some op_negation) a b c = a
+under_rises low high xs ys zs (Some op_exists) a b c = tt
+under_rises low high xs ys zs (Some (op_pair f)) a b c = tt
+under_rises low high xs ys zs (Some (op_quantified m)) a b c = c
+under_rises low high xs ys zs (Some op_not_carried) a b c = tt
 
 field_rises :
     (s k : Bytes) (a e : ℕ) (t : Node) (fs : Fields) (low high : ℕ) → Rises low high (in_condition s t) → Rises low high (in_named s k fs) →
@@ -356,11 +356,11 @@ under_name_rises s k {low} {high} (node_ascends {middle = m} {t = t} {ts = ts} a
 
 holder_rises : (s : Bytes) (h : Option Holds) {low high : ℕ} {t : Node} → Ascends low high t → Rises low high (in_holder s h t)
 unfolding in_holder
-holder_rises s none r = tt
-holder_rises s (some itself) r = condition_rises s r
-holder_rises s (some (each_under k)) (leaf_ascends a b) = tt
-holder_rises s (some (each_under k)) {low} {high} (arr_ascends {from = f} {ts = ts} a b c d) = rises_from low f high (in_each_under s k ts) (omega arith) (under_name_rises s k d)
-holder_rises s (some (each_under k)) (obj_ascends a b c d) = tt
+holder_rises s None r = tt
+holder_rises s (Some itself) r = condition_rises s r
+holder_rises s (Some (each_under k)) (leaf_ascends a b) = tt
+holder_rises s (Some (each_under k)) {low} {high} (arr_ascends {from = f} {ts = ts} a b c d) = rises_from low f high (in_each_under s k ts) (omega arith) (under_name_rises s k d)
+holder_rises s (Some (each_under k)) (obj_ascends a b c d) = tt
 
 sheet_rises : (s : Bytes) {low high : ℕ} {fs : Fields} → AscendOf low high fs → Rises low high (in_sheet s fs)
 unfolding in_sheet
@@ -375,22 +375,22 @@ begins_behind low high [] d r i = elim i [ ]
 begins_behind low high (c ∷ cs) d r here = r.0
 begins_behind low high (c ∷ cs) d r (there i) = omega (arith, r.0, begins_behind (first_byte c + 1) high cs d r.2 i)
 
-least_first : (s : Bytes) (low high : ℕ) (cs : List Node) (q : Refusal) → Rises low high cs → first_fault s cs ≡ some q → First s cs q
+least_first : (s : Bytes) (low high : ℕ) (cs : List Node) (q : Refusal) → Rises low high cs → first_fault s cs ≡ Some q → First s cs q
 unfolding first_fault
 least_first s low high [] q r e = let z : ◌≡◌ {A = ℕ} 0 1 = cc in absurd (omega arith)
 least_first s low high (c ∷ cs) q r e = go (own_fault (erase s c)) refl (least_first s (first_byte c + 1) high cs q r.2)
   where
-    go : (o : Option Refusal) → own_fault (erase s c) ≡ o → (first_fault s cs ≡ some q → First s cs q) → First s (c ∷ cs) q
-    go (some x) p below = record { condition = c; is_one = here; fault = p ∙ (rw (p, first_fault) at e); least = here_least }
+    go : (o : Option Refusal) → own_fault (erase s c) ≡ o → (first_fault s cs ≡ Some q → First s cs q) → First s (c ∷ cs) q
+    go (Some x) p below = record { condition = c; is_one = here; fault = p ∙ (rw (p, first_fault) at e); least = here_least }
       where
-        here_least : (d : Node) → OneOf d (c ∷ cs) → own_fault (erase s d) ≢ none → first_byte c ≤ first_byte d
+        here_least : (d : Node) → OneOf d (c ∷ cs) → own_fault (erase s d) ≢ None → first_byte c ≤ first_byte d
         here_least d here h = omega arith
         here_least d (there i) h = omega (arith, begins_behind (first_byte c + 1) high cs d r.2 i)
-    go none p below =
+    go None p below =
         let k = below (rw (p, first_fault) at e) in
         record { condition = k.condition; is_one = there k.is_one; fault = k.fault; least = there_least k }
       where
-        there_least : (k : First s cs q) (d : Node) → OneOf d (c ∷ cs) → own_fault (erase s d) ≢ none → first_byte k.condition ≤ first_byte d
+        there_least : (k : First s cs q) (d : Node) → OneOf d (c ∷ cs) → own_fault (erase s d) ≢ None → first_byte k.condition ≤ first_byte d
         there_least k d here h = absurd (h p)
         there_least k d (there i) h = k.least d i h
 
@@ -406,16 +406,16 @@ first_at_fault s a e fs q h r =
     least_first s k.0 (length s) (in_sheet s fs) q (sheet_rises s k.1) (sym (sheet_first s fs) ∙ ap fault_of r)
 
 -- Where they are not refused, none is at fault in itself.
-none_first : (s : Bytes) (cs : List Node) → first_fault s cs ≡ none → (d : Node) → OneOf d cs → own_fault (erase s d) ≡ none
+none_first : (s : Bytes) (cs : List Node) → first_fault s cs ≡ None → (d : Node) → OneOf d cs → own_fault (erase s d) ≡ None
 unfolding first_fault
 none_first s [] e d i = elim i [ ]
 none_first s (c ∷ cs) e d i = go (own_fault (erase s c)) refl (none_first s cs) d i
   where
-    go : (o : Option Refusal) → own_fault (erase s c) ≡ o → (first_fault s cs ≡ none → (b : Node) → OneOf b cs → own_fault (erase s b) ≡ none) →
-        (b : Node) → OneOf b (c ∷ cs) → own_fault (erase s b) ≡ none
-    go (some x) p below b j = let z : ◌≡◌ {A = ℕ} 0 1 = cc (rw (p, first_fault) at e) in absurd (omega arith)
-    go none p below b here = p
-    go none p below b (there j) = below (rw (p, first_fault) at e) b j
+    go : (o : Option Refusal) → own_fault (erase s c) ≡ o → (first_fault s cs ≡ None → (b : Node) → OneOf b cs → own_fault (erase s b) ≡ None) →
+        (b : Node) → OneOf b (c ∷ cs) → own_fault (erase s b) ≡ None
+    go (Some x) p below b j = let z : ◌≡◌ {A = ℕ} 0 1 = cc (rw (p, first_fault) at e) in absurd (omega arith)
+    go None p below b here = p
+    go None p below b (there j) = below (rw (p, first_fault) at e) b j
 
-pub none_at_fault : (s : Bytes) (fs : Fields) (b : Bool) → sound (written (entries (erase_of s fs))) ≡ ok b → (d : Node) → OneOf d (in_sheet s fs) → own_fault (erase s d) ≡ none
+pub none_at_fault : (s : Bytes) (fs : Fields) (b : Bool) → sound (written (entries (erase_of s fs))) ≡ ok b → (d : Node) → OneOf d (in_sheet s fs) → own_fault (erase s d) ≡ None
 none_at_fault s fs b r = none_first s (in_sheet s fs) (sym (sheet_first s fs) ∙ ap fault_of r)

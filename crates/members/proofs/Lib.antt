@@ -4,7 +4,6 @@ pub mod Elements
 pub mod Examples
 pub mod Names
 pub mod Nine
-pub mod Operators
 pub mod Shapes
 pub mod Verdicts
 pub mod Walks

@@ -2,7 +2,7 @@
 -- Assumes nothing.
 use mathlib.Core.Bool.{Bool, false, true}
 use mathlib.Core.List.{List, [], ◌∷◌}
-use mathlib.Core.Option.{Option, none, some}
+use Rattle.std.specs.Prelude.{Option, None, Some}
 use mathlib.Core.Path.{ap, refl, ◌≡◌}
 use Rattle.json_text.specs.Bytes.{Bytes, ascii, find, is_one_of}
 use Rattle.json_text.specs.Json.{Members, Value, as_array, as_bool, as_number, as_object, as_text, elements, entries, is_null, keys}
@@ -29,8 +29,8 @@ last : {A B : Type 0} (x : Result A) (f : A → B) → OnlyNine x → OnlyNine (
 last x f p = bind x (λ a. ok (f a)) p (λ a. tt)
 
 else : {A : Type 0} (o : Option A) → OnlyNine (or_else o wrong_sheet)
-else none = refl
-else (some a) = tt
+else None = refl
+else (Some a) = tt
 
 only_nine : (allowed ks : List Bytes) → OnlyNine (only allowed ks)
 unfolding only
@@ -73,9 +73,9 @@ present_nine v = go (is_null v)
 some_nine : (v : Value) → OnlyNine (some_texts v)
 some_nine v = go (as_text v)
   where
-    go : (o : Option Bytes) → OnlyNine {A = List Bytes} (elim o [ some s ↦ ok (s ∷ []) | none ↦ an_array_of a_text v ])
-    go (some s) = tt
-    go none = array_nine a_text text_nine v
+    go : (o : Option Bytes) → OnlyNine {A = List Bytes} (elim o [ Some s ↦ ok (s ∷ []) | None ↦ an_array_of a_text v ])
+    go (Some s) = tt
+    go None = array_nine a_text text_nine v
 
 module _ {A : Type 0} (kind : Value → Result A) (h : (v : Value) → OnlyNine (kind v)) (k : Bytes) (ms : Members) where
   required_nine : OnlyNine (required kind k ms)
@@ -84,9 +84,9 @@ module _ {A : Type 0} (kind : Value → Result A) (h : (v : Value) → OnlyNine 
   optional_nine : OnlyNine (optional kind k ms)
   optional_nine = go (find k (entries ms))
     where
-      go : (o : Option Value) → OnlyNine {A = Option A} (elim o [ none ↦ ok none | some v ↦ (kind v >>= (λ a. ok (some a))) ])
-      go none = tt
-      go (some v) = last (kind v) _ (h v)
+      go : (o : Option Value) → OnlyNine {A = Option A} (elim o [ None ↦ ok None | Some v ↦ (kind v >>= (λ a. ok (Some a))) ])
+      go None = tt
+      go (Some v) = last (kind v) _ (h v)
 
 move_nine : (v : Value) → OnlyNine (a_move v)
 unfolding a_move
@@ -102,12 +102,12 @@ effect_nine v = go (as_text v)
   where
     go : (o : Option Bytes) → OnlyNine {A = Effect}
         (elim o [
-          | some s ↦ or_else (find s effect_words) wrong_sheet
-          | none ↦
+          | Some s ↦ or_else (find s effect_words) wrong_sheet
+          | None ↦
               (an_object v >>= (λ ms. only (ascii "moves" ∷ []) (keys ms) >>= (λ _. required a_move (ascii "moves") ms)))
         ])
-    go (some s) = else (find s effect_words)
-    go none =
+    go (Some s) = else (find s effect_words)
+    go None =
         bind (an_object v) _ (object_nine v)
         (λ ms. bind (only (ascii "moves" ∷ []) (keys ms)) _ (only_nine (ascii "moves" ∷ []) (keys ms)) (λ _. required_nine a_move move_nine (ascii "moves") ms))
 

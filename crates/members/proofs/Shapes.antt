@@ -12,15 +12,21 @@ use Rattle.json_text.proofs.Walk.{View, is_array, is_object, is_plain, view}
 use Rattle.json_text.specs.Bytes.{Bytes, choose}
 use Rattle.json_text.specs.Fits.{FitsLeaf, Numeral, Text}
 use Rattle.json_text.specs.Held.{AreMembers, AreNodes, IsNode}
-use Rattle.json_text.specs.Json.{Value, Values, array, bool, null, number, object, text}
-use Rattle.json_text.specs.Refusal.{ok, refused, wrong_sheet}
+use Rattle.json_text.specs.Json.{Value, array, bool, null, number, object, text}
+use Rattle.json_text.specs.Refusal.{Result, ok, refused, wrong_sheet}
 use Rattle.json_text.specs.Spans.{Plain, plain, text_at}
 use Rattle.json_text.specs.Table.{after_at, code, end_at, kind_at, members_at, start_at, value_at, values_at}
 use Rattle.members.proofs.Verdicts.{array_ok_lem}
-use Rattle.members.specs.Kinds.{a_text, a_version, is_version}
-use Rattle.members.specs.Verdicts.{all_of, is_ok}
-use Rattle.members.specs.Wants.{meets}
-use Rattle.members.specs.declared.kinds.Want.TheVariants as wants
+use Rattle.members.specs.Kinds.{a_bool, a_text, a_version, an_array_of, an_object, is_version, not_null, some_texts}
+use Rattle.members.specs.Verdicts.{is_ok}
+use denote.Enum.Bare.{sameb}
+use Rattle.strings.proofs.KindCodes.{is_kind, is_other}
+use Rattle.strings.specs.Answers.{code_of}
+use Rattle.strings.specs.contracts.rows.Kind.{the_type}
+use Rattle.strings.specs.declared.rows.Kind.{Kind}
+use Rattle.strings.specs.declared.rows.Kind.TheVariants as kinds
+use mathlib.Core.Logic.{inl, inr, ◌⊎◌}
+use Rattle.members.specs.Wants.{array_where}
 
 -- a value's kind, by number
 abbrev pub tag : Value → ℕ
@@ -104,9 +110,30 @@ module _ {s : Bytes} {w : List ℕ} {left n : ℕ} (h : IsNode s w left n) where
       go (is_array p q v m) = absurd (omega arith)
       go (is_object p q v m) = (v, m, q)
 
+-- ---- a row's kind compared with another, by the codes
+pub same_kind : (k q : Kind) {n : ℕ} → code_of k ≡ n → sameb the_type k q ≡ eqb n (code_of q)
+same_kind k q {n = n} e = go (sameb the_type k q) refl
+  where
+    go : (b : Bool) → sameb the_type k q ≡ b → b ≡ eqb n (code_of q)
+    go true h = sym (eq-eqb n (code_of q) (is_kind k q e (sym h)))
+    go false h = sym (ne_eqb n (code_of q) (is_other k q e (sym h)))
+
+pub alike : (k q : Kind) {r : Bool} → r ≡ not (sameb the_type k q) → r ≡ false → code_of k ≡ code_of q
+alike k q i j = is_kind k q refl (go (sameb the_type k q) (sym i ∙ j))
+  where
+    go : (b : Bool) → not b ≡ false → true ≡ b
+    go true h = refl
+    go false h = h
+
+pub unlike : (k q : Kind) {r : Bool} → r ≡ not (sameb the_type k q) → r ≡ true → code_of k ≡ code_of q → ⊥
+unlike k q i j = is_other k q refl (go (sameb the_type k q) (sym i ∙ j))
+  where
+    go : (b : Bool) → not b ≡ true → false ≡ b
+    go true h = h
+    go false h = refl
+
 -- ---- what is wanted of a member, by the kind's number
-pub text_tag : (v : Value) → eqb (tag v) 4 ≡ meets wants.Text v
-unfolding meets
+pub text_tag : (v : Value) → eqb (tag v) 4 ≡ is_ok (a_text v)
 text_tag null = refl
 text_tag (bool true) = refl
 text_tag (bool false) = refl
@@ -115,8 +142,7 @@ text_tag (text s) = refl
 text_tag (array vs) = refl
 text_tag (object ms) = refl
 
-pub bool_tag : (v : Value) → (eqb (tag v) 1 || eqb (tag v) 2) ≡ meets wants.Bool v
-unfolding meets
+pub bool_tag : (v : Value) → (eqb (tag v) 1 || eqb (tag v) 2) ≡ is_ok (a_bool v)
 bool_tag null = refl
 bool_tag (bool true) = refl
 bool_tag (bool false) = refl
@@ -125,8 +151,51 @@ bool_tag (text s) = refl
 bool_tag (array vs) = refl
 bool_tag (object ms) = refl
 
-pub object_tag : (v : Value) → eqb (tag v) 6 ≡ meets wants.Object v
-unfolding meets
+-- of a kind that is one of two, or neither
+unfoldable pub is_either : Kind → Bool
+is_either k = eqb (code_of k) 1 || eqb (code_of k) 2
+
+pub either : (k : Kind) → (k ≡ kinds.True) ⊎ (k ≡ kinds.False) → true ≡ is_either k
+unfolding is_either
+either k (inl e) = sym (ap is_either e)
+either k (inr e) = sym (ap is_either e)
+
+pub neither : (k : Kind) → (k ≡ kinds.True → ⊥) → (k ≡ kinds.False → ⊥) → false ≡ is_either k
+unfolding is_either
+neither kinds.Null f g = refl
+neither kinds.True f g = absurd (f refl)
+neither kinds.False f g = absurd (g refl)
+neither kinds.Number f g = refl
+neither kinds.Text f g = refl
+neither kinds.Array f g = refl
+neither kinds.Object f g = refl
+neither kinds.Free f g = refl
+
+pub no_object_code : (k : Kind) → (k ≡ kinds.Object → ⊥) → code_of k ≡ 6 → ⊥
+no_object_code kinds.Null f e = omega arith
+no_object_code kinds.True f e = omega arith
+no_object_code kinds.False f e = omega arith
+no_object_code kinds.Number f e = omega arith
+no_object_code kinds.Text f e = omega arith
+no_object_code kinds.Array f e = omega arith
+no_object_code kinds.Object f e = f refl
+no_object_code kinds.Free f e = omega arith
+
+pub no_text_code : (k : Kind) → (k ≡ kinds.Text → ⊥) → code_of k ≡ 4 → ⊥
+no_text_code kinds.Null f e = omega arith
+no_text_code kinds.True f e = omega arith
+no_text_code kinds.False f e = omega arith
+no_text_code kinds.Number f e = omega arith
+no_text_code kinds.Text f e = f refl
+no_text_code kinds.Array f e = omega arith
+no_text_code kinds.Object f e = omega arith
+no_text_code kinds.Free f e = omega arith
+
+pub code_bool : (k : Kind) (v : Value) → code_of k ≡ tag v → is_either k ≡ is_ok (a_bool v)
+unfolding is_either
+code_bool k v e = ap {B = Bool} (λ (n : ℕ). eqb n 1 || eqb n 2) e ∙ bool_tag v
+
+pub object_tag : (v : Value) → eqb (tag v) 6 ≡ is_ok (an_object v)
 object_tag null = refl
 object_tag (bool true) = refl
 object_tag (bool false) = refl
@@ -135,8 +204,7 @@ object_tag (text s) = refl
 object_tag (array vs) = refl
 object_tag (object ms) = refl
 
-pub present_tag : (v : Value) → not (eqb (tag v) 0) ≡ meets wants.Present v
-unfolding meets
+pub present_tag : (v : Value) → not (eqb (tag v) 0) ≡ is_ok (not_null v)
 present_tag null = refl
 present_tag (bool true) = refl
 present_tag (bool false) = refl
@@ -145,8 +213,8 @@ present_tag (text s) = refl
 present_tag (array vs) = refl
 present_tag (object ms) = refl
 
-pub no_version : (v : Value) → (tag v ≡ 3 → ⊥) → false ≡ meets wants.Version v
-unfolding meets a_version
+pub no_version : (v : Value) → (tag v ≡ 3 → ⊥) → false ≡ is_ok (a_version v)
+unfolding a_version
 no_version null h = refl
 no_version (bool true) h = refl
 no_version (bool false) h = refl
@@ -155,54 +223,48 @@ no_version (text s) h = refl
 no_version (array vs) h = refl
 no_version (object ms) h = refl
 
-pub version_of : (t : Bytes) → is_version t ≡ meets wants.Version (number t)
-unfolding meets a_version
+pub version_of : (t : Bytes) → is_version t ≡ is_ok (a_version (number t))
+unfolding a_version
 version_of t = pick (is_version t)
   where
     pick : (b : Bool) → b ≡ is_ok {A = Bytes} (elim b [ true ↦ ok t | false ↦ refused wrong_sheet ])
     pick true = refl
     pick false = refl
 
--- an array that holds texts, alone or where one text could stand
-pub texts_of : (vs : Values) → all_of (meets wants.Text) vs ≡ meets wants.Texts (array vs)
-unfolding meets
-texts_of vs = sym (array_ok_lem a_text vs)
+-- an array by a test of its elements, alone or where one text could stand
+pub array_test : {A : Type 0} (kind : Value → Result A) (v : Value) → array_where (λ w. is_ok (kind w)) v ≡ is_ok (an_array_of kind v)
+array_test kind null = refl
+array_test kind (bool b) = refl
+array_test kind (number s) = refl
+array_test kind (text s) = refl
+array_test kind (array vs) = sym (array_ok_lem kind vs)
+array_test kind (object ms) = refl
 
-pub text_or_texts_of : (vs : Values) → all_of (meets wants.Text) vs ≡ meets wants.TextOrTexts (array vs)
-unfolding meets
-text_or_texts_of vs = sym (array_ok_lem a_text vs)
+pub no_array : (p : Value → Bool) (v : Value) → (tag v ≡ 5 → ⊥) → false ≡ array_where p v
+no_array p null h = refl
+no_array p (bool b) h = refl
+no_array p (number s) h = refl
+no_array p (text s) h = refl
+no_array p (array vs) h = absurd (h refl)
+no_array p (object ms) h = refl
 
-pub text_alone : (t : Bytes) → true ≡ meets wants.TextOrTexts (text t)
-unfolding meets
-text_alone t = refl
+pub text_alone : (v : Value) → true ≡ is_ok (a_text v) → true ≡ is_ok (some_texts v)
+text_alone null h = h
+text_alone (bool b) h = h
+text_alone (number s) h = h
+text_alone (text s) h = refl
+text_alone (array vs) h = cc
+text_alone (object ms) h = h
 
-pub no_texts : (v : Value) → (tag v ≡ 5 → ⊥) → false ≡ meets wants.Texts v
-unfolding meets
-no_texts null h = refl
-no_texts (bool true) h = refl
-no_texts (bool false) h = refl
-no_texts (number s) h = refl
-no_texts (text s) h = refl
-no_texts (array vs) h = absurd (h refl)
-no_texts (object ms) h = refl
+pub no_text_alone : (v : Value) → false ≡ is_ok (a_text v) → is_ok (an_array_of a_text v) ≡ is_ok (some_texts v)
+no_text_alone null h = refl
+no_text_alone (bool b) h = refl
+no_text_alone (number s) h = refl
+no_text_alone (text s) h = cc
+no_text_alone (array vs) h = refl
+no_text_alone (object ms) h = refl
 
-pub no_text_or_texts : (v : Value) → (tag v ≡ 4 → ⊥) → (tag v ≡ 5 → ⊥) → false ≡ meets wants.TextOrTexts v
-unfolding meets
-no_text_or_texts null g h = refl
-no_text_or_texts (bool true) g h = refl
-no_text_or_texts (bool false) g h = refl
-no_text_or_texts (number s) g h = refl
-no_text_or_texts (text s) g h = absurd (g refl)
-no_text_or_texts (array vs) g h = absurd (h refl)
-no_text_or_texts (object ms) g h = refl
-
--- a text, or none, by the kind that code has read
+-- a kind that code has read is the value's
 module _ {s : Bytes} {w : List ℕ} {left n : ℕ} (h : IsNode s w left n) (k : ℕ) (p : k ≡ kind_at w n) where
   pub tagged : k ≡ tag (value_at s w n)
   tagged = p ∙ tag_at h
-
-  pub is_text_lem : k ≡ 4 → true ≡ meets wants.Text (value_at s w n)
-  is_text_lem e = sym (eq-eqb (tag (value_at s w n)) 4 (sym tagged ∙ e)) ∙ text_tag (value_at s w n)
-
-  pub no_text : (k ≡ 4 → ⊥) → false ≡ meets wants.Text (value_at s w n)
-  no_text f = sym (ne_eqb (tag (value_at s w n)) 4 (λ e. f (tagged ∙ e))) ∙ text_tag (value_at s w n)

@@ -2,8 +2,10 @@
 -- Assumes nothing.
 use mathlib.Core.Bool.{Bool, ◌&&◌}
 use mathlib.Core.List.{◌∷◌}
-use mathlib.Core.Option.{Option, none, some}
-use mathlib.Core.Path.{refl, ◌∙◌, ◌≡◌}
+use Rattle.std.specs.Prelude.{Result as Fallible}
+use Rattle.std.specs.Prelude.{Option, None, Some, Ok, Err}
+use Rattle.std.specs.Result.{IsErrAnd}
+use mathlib.Core.Path.{ap, refl, ◌∙◌, ◌≡◌}
 use Prim.Native.Nat.{ℕ}
 use native.Mathlib.Omega.{arith}
 use Rattle.json_text.specs.Bytes.{Bytes, find}
@@ -41,12 +43,17 @@ module _ {A : Type 0} (kind : Value → Result A) (k : Bytes) (ms : Members) whe
   required_ok = go (find k (entries ms))
     where
       go : (o : Option Value) → is_ok (or_else o wrong_sheet >>= kind) ≡ needed (λ v. is_ok (kind v)) o
-      go none = refl
-      go (some v) = refl
+      go None = refl
+      go (Some v) = refl
 
   pub optional_ok : is_ok (optional kind k ms) ≡ allowed (λ v. is_ok (kind v)) (find k (entries ms))
   optional_ok = go (find k (entries ms))
     where
-      go : (o : Option Value) → is_ok {A = Option A} (elim o [ none ↦ ok none | some v ↦ (kind v >>= (λ a. ok (some a))) ]) ≡ allowed (λ v. is_ok (kind v)) o
-      go none = refl
-      go (some v) = ok_last (kind v) (λ a. some a)
+      go : (o : Option Value) → is_ok {A = Option A} (elim o [ None ↦ ok None | Some v ↦ (kind v >>= (λ a. ok (Some a))) ]) ≡ allowed (λ v. is_ok (kind v)) o
+      go None = refl
+      go (Some v) = ok_last (kind v) (λ a. Some a)
+
+-- what `?` hands on is the fault itself
+pub handed_on : {A E : Type 0} (r : Fallible A E) {e : E} → IsErrAnd r (λ y. y ≡ e) → r ≡ Err e
+handed_on (Ok a) h = absurd h
+handed_on (Err y) h = ap Err h

@@ -1,28 +1,59 @@
--- A text against a word, and against words, turn by turn.
+-- A text against a word, turn by turn, and whether it is one of several.
 -- Assumes nothing.
-use mathlib.Core.Bool.{Bool, false, true}
-use mathlib.Core.List.{[], ◌++◌, ◌∷◌}
-use mathlib.Core.Option.{none, some}
+use mathlib.Core.Bool.{Bool, false, not, true}
+use mathlib.Core.List.{List, [], ◌++◌, ◌∷◌}
+use Rattle.std.specs.Borrow.{Bor}
+use Rattle.std.specs.Prelude.{Option, None, Some}
+use Rattle.std.specs.Option.{is_some}
+use Rattle.std.specs.List.{position, position_from}
+use Rattle.std.proofs.lemmas.Iterator.Adapters.{position_from-zero}
 use mathlib.Core.Path.{ap, refl, subst, sym, ◌∙◌, ◌≡◌}
-use Prim.Native.Nat.{suc, zero, ℕ, ◌+◌, ◌-◌, ◌<◌, ◌≤◌}
+use Prim.Native.Nat.{ℕ, ◌+◌, ◌-◌, ◌<◌, ◌≤◌}
 use native.Mathlib.Numerals.{add-one}
 use native.Mathlib.Omega.{arith}
-use lib.Dec.{eqb}
+use lib.Dec.{eqb, ltb}
 use lib.ListN.{drop, drop_of_length-le, get_or, length, length-drop, take}
-use lib.Seq.{drop-cons, get_or-drop, take_all, take-suc}
-use borrow.Author.Tests.{eq-eqb, ne_eqb}
-use Rattle.json_text.proofs.Cursor.{same_apart, same_long, same_none, same_on, same_short, turn_end, turn_raw}
+use lib.Seq.{drop-cons, take_all}
+use borrow.Author.Tests.{ltb-false, ltb-true}
+use Rattle.json_text.proofs.Cursor.{encode_1, encode_2, encode_3, encode_4, same_apart, same_long, same_none, same_on, same_short, turn_end, turn_raw}
+use Rattle.json_text.proofs.Texts.{TextView, ended, raw, text_view, written}
 use Rattle.json_text.proofs.Laws.{eqb_no, eqb_true}
 use Rattle.strings.proofs.Leaves.{before_of}
-use Rattle.json_text.specs.Bytes.{Bytes, same_bytes}
+use Rattle.json_text.specs.Bytes.{Bytes, is_one_of, same_bytes}
 use Rattle.json_text.specs.Cursor.{OnText, Took, before}
 use Rattle.json_text.specs.Spans.{text_at}
+use Rattle.json_text.specs.Utf8.{encode}
+use Rattle.strings.specs.Answers.{Stepped}
 use Rattle.strings.specs.declared.text.Cursor.{Cursor}
 use Rattle.strings.specs.declared.text.Taken.{Taken}
-use Rattle.members.specs.Words.{position, words_from, words}
+use Rattle.members.specs.Words.{words}
 
 pub here : (l : Bytes) (i : ℕ) → i < length l → drop i l ≡ get_or l i 0 ∷ drop (i + 1) l
 here l i h = rw add-one (drop-cons l i 0 h)
+
+-- a text that is not at its closing quote has a byte to come
+begun : (u : ℕ) → (b : ℕ) × (r : Bytes) × (encode u ≡ b ∷ r)
+begun u = one (ltb u 128) refl
+  where
+    three : (b : Bool) → 2048 ≤ u → ltb u 65536 ≡ b → (b : ℕ) × (r : Bytes) × (encode u ≡ b ∷ r)
+    three true h e = (_, _, encode_3 u h (ltb-true u 65536 e))
+    three false h e = (_, _, encode_4 u (ltb-false u 65536 e))
+
+    two : (b : Bool) → 128 ≤ u → ltb u 2048 ≡ b → (b : ℕ) × (r : Bytes) × (encode u ≡ b ∷ r)
+    two true h e = (_, _, encode_2 u h (ltb-true u 2048 e))
+    two false h e = three (ltb u 65536) (ltb-false u 2048 e) refl
+
+    one : (b : Bool) → ltb u 128 ≡ b → (b : ℕ) × (r : Bytes) × (encode u ≡ b ∷ r)
+    one true e = (_, _, encode_1 u (ltb-true u 128 e))
+    one false e = two (ltb u 2048) (ltb-false u 128 e) refl
+
+text_goes_on : (s : Bytes) (at : ℕ) → OnText s at 0 → (get_or s at 0 ≡ 34 → ⊥) → (b : ℕ) × (r : Bytes) × (text_at s at ≡ b ∷ r)
+text_goes_on s at o f = go (text_view s at o.stop o.text)
+  where
+    go : TextView s at o.stop → (b : ℕ) × (r : Bytes) × (text_at s at ≡ b ∷ r)
+    go (ended i j k) = absurd (f j)
+    go (raw i j k t) = (_, _, k)
+    go (written u b i j k t l) = let x = begun u in (x.0, x.1 ++ text_at s b, k ∙ ap (λ (y : Bytes). y ++ text_at s b) x.2)
 
 -- what the cursor has before it against the rest of the word
 pub record Spelling (s : Bytes) (at : ℕ) (word : Bytes) (c : Cursor) (i : ℕ) : Type 0 where
@@ -39,33 +70,45 @@ unfolding before
 spelling s at word o = record { on = o; upto = omega arith; same = refl }
 
 module _ {s : Bytes} {at : ℕ} {word : Bytes} {c : Cursor} {i : ℕ} (l : Spelling s at word c i) where
-  pub text_ended : before_of s c ≡ [] → eqb i (length word) ≡ same_bytes (text_at s at) word
-  text_ended e = go (eqb i (length word)) refl
-    where
-      go : (b : Bool) → eqb i (length word) ≡ b → eqb i (length word) ≡ same_bytes (text_at s at) word
-      go true q = q ∙ sym (l.same ∙ same_none e (drop_of_length-le word {i = i} (omega (arith, eqb_true i (length word) q))))
-      go false q = q ∙ sym (l.same ∙ same_short e (here word i (omega (arith, l.upto, eqb_no i (length word) q))))
+  -- the text ends, and the word with it or not
+  pub ended_early : before_of s c ≡ [] → i < length word → false ≡ same_bytes (text_at s at) word
+  ended_early e h = sym (l.same ∙ same_short e (here word i h))
+
+  pub ended_both : before_of s c ≡ [] → length word ≤ i → true ≡ same_bytes (text_at s at) word
+  ended_both e h = sym (l.same ∙ same_none e (drop_of_length-le word {i = i} h))
+
+  pub spelled : length word ≤ i → (r : Option Taken) → Stepped s c r → (b : Bool) → is_some r ≡ not b → b ≡ same_bytes (text_at s at) word
+  unfolding Stepped
+  spelled h None k true e = ended_both k h
+  spelled h None k false e = absurd (cc)
+  spelled h (Some t) k true e = absurd (cc)
+  spelled h (Some t) k false e = sym (l.same ∙ same_long k.byte (drop_of_length-le word {i = i} h))
 
   module _ (t : Taken) (k : Took s c.at c.unit c.left t.byte t.rest.at t.rest.unit t.rest.left) where
-    pub word_ended : i ≡ length word → false ≡ same_bytes (text_at s at) word
-    word_ended e = sym (l.same ∙ same_long k.byte (drop_of_length-le word {i = i} (omega arith)))
+    pub unlike : i < length word → (t.byte ≡ get_or word i 0 → ⊥) → false ≡ same_bytes (text_at s at) word
+    unlike h g = sym (l.same ∙ same_apart k.byte (here word i h) g)
 
-    pub unlike : (i ≡ length word → ⊥) → (t.byte ≡ get_or word i 0 → ⊥) → false ≡ same_bytes (text_at s at) word
-    unlike f g = sym (l.same ∙ same_apart k.byte (here word i (omega (arith, l.upto))) g)
-
-    pub like : (i ≡ length word → ⊥) → t.byte ≡ get_or word i 0 → Spelling s at word t.rest (i + 1)
-    like f e = record { on = k.on_text; upto = omega (arith, l.upto); same = l.same ∙ same_on k.byte (here word i (omega (arith, l.upto))) e }
+    pub like : i < length word → t.byte ≡ get_or word i 0 → Spelling s at word t.rest (i + 1)
+    like h e = record { on = k.on_text; upto = omega arith; same = l.same ∙ same_on k.byte (here word i h) e }
 
 -- the same where no escape has been met: the cursor is as many bytes into the text as into the word
 pub plainly : (s : Bytes) (at : ℕ) (word : Bytes) → OnText s at 0 → Spelling s at word (fresh (at + 0)) 0
 plainly s at word o = subst (λ (a : ℕ). Spelling s at word (fresh a) 0) (omega arith) (spelling s at word o)
 
 module _ {s : Bytes} {at : ℕ} {word : Bytes} {i : ℕ} (l : Spelling s at word (fresh (at + i)) i) where
-  pub plain_in : at + i < length s
-  plain_in = omega (arith, l.on.text.order, l.on.text.upto)
+  pub plain_ended : get_or s (at + i) 0 ≡ 34 → i < length word → false ≡ same_bytes (text_at s at) word
+  plain_ended e h = ended_early l (turn_end s (at + i) 0 0 l.on refl e) h
 
-  pub plain_ended : get_or s (at + i) 0 ≡ 34 → eqb i (length word) ≡ same_bytes (text_at s at) word
-  plain_ended e = text_ended l (turn_end s (at + i) 0 0 l.on refl e)
+  -- behind the whole word, the text ends at a quote and nowhere else
+  pub plain_spelled : i ≡ length word → eqb (get_or s (at + length word) 0) 34 ≡ same_bytes (text_at s at) word
+  unfolding before
+  plain_spelled h = ap (λ (x : ℕ). eqb (get_or s (at + x) 0) 34) (sym h) ∙ go (eqb (get_or s (at + i) 0) 34) refl
+    where
+      go : (b : Bool) → eqb (get_or s (at + i) 0) 34 ≡ b → eqb (get_or s (at + i) 0) 34 ≡ same_bytes (text_at s at) word
+      go true e = e ∙ ended_both l (turn_end s (at + i) 0 0 l.on refl (eqb_true (get_or s (at + i) 0) 34 e)) (omega arith)
+      go false e =
+          let x = text_goes_on s (at + i) l.on (eqb_no (get_or s (at + i) 0) 34 e) in
+          e ∙ sym (l.same ∙ same_long x.2 (drop_of_length-le word {i = i} (omega arith)))
 
   pub plain_escape : {r : Bool} → r ≡ same_bytes (text_at s (at + i)) (take (length word - i) (drop i word)) → r ≡ same_bytes (text_at s at) word
   unfolding before
@@ -78,13 +121,10 @@ module _ {s : Bytes} {at : ℕ} {word : Bytes} {i : ℕ} (l : Spelling s at word
     plain_took : Took s (at + i) 0 0 (get_or s (at + i) 0) (at + i + 1) 0 0
     plain_took = turn_raw s (at + i) 0 0 l.on refl f g
 
-    pub plain_long : i ≡ length word → false ≡ same_bytes (text_at s at) word
-    plain_long = word_ended l plain_taken plain_took
-
-    pub plain_unlike : (i ≡ length word → ⊥) → (get_or s (at + i) 0 ≡ get_or word i 0 → ⊥) → false ≡ same_bytes (text_at s at) word
+    pub plain_unlike : i < length word → (get_or s (at + i) 0 ≡ get_or word i 0 → ⊥) → false ≡ same_bytes (text_at s at) word
     plain_unlike = unlike l plain_taken plain_took
 
-    pub plain_like : (i ≡ length word → ⊥) → get_or s (at + i) 0 ≡ get_or word i 0 → Spelling s at word (fresh (at + (i + 1))) (i + 1)
+    pub plain_like : i < length word → get_or s (at + i) 0 ≡ get_or word i 0 → Spelling s at word (fresh (at + (i + 1))) (i + 1)
     plain_like h e = subst (λ (a : ℕ). Spelling s at word (fresh a) (i + 1)) (omega arith) (like l plain_taken plain_took h e)
 
 -- a text that begins with another byte than the word, and with no escape
@@ -100,92 +140,19 @@ other_start s at word o h f g = go (eqb (get_or s (at + 0) 0) 34) refl
     z = omega arith
 
     go : (b : Bool) → eqb (get_or s (at + 0) 0) 34 ≡ b → false ≡ same_bytes (text_at s at) word
-    go true e = sym (ne_eqb 0 (length word) (λ q. omega arith)) ∙ plain_ended l (eqb_true (get_or s (at + 0) 0) 34 e)
-    go false e = plain_unlike l (eqb_no (get_or s (at + 0) 0) 34 e) (rw z g) (λ q. omega arith) (rw z f)
+    go true e = plain_ended l (eqb_true (get_or s (at + 0) 0) 34 e) h
+    go false e = plain_unlike l (eqb_no (get_or s (at + 0) 0) 34 e) (rw z g) h (rw z f)
 
--- a text's first byte, or a comma
-module _ (s : Bytes) {at : ℕ} {c : Cursor} (e : c ≡ fresh at) where
-  pub head_none : before_of s c ≡ [] → 44 ≡ get_or (text_at s at) 0 44
-  unfolding before
-  head_none q = sym (ap (λ (l : Bytes). get_or l 0 44) (sym (ap (before_of s) e) ∙ q))
+-- whether a text has a place among words
+listed_from : (n : ℕ) (k : Bytes) (ws : List (Bor Bytes)) → is_some (position_from (λ w. same_bytes k w.now) n ws) ≡ is_one_of k (words ws)
+unfolding is_one_of
+listed_from n k [] = refl
+listed_from n k (w ∷ ws) = go (same_bytes k w.now) refl (listed_from (n + 1) k ws)
+  where
+    go : (b : Bool) → same_bytes k w.now ≡ b → is_some (position_from (λ v. same_bytes k v.now) (n + 1) ws) ≡ is_one_of k (words ws) →
+        is_some (position_from (λ v. same_bytes k v.now) n (w ∷ ws)) ≡ is_one_of k (words (w ∷ ws))
+    go true e below = rw (e, is_one_of)
+    go false e below = rw (e, is_one_of) below
 
-  pub head_some : (t : Taken) → Took s c.at c.unit c.left t.byte t.rest.at t.rest.unit t.rest.left → t.byte ≡ get_or (text_at s at) 0 44
-  unfolding before
-  head_some t k = sym (ap (λ (l : Bytes). get_or l 0 44) (sym (ap (before_of s) e) ∙ k.byte))
-
--- the words from a place on: the first of them has begun at `from`
-pub record Listing (k names : Bytes) (n from i : ℕ) : Type 0 where
-  pub order : from ≤ i
-  pub upto : i ≤ length names
-  pub few : n ≤ i
-  pub rest : position 0 k (words names) ≡ position n k (words_from (take (i - from) (drop from names)) (drop i names))
-
-pub listing : (k names : Bytes) → Listing k names 0 0 0
-listing k names = record { order = omega arith; upto = omega arith; few = omega arith; rest = refl }
-
-module _ {k names : Bytes} {n from i : ℕ} (l : Listing k names n from i) where
-  pub list_ended : length names ≤ i → position 0 k (words names) ≡ none
-  unfolding position words_from
-  list_ended h = l.rest ∙ rw (drop_of_length-le names h)
-
-  module _ (h : i < length names) where
-    at_comma : get_or names i 0 ≡ 44 → position 0 k (words names) ≡ position n k (take (i - from) (drop from names) ∷ words_from [] (drop (i + 1) names))
-    unfolding words_from
-    at_comma e = l.rest ∙ rw (here names i h, eq-eqb (get_or names i 0) 44 e, words_from)
-
-    -- a word that does not begin as the text does: where the word is empty, a comma stands there
-    pub other_word : get_or names i 0 ≡ 44 → (get_or names from 0 ≡ get_or k 0 44 → ⊥) → false ≡ same_bytes k (take (i - from) (drop from names))
-    other_word e f = sym (go k f (i - from) refl)
-      where
-        begun : (m : ℕ) → take (suc m) (drop from names) ≡ get_or names from 0 ∷ take m (drop (from + 1) names)
-        begun m = ap (take (suc m)) (here names from (omega (arith, l.order)))
-
-        go : (t : Bytes) → (get_or names from 0 ≡ get_or t 0 44 → ⊥) → (m : ℕ) → i - from ≡ m → same_bytes t (take m (drop from names)) ≡ false
-        go [] g zero q = let same : from ≡ i = omega (arith, l.order) in absurd (g (ap (λ (j : ℕ). get_or names j 0) same ∙ e))
-        go [] g (suc m) q = same_short refl (begun m)
-        go (x ∷ t) g zero q = same_long refl refl
-        go (x ∷ t) g (suc m) q = same_apart refl (begun m) (λ h. g (sym h))
-
-    pub listed : get_or names i 0 ≡ 44 → true ≡ same_bytes k (take (i - from) (drop from names)) → position 0 k (words names) ≡ some n
-    unfolding position
-    listed e q = at_comma e ∙ rw (sym q, position)
-
-    pub next_word : get_or names i 0 ≡ 44 → false ≡ same_bytes k (take (i - from) (drop from names)) → Listing k names (n + 1) (i + 1) (i + 1)
-    unfolding position
-    next_word e q =
-        record {
-          order = omega arith;
-          upto = omega arith;
-          few = omega (arith, l.few);
-          rest = at_comma e ∙
-              rw (sym q, position) (ap (λ (m : ℕ). position (n + 1) k (words_from (take m (drop (i + 1) names)) (drop (i + 1) names))) z);
-        }
-      where
-        z : 0 ≡ i + 1 - (i + 1)
-        z = omega arith
-
-    longer : take (i - from) (drop from names) ++ get_or names i 0 ∷ [] ≡ take (i + 1 - from) (drop from names)
-    longer =
-        let a : i + 1 - from ≡ suc (i - from) = omega (arith, l.order) in
-        let b : from + (i - from) ≡ i = omega (arith, l.order) in
-        let r : i - from < length (drop from names) = omega (arith, l.order, length-drop from names) in
-        sym
-        (ap (λ (m : ℕ). take m (drop from names)) a ∙
-        take-suc (drop from names) (i - from) 0 r ∙
-        ap (λ (x : ℕ). take (i - from) (drop from names) ++ x ∷ [])
-        (get_or-drop from names (i - from) 0 ∙ ap (λ (m : ℕ). get_or names m 0) b))
-
-    pub same_word : (get_or names i 0 ≡ 44 → ⊥) → Listing k names n from (i + 1)
-    unfolding words_from
-    same_word f =
-        record {
-          order = omega (arith, l.order);
-          upto = omega arith;
-          few = omega (arith, l.few);
-          rest = l.rest ∙
-              rw (here names i h, ne_eqb (get_or names i 0) 44 f, words_from)
-              (ap (λ (w : Bytes). position n k (words_from w (drop (i + 1) names))) longer);
-        }
-
-pub listing_at : {k names : Bytes} {n from n' from' i : ℕ} → n ≡ n' → from ≡ from' → Listing k names n' from' i → Listing k names n from i
-listing_at p q l = rw (p, q) l
+pub is_listed : (k : Bytes) (ws : List (Bor Bytes)) {r : Option ℕ} → r ≡ position (λ w. same_bytes k w.now) ws → is_some r ≡ is_one_of k (words ws)
+is_listed k ws p = ap is_some (p ∙ position_from-zero (λ w. same_bytes k w.now) ws) ∙ listed_from 0 k ws

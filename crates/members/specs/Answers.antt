@@ -1,14 +1,13 @@
 -- What each answer of the code says of the sheet and the table.
 -- Assumes nothing.
-use Rattle.std.specs.Prelude.{List, ℕ}
-use Rattle.std.proofs.Math.Option.{Option, none, some}
+use Rattle.std.specs.Prelude.{Result as Fallible}
+use Rattle.std.specs.Prelude.{List, ℕ, Ok, Err}
+use Rattle.std.specs.Prelude.{Option, None, Some}
 use Rattle.strings.specs.Answers.{FoundTold}
 use Rattle.json_text.specs.Bytes.{Bytes}
 use Rattle.json_text.specs.Held.{AreMembers, IsNode}
 use Rattle.json_text.specs.Json.{Value}
 use Rattle.json_text.specs.Refusal.{Refusal, not_carried, wrong_shape}
-use Rattle.strings.specs.declared.rows.Found.{Found}
-use Rattle.strings.specs.declared.rows.Found.TheVariants as founds
 use Rattle.members.specs.Condition as conditions
 use Rattle.members.specs.declared.told.Fault.{Fault}
 use Rattle.members.specs.declared.told.Fault.TheVariants as faults
@@ -19,17 +18,12 @@ use Rattle.members.specs.declared.told.Mode.TheVariants as modes
 use Rattle.members.specs.declared.told.Operator.{Operator}
 use Rattle.members.specs.declared.told.Operator.TheVariants as operators
 
--- a place among words
-unfoldable pub place_of : Found → Option ℕ
-place_of founds.Nothing = none
-place_of (founds.At n) = some n
-
 -- a member that was found, by its node: no more brackets are open in it than in the members
-unfoldable pub FoundLeft : Bytes → List ℕ → ℕ → Found → Type 0
-FoundLeft s w left founds.Nothing = Unit {0}
-FoundLeft s w left (founds.At n) = IsNode s w left n
+unfoldable pub FoundLeft : Bytes → List ℕ → ℕ → Option ℕ → Type 0
+FoundLeft s w left None = Unit {0}
+FoundLeft s w left (Some n) = IsNode s w left n
 
-pub record Located (s : Bytes) (w : List ℕ) (from end : ℕ) (whole : Option Value) (r : Found) : Type 0 where
+pub record Located (s : Bytes) (w : List ℕ) (from end : ℕ) (whole : Option Value) (r : Option ℕ) : Type 0 where
   pub told : FoundTold s w whole r
   pub within : (left : ℕ) → AreMembers s w left from end → FoundLeft s w left r
 
@@ -52,16 +46,16 @@ form_of forms.EndsWith = conditions.ends_with
 
 unfoldable pub operator_of : Operator → Option conditions.Operator
 unfolding mode_of form_of
-operator_of (operators.Junction m) = some (conditions.op_junction (mode_of m))
-operator_of operators.Negation = some conditions.op_negation
-operator_of operators.Exists = some conditions.op_exists
-operator_of (operators.Pair f) = some (conditions.op_pair (form_of f))
-operator_of (operators.Quantified m) = some (conditions.op_quantified (mode_of m))
-operator_of operators.NotCarried = some conditions.op_not_carried
-operator_of operators.Unknown = none
+operator_of (operators.Junction m) = Some (conditions.op_junction (mode_of m))
+operator_of operators.Negation = Some conditions.op_negation
+operator_of operators.Exists = Some conditions.op_exists
+operator_of (operators.Pair f) = Some (conditions.op_pair (form_of f))
+operator_of (operators.Quantified m) = Some (conditions.op_quantified (mode_of m))
+operator_of operators.NotCarried = Some conditions.op_not_carried
+operator_of operators.Unknown = None
 
 -- a condition's fault: none, 10 or 11
-unfoldable pub fault_is : Fault → Option Refusal
-fault_is faults.Sound = none
-fault_is faults.Shape = some wrong_shape
-fault_is faults.NotCarried = some not_carried
+unfoldable pub fault_is : Fallible (Unit {0}) Fault → Option Refusal
+fault_is (Ok tt) = None
+fault_is (Err faults.Shape) = Some wrong_shape
+fault_is (Err faults.NotCarried) = Some not_carried

@@ -1,7 +1,7 @@
 -- A condition (the paper's "Condition"): true, false, or an object with exactly one member, which names its operator; and its refusals, 10 and 11.
 -- Assumes nothing.
 use Rattle.std.specs.Prelude.{Bool, false, true, List, [], ◌∷◌, eqb, length}
-use Rattle.std.proofs.Math.Option.{Option, none, some}
+use Rattle.std.specs.Prelude.{Option, None, Some}
 use Rattle.json_text.specs.Bytes.{Bytes, ascii, find}
 use Rattle.json_text.specs.Json.{Members, Value, Values, array, as_text, bool, cons, empty, member, nil, null, number, object, text}
 use Rattle.json_text.specs.Refusal.{Result, not_carried, ok, or_else, refused, wrong_shape, ◌>>=◌}
@@ -94,19 +94,19 @@ quantifier m ps =
 
 -- The condition that an operator makes of what its member holds, which stands here with what it is as a condition, as an array of them and as a quantifier's members.
 abbrev pub formed : Value → Result Condition → Result Conditions → Result (List (Bytes × (Value × Result Condition))) → Option Operator → Result Condition
-formed v one several parts none = refused wrong_shape
-formed v one several parts (some (op_junction m)) = do
+formed v one several parts None = refused wrong_shape
+formed v one several parts (Some (op_junction m)) = do
   cs ← several
   ok (junction m cs)
-formed v one several parts (some op_negation) = do
+formed v one several parts (Some op_negation) = do
   c ← one
   ok (negation c)
-formed v one several parts (some op_exists) = ok (exists v)
-formed v one several parts (some (op_pair f)) = two_of f v
-formed v one several parts (some (op_quantified m)) = do
+formed v one several parts (Some op_exists) = ok (exists v)
+formed v one several parts (Some (op_pair f)) = two_of f v
+formed v one several parts (Some (op_quantified m)) = do
   ps ← parts
   quantifier m ps
-formed v one several parts (some op_not_carried) = refused not_carried
+formed v one several parts (Some op_not_carried) = refused not_carried
 
 -- A value as a condition, or the fault of the condition at fault in itself that begins first: 10 for its shape, 11 where its one member is
 -- not carried, whatever that holds. A condition begins before those inside, so its own fault comes first.

@@ -1,6 +1,6 @@
 -- The faults of a pair form and of a quantifier, by what they hold: which form or which quantifier it is makes no difference.
 -- Assumes nothing.
-use Rattle.std.proofs.Math.Option.{Option}
+use Rattle.std.specs.Prelude.{Option}
 use Rattle.json_text.specs.Json.{Value}
 use Rattle.json_text.specs.Refusal.{Refusal, ◌>>=◌}
 use Rattle.members.specs.Condition.{condition_object, eq, every, quantifier, two_of}

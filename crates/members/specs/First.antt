@@ -1,7 +1,7 @@
 -- The conditions of a sheet's text, each with the byte at which it begins, and the fault that a condition has in itself: 10, 11 or none.
 -- Assumes nothing.
 use Rattle.std.specs.Prelude.{false, true, List, [], ◌++◌, ◌∷◌, ◌≡◌, ◌≢◌, ◌≤◌}
-use Rattle.std.proofs.Math.Option.{Option, none, some}
+use Rattle.std.specs.Prelude.{Option, None, Some}
 use Rattle.json_text.specs.Ascent.{first_byte}
 use Rattle.json_text.specs.Bytes.{Bytes, ascii, find, same_bytes}
 use Rattle.json_text.specs.Json.{Members, Value, array, as_array, as_object, bool, empty, member, null, number, object, text}
@@ -31,39 +31,39 @@ abbrev pub fine : Result Condition
 fine = ok (literal true)
 
 abbrev pub fine_array : Value → Result Conditions
-fine_array v = elim (as_array v) [ none ↦ refused wrong_shape | some vs ↦ ok no_more ]
+fine_array v = elim (as_array v) [ None ↦ refused wrong_shape | Some vs ↦ ok no_more ]
 
 abbrev pub fine_members : Members → List (Bytes × (Value × Result Condition))
 fine_members empty = []
 fine_members (member k v ms) = (k, (v, fine)) ∷ fine_members ms
 
 abbrev pub fine_object : Value → Result (List (Bytes × (Value × Result Condition)))
-fine_object v = elim (as_object v) [ none ↦ refused wrong_shape | some ms ↦ ok (fine_members ms) ]
+fine_object v = elim (as_object v) [ None ↦ refused wrong_shape | Some ms ↦ ok (fine_members ms) ]
 
 -- the fault of a condition in itself: the one it has where all conditions inside it are fine
 unfoldable pub own_fault_of : Members → Option Refusal
 unfolding find quantifier
-own_fault_of empty = some wrong_shape
-own_fault_of (member k v ms) = elim ms [ member l w more ↦ some wrong_shape | empty ↦ fault_of (formed v fine (fine_array v) (fine_object v) (find k operators)) ]
+own_fault_of empty = Some wrong_shape
+own_fault_of (member k v ms) = elim ms [ member l w more ↦ Some wrong_shape | empty ↦ fault_of (formed v fine (fine_array v) (fine_object v) (find k operators)) ]
 
 unfoldable pub own_fault : Value → Option Refusal
 unfolding own_fault_of
-own_fault null = some wrong_shape
-own_fault (bool b) = none
-own_fault (number s) = some wrong_shape
-own_fault (text s) = some wrong_shape
-own_fault (array vs) = some wrong_shape
+own_fault null = Some wrong_shape
+own_fault (bool b) = None
+own_fault (number s) = Some wrong_shape
+own_fault (text s) = Some wrong_shape
+own_fault (array vs) = Some wrong_shape
 own_fault (object ms) = own_fault_of ms
 
 -- which of a member's conditions an operator asks for: the one, each of an array's, or the body of a quantifier
 abbrev pub under : List Node → List Node → List Node → Option Operator → List Node
-under one several body none = []
-under one several body (some (op_junction m)) = several
-under one several body (some op_negation) = one
-under one several body (some op_exists) = []
-under one several body (some (op_pair f)) = []
-under one several body (some (op_quantified m)) = body
-under one several body (some op_not_carried) = []
+under one several body None = []
+under one several body (Some (op_junction m)) = several
+under one several body (Some op_negation) = one
+under one several body (Some op_exists) = []
+under one several body (Some (op_pair f)) = []
+under one several body (Some (op_quantified m)) = body
+under one several body (Some op_not_carried) = []
 
 -- the conditions of a condition, itself first, by the tree with its places
 unfoldable mutual
@@ -107,11 +107,11 @@ in_each_under s k (node t ts) = in_member s k t ++ in_each_under s k ts
 -- the conditions that a member of the sheet holds, and all of the sheet's
 unfoldable pub in_holder : Bytes → Option Holds → Node → List Node
 unfolding in_condition in_each_under
-in_holder s none t = []
-in_holder s (some itself) t = in_condition s t
-in_holder s (some (each_under k)) (leaf l a e) = []
-in_holder s (some (each_under k)) (arr a e ts) = in_each_under s k ts
-in_holder s (some (each_under k)) (obj a e fs) = []
+in_holder s None t = []
+in_holder s (Some itself) t = in_condition s t
+in_holder s (Some (each_under k)) (leaf l a e) = []
+in_holder s (Some (each_under k)) (arr a e ts) = in_each_under s k ts
+in_holder s (Some (each_under k)) (obj a e fs) = []
 
 unfoldable pub in_sheet : Bytes → Fields → List Node
 unfolding in_holder find text_at
@@ -127,5 +127,5 @@ pub data OneOf (c : Node) : List Node → Type 0 where
 pub record First (s : Bytes) (cs : List Node) (q : Refusal) : Type 0 where
   pub condition : Node
   pub is_one : OneOf condition cs
-  pub fault : own_fault (erase s condition) ≡ some q
-  pub least : (d : Node) → OneOf d cs → own_fault (erase s d) ≢ none → first_byte condition ≤ first_byte d
+  pub fault : own_fault (erase s condition) ≡ Some q
+  pub least : (d : Node) → OneOf d cs → own_fault (erase s d) ≢ None → first_byte condition ≤ first_byte d

@@ -1,7 +1,7 @@
 -- The kinds of members, and the refusal 9 (the paper's "Sheet"): a member missing, further, null or of the wrong kind. All of them refuse with 9, so their order makes no difference.
 -- Assumes nothing.
 use Rattle.std.specs.Prelude.{Bool, false, true, ◌&&◌, List, [], ◌∷◌, leb}
-use Rattle.std.proofs.Math.Option.{Option, none, some}
+use Rattle.std.specs.Prelude.{Option, None, Some}
 use Rattle.json_text.specs.Bytes.{Bytes, between, find, is_one_of, natural}
 use Rattle.json_text.specs.Json.{Members, Value, as_array, as_bool, as_number, as_object, as_text, elements, entries, is_null}
 use Rattle.json_text.specs.Refusal.{Result, ok, or_else, refused, wrong_sheet, ◌>>=◌}
@@ -15,12 +15,12 @@ abbrev pub optional : {A : Type 0} → (Value → Result A) → Bytes → Member
 optional kind k ms =
     elim
     (find k (entries ms)) [
-      | none ↦
-          ok none
-      | some v ↦
+      | None ↦
+          ok None
+      | Some v ↦
           (do
             a ← kind v
-            ok (some a))
+            ok (Some a))
     ]
 
 -- no others: every name is one of those given
@@ -77,8 +77,8 @@ abbrev pub some_texts : Value → Result (List Bytes)
 some_texts v =
     elim
     (as_text v) [
-      | some s ↦
+      | Some s ↦
           ok (s ∷ [])
-      | none ↦
+      | None ↦
           an_array_of a_text v
     ]

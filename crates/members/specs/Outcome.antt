@@ -1,7 +1,7 @@
 -- An outcome and its effect (the paper's "Rule and outcome").
 -- Assumes nothing.
 use Rattle.std.specs.Prelude.{Bool, false, List, [], ◌∷◌}
-use Rattle.std.proofs.Math.Option.{Option, none, some}
+use Rattle.std.specs.Prelude.{Option, None, Some}
 use Rattle.json_text.specs.Bytes.{Bytes, ascii, find}
 use Rattle.json_text.specs.Json.{Value, as_text, keys}
 use Rattle.json_text.specs.Refusal.{Result, ok, or_else, wrong_sheet, ◌>>=◌}
@@ -40,9 +40,9 @@ unfolding find only a_move
 an_effect v =
     elim
     (as_text v) [
-      | some s ↦
+      | Some s ↦
           or_else (find s effect_words) wrong_sheet
-      | none ↦
+      | None ↦
           (do
             ms ← an_object v
             _ ← only (ascii "moves" ∷ []) (keys ms)
@@ -51,12 +51,12 @@ an_effect v =
 
 -- a missing effect leaves the state; a missing `wrong_state` is false
 abbrev pub or_stays : Option Effect → Effect
-or_stays none = stays
-or_stays (some e) = e
+or_stays None = stays
+or_stays (Some e) = e
 
 abbrev pub or_false : Option Bool → Bool
-or_false none = false
-or_false (some b) = b
+or_false None = false
+or_false (Some b) = b
 
 module _ {C : Type 0} (kind : Value → Result C) where
   -- a value as an outcome, or 9

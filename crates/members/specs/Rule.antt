@@ -1,7 +1,7 @@
 -- A rule (the paper's "Rule and outcome"): `assert`, and the texts `name` and `message`, which may be missing.
 -- Assumes nothing.
 use Rattle.std.specs.Prelude.{[], ◌∷◌}
-use Rattle.std.proofs.Math.Option.{Option}
+use Rattle.std.specs.Prelude.{Option}
 use Rattle.json_text.specs.Bytes.{Bytes, ascii, find}
 use Rattle.json_text.specs.Json.{Value, keys}
 use Rattle.json_text.specs.Refusal.{Result, ok, ◌>>=◌}

@@ -1,7 +1,7 @@
 -- A sheet (the paper's "Sheet" and "Numbers by call"): its members, 9, then 10 and 11 for the condition at fault that begins first.
 -- Assumes nothing.
 use Rattle.std.specs.Prelude.{Bool, true, List, [], ◌++◌, ◌∷◌}
-use Rattle.std.proofs.Math.Option.{Option, none, some}
+use Rattle.std.specs.Prelude.{Option, None, Some}
 use Rattle.json_text.specs.Bytes.{Bytes, ascii, find}
 use Rattle.json_text.specs.Json.{Members, Value, as_array, as_object, elements, empty, entries, keys}
 use Rattle.json_text.specs.Reader.{json}
@@ -90,7 +90,7 @@ module _ {C : Type 0} (kind : Value → Result C) where
 -- The conditions of a sheet's text, in the order in which they begin: those that a member holds, member by member as written.
 -- the value that an element has under a name
 abbrev pub member_of : Bytes → Value → List Value
-member_of k v = elim (as_object v) [ none ↦ [] | some ms ↦ elim (find k (entries ms)) [ none ↦ [] | some w ↦ w ∷ [] ] ]
+member_of k v = elim (as_object v) [ None ↦ [] | Some ms ↦ elim (find k (entries ms)) [ None ↦ [] | Some w ↦ w ∷ [] ] ]
 
 -- what the elements have under a name, and the same of an array
 unfoldable pub member_of_each : Bytes → List Value → List Value
@@ -99,7 +99,7 @@ member_of_each k [] = []
 member_of_each k (v ∷ vs) = member_of k v ++ member_of_each k vs
 
 abbrev pub in_array : Bytes → Value → List Value
-in_array k v = elim (as_array v) [ none ↦ [] | some vs ↦ member_of_each k (elements vs) ]
+in_array k v = elim (as_array v) [ None ↦ [] | Some vs ↦ member_of_each k (elements vs) ]
 
 -- where a member of the sheet has conditions: it is one, or each of its elements has one under a name
 pub data Holds : Type 0 where
@@ -116,9 +116,9 @@ holders =
 
 -- the conditions that a member of the sheet holds
 abbrev pub held_by : Option Holds → Value → List Value
-held_by none v = []
-held_by (some itself) v = v ∷ []
-held_by (some (each_under k)) v = in_array k v
+held_by None v = []
+held_by (Some itself) v = v ∷ []
+held_by (Some (each_under k)) v = in_array k v
 
 -- all of them, by the order of the members in the text
 unfoldable pub written : List (Bytes × Value) → List Value
@@ -154,17 +154,17 @@ read_sheet s = do
 abbrev pub no_sheet : Sheet Condition
 no_sheet =
     record {
-      id = none;
+      id = None;
       entity = [];
       version = [];
       args = empty;
       fields = empty;
       old_fields = empty;
-      from_state = none;
+      from_state = None;
       to_state = [];
-      state = none;
+      state = None;
       states = [];
-      condition = none;
+      condition = None;
       preconditions = [];
       invariants = [];
       outcomes = [];

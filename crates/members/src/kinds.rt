@@ -1,129 +1,167 @@
-// Kinds of members: what a value must be where a sheet, a rule, an outcome or an effect has it.
-ghost use Rattle.std.specs.Prelude.{◌≡◌, ◌≤◌, length};
-ghost use Rattle.std.proofs.Math.Seq.{slice};
+// Kinds of members: what a value must be where a sheet, a rule, an outcome or an effect has it. Each test asks one thing of a node; all have
+// one shape, so that any of them can be passed where a test is asked.
+ghost use Rattle.std.specs.Prelude.{◌≡◌};
 ghost use Rattle.strings.specs.Answers.{FoundIn, found_of};
 ghost use Rattle.json_text.specs.Held.{AreNodes, IsNode};
 ghost use Rattle.json_text.specs.Table.{value_at, values_at};
-ghost use Rattle.members.specs.Kinds.{is_version};
-ghost use Rattle.members.specs.Verdicts.{all_of};
-ghost use Rattle.members.specs.Wants.{allowed, meets, needed};
+ghost use Rattle.members.specs.Kinds.{a_bool, a_text, a_version, an_array_of, an_object, is_version, not_null, some_texts};
+ghost use Rattle.members.specs.Verdicts.{all_of, is_ok};
+ghost use Rattle.members.specs.Wants.{MayTest, Tells, allowed, array_where, needed};
 
-use crate::node::{ARRAY, FALSE, NULL, NUMBER, OBJECT, TEXT, TRUE};
-use strings::rows::Found;
+use strings::rows::{Kind, after_at, end_at, kind_at, start_at};
 
-#[derive(Clone, Copy)]
-pub enum Want {
-    Text,
-    Bool,
-    Object,
-    Version,
-    Texts,
-    TextOrTexts,
-    Present,
-}
-
-// Whether a number's characters are digits alone and spell at most 4,294,967,295.
-pub fn is_version(s: &[u8], from: usize, end: usize) -> bool
-    requires { (from ≤ end) × (end ≤ length s.now) }
-    ensures { result ≡ is_version (slice from end s.now) }
+// Whether characters are digits alone and spell at most 4,294,967,295.
+pub fn is_version_number(digits: &[u8]) -> bool
+    ensures { result ≡ is_version digits.now }
 {
     let mut n: u64 = 0;
-    let mut i = from;
-    while i < end {
-        let c = s[i];
-        if c < 48 {
+    for c in digits {
+        if !c.is_ascii_digit() {
             return false;
         }
-        if 57 < c {
+        n = n * 10 + (*c - b'0') as u64;
+        if n > 4294967295 {
             return false;
         }
-        n = n * 10 + (c - 48) as u64;
-        if 4294967295 < n {
-            return false;
-        }
-        i += 1;
     }
     true
 }
 
-// Whether the nodes from `from` up to `end` are texts.
-pub fn are_texts(s: &[u8], work: &[u32], from: usize, end: usize) -> bool
-    requires { AreNodes s.now work.now 64 from end }
-    ensures { result ≡ all_of (meets Want.Text) (values_at s.now work.now from end) }
+// Whether a node is a text.
+pub fn is_text(s: &[u8], work: &[u32], node: usize) -> bool
+    requires { IsNode s.now work.now 64 node }
+    ensures { result ≡ is_ok (a_text (value_at s.now work.now node)) }
+{
+    kind_at(work, node) == Kind::Text
+}
+
+// Whether a node is true or false.
+pub fn is_bool(s: &[u8], work: &[u32], node: usize) -> bool
+    requires { IsNode s.now work.now 64 node }
+    ensures { result ≡ is_ok (a_bool (value_at s.now work.now node)) }
+{
+    matches!(kind_at(work, node), Kind::True | Kind::False)
+}
+
+// Whether a node is an object.
+pub fn is_object(s: &[u8], work: &[u32], node: usize) -> bool
+    requires { IsNode s.now work.now 64 node }
+    ensures { result ≡ is_ok (an_object (value_at s.now work.now node)) }
+{
+    kind_at(work, node) == Kind::Object
+}
+
+// Whether a node is anything but null.
+pub fn is_present(s: &[u8], work: &[u32], node: usize) -> bool
+    requires { IsNode s.now work.now 64 node }
+    ensures { result ≡ is_ok (not_null (value_at s.now work.now node)) }
+{
+    kind_at(work, node) != Kind::Null
+}
+
+// Whether a node is a version: a number of digits alone that is not too large.
+pub fn is_version(s: &[u8], work: &[u32], node: usize) -> bool
+    requires { IsNode s.now work.now 64 node }
+    ensures { result ≡ is_ok (a_version (value_at s.now work.now node)) }
+{
+    if kind_at(work, node) != Kind::Number {
+        return false;
+    }
+    is_version_number(&s[start_at(work, node)..end_at(work, node)])
+}
+
+// Whether each of the nodes from `from` up to `end` passes the test.
+pub fn all_of<F: Fn(&[u8], &[u32], usize) -> bool>(
+    s: &[u8],
+    work: &[u32],
+    from: usize,
+    end: usize,
+    test: F,
+) -> bool
+    requires nodes { AreNodes s.now work.now 64 from end }
+    requires test { MayTest (F.pre test) }
+    ensures { (p : _) → Tells (F.post test) p → result ≡ all_of p (values_at s.now work.now from end) }
 {
     let mut k = from;
+    // from row to row, as each row says which is next: no range counts these
     while k < end {
-        if crate::node::kind_at(work, k) != TEXT {
+        if !test(s, work, k) {
             return false;
         }
-        k = strings::rows::after_at(work, k);
+        k = after_at(work, k);
     }
     true
 }
 
-// Whether a node is what is wanted.
-pub fn fits(s: &[u8], work: &[u32], node: usize, want: Want) -> bool
+// Whether a node is an array each element of which passes the test.
+pub fn is_array_of<F: Fn(&[u8], &[u32], usize) -> bool>(
+    s: &[u8],
+    work: &[u32],
+    node: usize,
+    test: F,
+) -> bool
+    requires node { IsNode s.now work.now 64 node }
+    requires test { MayTest (F.pre test) }
+    ensures { (p : _) → Tells (F.post test) p → result ≡ array_where p (value_at s.now work.now node) }
+{
+    if kind_at(work, node) != Kind::Array {
+        return false;
+    }
+    all_of(s, work, node + 1, after_at(work, node), test)
+}
+
+// Whether a node is an array of texts.
+pub fn are_texts(s: &[u8], work: &[u32], node: usize) -> bool
     requires { IsNode s.now work.now 64 node }
-    ensures { result ≡ meets want (value_at s.now work.now node) }
+    ensures { result ≡ is_ok (an_array_of a_text (value_at s.now work.now node)) }
 {
-    let kind = crate::node::kind_at(work, node);
-    let start = strings::rows::start_at(work, node);
-    let end = crate::node::end_at(work, node);
-    let after = strings::rows::after_at(work, node);
-    match want {
-        Want::Text => kind == TEXT,
-        Want::Bool => (kind == TRUE) | (kind == FALSE),
-        Want::Object => kind == OBJECT,
-        Want::Version => {
-            if kind != NUMBER {
-                return false;
-            }
-            is_version(s, start, end)
-        }
-        Want::Texts => {
-            if kind != ARRAY {
-                return false;
-            }
-            are_texts(s, work, node + 1, after)
-        }
-        Want::TextOrTexts => {
-            if kind == TEXT {
-                return true;
-            }
-            if kind != ARRAY {
-                return false;
-            }
-            are_texts(s, work, node + 1, after)
-        }
-        Want::Present => kind != NULL,
-    }
+    is_array_of(s, work, node, is_text)
 }
 
-// Whether a member that must be there is what is wanted.
-pub fn needs(s: &[u8], work: &[u32], found: Found, want: Want) -> bool
-    requires { FoundIn s.now work.now found }
-    ensures { result ≡ needed (meets want) (found_of s.now work.now found) }
+// Whether a node is a text or an array of texts.
+pub fn is_text_or_texts(s: &[u8], work: &[u32], node: usize) -> bool
+    requires { IsNode s.now work.now 64 node }
+    ensures { result ≡ is_ok (some_texts (value_at s.now work.now node)) }
 {
+    if is_text(s, work, node) {
+        return true;
+    }
+    are_texts(s, work, node)
+}
+
+// Whether a member that must be there passes the test. `needs` and `allows` differ in what they say of a missing member alone: their two names
+// say it where a sheet's members are listed, as `is_some_and` and `is_none_or` do in the library.
+pub fn needs<F: Fn(&[u8], &[u32], usize) -> bool>(
+    s: &[u8],
+    work: &[u32],
+    found: Option<usize>,
+    test: F,
+) -> bool
+    requires node { FoundIn s.now work.now found }
+    requires test { MayTest (F.pre test) }
+    ensures { (p : _) → Tells (F.post test) p → result ≡ needed p (found_of s.now work.now found) }
+{
+    // a match and no `is_some_and`: its closure would have to be callable on any number, and `test` may ask for a node
     match found {
-        Found::Nothing => false,
-        Found::At(n) => fits(s, work, n, want),
+        None => false,
+        Some(n) => test(s, work, n),
     }
 }
 
-// Whether a member that may be missing is what is wanted.
-pub fn allows(s: &[u8], work: &[u32], found: Found, want: Want) -> bool
-    requires { FoundIn s.now work.now found }
-    ensures { result ≡ allowed (meets want) (found_of s.now work.now found) }
+// Whether a member that may be missing passes the test.
+pub fn allows<F: Fn(&[u8], &[u32], usize) -> bool>(
+    s: &[u8],
+    work: &[u32],
+    found: Option<usize>,
+    test: F,
+) -> bool
+    requires node { FoundIn s.now work.now found }
+    requires test { MayTest (F.pre test) }
+    ensures { (p : _) → Tells (F.post test) p → result ≡ allowed p (found_of s.now work.now found) }
 {
+    // a match and no `is_none_or`, for the same reason
     match found {
-        Found::Nothing => true,
-        Found::At(n) => fits(s, work, n, want),
+        None => true,
+        Some(n) => test(s, work, n),
     }
-}
-
-// What a list of the sheet has as elements.
-#[derive(Clone, Copy)]
-pub enum Element {
-    Rule,
-    Outcome,
 }

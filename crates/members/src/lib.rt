@@ -3,6 +3,5 @@
 
 pub mod kinds;
 pub mod member;
-pub mod node;
 pub mod told;
 pub mod word;

@@ -9,38 +9,38 @@ ghost use Rattle.members.specs.Kinds.{only};
 ghost use Rattle.members.specs.Verdicts.{is_ok};
 ghost use Rattle.members.specs.Words.{words};
 
-use strings::rows::Found;
+use crate::word::{is_one_of, is_word};
+use strings::rows::{after_at, start_at};
 
 // The value's node of the member, from `from` up to `end`, whose name is the word.
-pub fn named(s: &[u8], work: &[u32], from: usize, end: usize, word: &[u8]) -> Found
+// Not one function with strings' `find`: that one compares two texts of the sheet, this one a word, and each would keep its contract.
+pub fn named(s: &[u8], work: &[u32], from: usize, end: usize, word: &[u8]) -> Option<usize>
     requires { AreMembers s.now work.now 64 from end }
     ensures { Located s.now work.now from end (find word.now (entries (members_at s.now work.now from end))) result }
 {
     let mut k = from;
+    // from row to row, as each row says which is next: no range counts these
     while k < end {
-        if crate::word::is_word(s, strings::rows::start_at(work, k), word) {
-            return Found::At(k + 1);
+        if is_word(s, start_at(work, k), word) {
+            return Some(k + 1);
         }
-        k = strings::rows::after_at(work, k + 1);
+        k = after_at(work, k + 1);
     }
-    Found::Nothing
+    None
 }
 
-// Whether every member's name is one of the words, each of which a comma ends.
-pub fn only(s: &[u8], work: &[u32], from: usize, end: usize, names: &[u8]) -> bool
+// Whether every member's name is one of the words.
+pub fn only(s: &[u8], work: &[u32], from: usize, end: usize, names: &[&[u8]]) -> bool
     requires { AreMembers s.now work.now 64 from end }
     ensures { result ≡ is_ok (only (words names.now) (keys (members_at s.now work.now from end))) }
 {
     let mut k = from;
+    // from row to row, as each row says which is next: no range counts these
     while k < end {
-        match crate::word::which(s, strings::rows::start_at(work, k), names) {
-            Found::Nothing => {
-                return false;
-            }
-            Found::At(_n) => {
-                k = strings::rows::after_at(work, k + 1);
-            }
+        if !is_one_of(s, start_at(work, k), names) {
+            return false;
         }
+        k = after_at(work, k + 1);
     }
     true
 }

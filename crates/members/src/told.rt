@@ -1,12 +1,12 @@
 // Types that condition answers with.
 
-#[derive(Clone, Copy)]
+#[derive(Clone, Copy, PartialEq, Eq)]
 pub enum Mode {
     Every,
     Any,
 }
 
-#[derive(Clone, Copy)]
+#[derive(Clone, Copy, PartialEq, Eq)]
 pub enum Form {
     Eq,
     Ne,
@@ -21,7 +21,7 @@ pub enum Form {
 }
 
 // What the one member's name asks for.
-#[derive(Clone, Copy)]
+#[derive(Clone, Copy, PartialEq, Eq)]
 pub enum Operator {
     Junction(Mode),
     Negation,
@@ -32,9 +32,9 @@ pub enum Operator {
     Unknown,
 }
 
-#[derive(Clone, Copy)]
+// What is at fault in a condition: the refusals 10 and 11.
+#[derive(Clone, Copy, PartialEq, Eq)]
 pub enum Fault {
-    Sound,
     Shape,
     NotCarried,
 }

@@ -1,13 +1,9 @@
 // A text of the sheet against words that the program knows.
-ghost use Rattle.std.specs.Prelude.{◌≡◌, get_or};
-ghost use Rattle.json_text.specs.Bytes.{same_bytes};
+ghost use Rattle.std.specs.Prelude.{◌≡◌, position};
+ghost use Rattle.json_text.specs.Bytes.{is_one_of, same_bytes};
 ghost use Rattle.json_text.specs.Cursor.{OnText};
 ghost use Rattle.json_text.specs.Spans.{text_at};
-ghost use Rattle.members.specs.Words.{position, words};
-ghost use Rattle.members.specs.Answers.{place_of};
-
-use strings::rows::Found;
-use strings::text::Step;
+ghost use Rattle.members.specs.Words.{words};
 
 // Whether a text is a given word, decoded as it is compared.
 fn spells(s: &[u8], at: usize, word: &[u8]) -> bool
@@ -15,24 +11,16 @@ fn spells(s: &[u8], at: usize, word: &[u8]) -> bool
     ensures { result ≡ same_bytes (text_at s.now at) word.now }
 {
     let mut c = strings::text::begin(at);
-    let mut i = 0;
-    loop {
-        match strings::text::next(s, c) {
-            Step::End => {
-                return i == word.len();
-            }
-            Step::Byte(t) => {
-                if i == word.len() {
-                    return false;
-                }
-                if t.byte != word[i] {
-                    return false;
-                }
-                c = t.rest;
-                i += 1;
-            }
+    for b in word {
+        let Some(t) = strings::text::next(s, c) else {
+            return false;
+        };
+        if t.byte != *b {
+            return false;
         }
+        c = t.rest;
     }
+    strings::text::next(s, c).is_none()
 }
 
 // Whether a text is a given word. Few names have an escape: up to the first one, bytes are compared as they stand.
@@ -40,23 +28,16 @@ fn matches(s: &[u8], at: usize, word: &[u8]) -> bool
     requires { OnText s.now at 0 }
     ensures { result ≡ same_bytes (text_at s.now at) word.now }
 {
-    let mut i = 0;
-    loop {
+    for (i, w) in word.iter().enumerate() {
         let b = s[at + i];
-        if b == b'"' {
-            return i == word.len();
-        }
         if b == b'\\' {
             return spells(s, at + i, &word[i..]);
         }
-        if i == word.len() {
+        if b == b'"' || b != *w {
             return false;
         }
-        if b != word[i] {
-            return false;
-        }
-        i += 1;
     }
+    s[at + word.len()] == b'"'
 }
 
 // Whether a text is a given word. Mostly it is not, and its first byte tells.
@@ -64,50 +45,28 @@ pub fn is_word(s: &[u8], at: usize, word: &[u8]) -> bool
     requires { OnText s.now at 0 }
     ensures { result ≡ same_bytes (text_at s.now at) word.now }
 {
-    if word.len() == 0 {
+    let Some(first) = word.first() else {
         return matches(s, at, word);
-    }
+    };
     let b = s[at];
-    if b == word[0] {
-        return matches(s, at, word);
+    if b != *first && b != b'\\' {
+        return false;
     }
-    if b == b'\\' {
-        return matches(s, at, word);
-    }
-    false
+    matches(s, at, word)
 }
 
-// The text's first byte, or a comma for a text that has none.
-fn head(s: &[u8], at: usize) -> u8
+// The place of a text among words.
+pub fn which(s: &[u8], at: usize, names: &[&[u8]]) -> Option<usize>
     requires { OnText s.now at 0 }
-    ensures { result ≡ get_or (text_at s.now at) 0 44 }
+    ensures { result ≡ position (λ w. same_bytes (text_at s.now at) w.now) names.now }
 {
-    match strings::text::next(s, strings::text::begin(at)) {
-        Step::End => b',',
-        Step::Byte(t) => t.byte,
-    }
+    names.iter().position(|word| is_word(s, at, word))
 }
 
-// The place of a text among words, each of which a comma ends. Only words that begin as the text does are compared with it.
-pub fn which(s: &[u8], at: usize, names: &[u8]) -> Found
+// Whether a text is one of some words.
+pub fn is_one_of(s: &[u8], at: usize, names: &[&[u8]]) -> bool
     requires { OnText s.now at 0 }
-    ensures { position 0 (text_at s.now at) (words names.now) ≡ place_of result }
+    ensures { result ≡ is_one_of (text_at s.now at) (words names.now) }
 {
-    let first = head(s, at);
-    let mut n = 0;
-    let mut from = 0;
-    let mut i = 0;
-    while i < names.len() {
-        if names[i] == b',' {
-            if names[from] == first {
-                if is_word(s, at, &names[from..i]) {
-                    return Found::At(n);
-                }
-            }
-            n += 1;
-            from = i + 1;
-        }
-        i += 1;
-    }
-    Found::Nothing
+    which(s, at, names).is_some()
 }

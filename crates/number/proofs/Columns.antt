@@ -3,8 +3,8 @@
 use mathlib.Core.Bool.{Bool, false, true}
 use mathlib.Core.List.{[], List, ◌++◌, ◌∷◌}
 use mathlib.Core.Logic.{◌≢◌}
-use mathlib.Core.Path.{ap, refl, sym, ◌∙◌, ◌≡◌}
-use Prim.Native.Nat.{suc, zero, ℕ, ◌%◌, ◌*◌, ◌+◌, ◌-◌, ◌/◌, ◌<◌, ◌^◌, ◌≤◌}
+use mathlib.Core.Path.{ap, ap₂, refl, sym, ◌∙◌, ◌≡◌}
+use Prim.Native.Nat.{Ordering, compare, suc, zero, ℕ, ◌%◌, ◌*◌, ◌+◌, ◌-◌, ◌/◌, ◌<◌, ◌^◌, ◌≤◌}
 use native.Mathlib.Nat.{mul-suc, pow-suc}
 use native.Mathlib.Numerals.{add-one}
 use native.Mathlib.Omega.{arith}
@@ -12,8 +12,16 @@ use borrow.Author.Tests.{leb-false, leb-true}
 use lib.Dec.{eqb, leb}
 use lib.ListN.{drop, get_or, length, length-drop, length-replicate, length-set, replicate, set, take}
 use lib.Seq.{drop-cons, drop-length, get_or-drop, get_or-set_other, get_or-set_same, length-take-le, take-suc, take-suc-set}
-use Rattle.number.proofs.Exact.{natural_cons}
-use Rattle.number.specs.Places.{Digits, value}
+use Rattle.number.proofs.Exact.{Cmp, cmp, cmp_is, less, more, natural_cons, same}
+use Rattle.json_text.proofs.Cursor.{order_less, order_more, order_none, order_on}
+use Rattle.json_text.specs.Bytes.{order_bytes}
+use Rattle.std.proofs.Common.{reverse}
+use Rattle.std.proofs.lemmas.Grind.{get_or_default_zero, reverse_onto}
+use Rattle.std.proofs.lemmas.List.{get_or-reverse, length-reverse}
+use Rattle.std.proofs.lemmas.List.FromFn.{get_or-enumerate_from, length-enumerate_from}
+use Rattle.std.specs.List.{enumerate_from}
+use Rattle.number.specs.Compare.{then}
+use Rattle.number.specs.Row.{Digits, value}
 use Rattle.json_text.proofs.Laws.{eqb_no, eqb_true}
 use Rattle.json_text.specs.Bytes.{Bytes, natural}
 
@@ -54,10 +62,6 @@ module _ (ds : List ℕ) (i : ℕ) (h : i < length ds) where
   value_next =
       let l : length (take i ds) ≡ i = length-take-le i ds (omega arith) in
       rw (add-one, take-suc ds i 0 h) (value_snoc (take i ds) (get_or ds i 0) ∙ ap (λ (k : ℕ). value (take i ds) + 10 ^ k * get_or ds i 0) l)
-
-  pub value_at : value (drop i ds) ≡ get_or ds i 0 + 10 * value (drop (i + 1) ds)
-  unfolding value
-  value_at = rw (drop-cons ds i 0 h, add-one)
 
 -- 260 digits, written below a place
 pub record Written (out : List ℕ) (i : ℕ) : Type 0 where
@@ -116,42 +120,66 @@ module _ (n : ℕ) (out : List ℕ) (i t : ℕ) (w : Written out i) (h : i < 260
   pub carried : n ≡ value (take i out) + 10 ^ i * t → n ≡ value (take (i + 1) (set out i (t % 10))) + 10 ^ (i + 1) * (t / 10)
   carried e = e ∙ carry_on (10 ^ i) (value (take i out)) t ∙ rw (write_value out i (t % 10) w h, power_next i) refl
 
-pub record Reading (s : Bytes) (at more : ℕ) (out : List ℕ) (count carry i : ℕ) : Type 0 where
-  pub from : at ≤ i
-  pub upto : count + i ≡ length s
+-- the byte that a walk from the end comes to
+pub record Read (s : Bytes) (count i c : ℕ) : Type 0 where
+  pub within : count < length s
+  pub place : i ≡ count
+  pub byte : c ≡ get_or s (length s - 1 - count) 0
+
+pub from_end : (s : Bytes) (count i c : ℕ) → count < length (enumerate_from 0 (reverse s)) → (i, c) ≡ get_or (enumerate_from 0 (reverse s)) count (i, c) → Read s count i c
+from_end s count i c h e =
+    let n : count < length s = omega (arith, h, length-enumerate_from 0 (reverse s), length-reverse s) in
+    let q = e ∙ get_or-enumerate_from 0 (reverse s) count (i, c) (omega (arith, n, length-reverse s)) in
+    record {
+      within = n;
+      place = ap (λ (p : ℕ × ℕ). p.0) q ∙ omega arith;
+      byte = ap (λ (p : ℕ × ℕ). p.1) q ∙ get_or-reverse s count c n ∙ get_or_default_zero s (length s - 1 - count) c (omega (arith, n));
+    }
+
+pub record Reading (s : Bytes) (more : ℕ) (out : List ℕ) (count carry : ℕ) : Type 0 where
+  pub upto : count ≤ length s
   pub small : carry ≤ 255
   pub written : Written out count
-  pub total : natural 0 (drop i s) + more ≡ value (take count out) + 10 ^ count * carry
+  pub total : natural 0 (drop (length s - count) s) + more ≡ value (take count out) + 10 ^ count * carry
 
-module _ (s : Bytes) (at more : ℕ) (short : length s ≤ 255) where
-  pub reading : at ≤ length s → more ≤ 255 → (out : List ℕ) → Written out 0 → Reading s at more out 0 more (length s)
+module _ (s : Bytes) (more : ℕ) (short : length s ≤ 255) where
+  pub reading : more ≤ 255 → (out : List ℕ) → Written out 0 → Reading s more out 0 more
   unfolding value natural
-  reading a m out w = record { from = a; upto = omega arith; small = m; written = w; total = rw (drop-length s) (omega arith) }
+  reading m out w = record { upto = omega arith; small = m; written = w; total = let e : length s - 0 ≡ length s = omega arith in rw (e, drop-length s) (omega arith) }
 
   spelt : (i : ℕ) → i < length s → natural 0 (drop i s) ≡ (get_or s i 0 - 48) * 10 ^ (length s - (i + 1)) + natural 0 (drop (i + 1) s)
   spelt i h = rw (drop-cons s i 0 h, ← add-one) (natural_cons (get_or s i 0) (drop (i + 1) s) ∙ rw (length-drop (i + 1) s) refl)
 
-  pub read_on : (out : List ℕ) (count carry i t : ℕ) → Reading s at more out count carry i → at < i → t ≡ get_or s (i - 1) 0 - 48 + carry →
-      get_or s (i - 1) 0 < 256 → Reading s at more (set out count (t % 10)) (count + 1) (t / 10) (i - 1)
-  read_on out count carry i t r h e b =
+  read_byte : (out : List ℕ) (count carry c t : ℕ) → Reading s more out count carry → count < length s → c ≡ get_or s (length s - 1 - count) 0 →
+      t ≡ c - 48 + carry → c < 256 → Reading s more (set out count (t % 10)) (count + 1) (t / 10)
+  read_byte out count carry c t r h p e b =
       record {
-        from = omega arith;
-        upto = omega (arith, r.upto, h);
+        upto = omega (arith, h);
         small = omega (arith, e, b, r.small);
-        written = write out count (t % 10) r.written (omega (arith, r.upto, h)) (omega arith);
-        total = carried (natural 0 (drop (i - 1) s) + more) out count t r.written (omega (arith, r.upto, h)) whole;
+        written = write out count (t % 10) r.written (omega (arith, short, h)) (omega arith);
+        total = carried (natural 0 (drop (length s - (count + 1)) s) + more) out count t r.written (omega (arith, short, h)) whole;
       }
     where
-      j : i - 1 + 1 ≡ i
+      i : ℕ
+      i = length s - (count + 1)
+
+      j : i + 1 ≡ length s - count
       j = omega (arith, h)
 
-      k : length s - i ≡ count
-      k = omega (arith, r.upto)
+      k : length s - (length s - count) ≡ count
+      k = omega (arith, h)
 
-      whole : natural 0 (drop (i - 1) s) + more ≡ value (take count out) + 10 ^ count * t
+      digit : get_or s i 0 ≡ c
+      digit = let e : length s - (count + 1) ≡ length s - 1 - count = omega arith in rw e (sym p)
+
+      whole : natural 0 (drop i s) + more ≡ value (take count out) + 10 ^ count * t
       whole =
-          let q = rw (j, k) at (spelt (i - 1) (omega (arith, r.upto, h))) in
+          let q = rw (j, k, digit) at (spelt i (omega (arith, h))) in
           omega (arith, q, r.total, ap (λ (z : ℕ). 10 ^ count * z) e)
+
+  pub read_on : (out : List ℕ) (count carry c t i next : ℕ) → Reading s more out count carry → Read s count i c → next ≡ count + 1 →
+      t ≡ c - 48 + carry → c < 256 → Reading s more (set out i (t % 10)) next (t / 10)
+  read_on out count carry c t i next r d f e b = rw (d.place, f) (read_byte out count carry c t r d.within d.byte e b)
 
 -- what is carried over goes into further digits, three at most
 pub record Carrying (n : ℕ) (out : List ℕ) (count carry : ℕ) : Type 0 where
@@ -162,20 +190,6 @@ pub record Carrying (n : ℕ) (out : List ℕ) (count carry : ℕ) : Type 0 wher
   pub few : count ≤ 258
   pub written : Written out count
   pub total : n ≡ value (take count out) + 10 ^ count * carry
-
-module _ (s : Bytes) (at more : ℕ) (short : length s ≤ 255) (out : List ℕ) (count carry i : ℕ) (r : Reading s at more out count carry i) where
-  pub all_read : i ≤ at → Carrying (natural 0 (drop at s) + more) out count carry
-  all_read h =
-      let e : i ≡ at = omega (arith, h, r.from) in
-      record {
-        three = omega (arith, r.small);
-        two = λ p. absurd (omega (arith, p, short, r.upto));
-        one = λ p. absurd (omega (arith, p, short, r.upto));
-        none = λ p. absurd (omega (arith, p, short, r.upto));
-        few = omega (arith, short, r.upto);
-        written = r.written;
-        total = rw e at r.total;
-      }
 
 module _ (n : ℕ) (out : List ℕ) (count carry : ℕ) (r : Carrying n out count carry) where
   pub room : carry ≢ 0 → count < 258
@@ -208,7 +222,7 @@ pub record Borrowing (a b out : List ℕ) (borrow i : ℕ) : Type 0 where
   pub written : Written out i
   pub total : value (take i a) + 10 ^ i * borrow ≡ value (take i out) + value (take i b)
 
-module _ (a b : List ℕ) (n : ℕ) (da : Digits a n) (db : Digits b n) where
+module _ (a b : List ℕ) (m n : ℕ) (da : Digits a m) (db : Digits b n) where
   pub borrowing : (out : List ℕ) → Written out 0 → Borrowing a b out 0 0
   unfolding value
   borrowing out w = record { small = omega arith; written = w; total = refl }
@@ -240,36 +254,69 @@ module _ (a b : List ℕ) (n : ℕ) (da : Digits a n) (db : Digits b n) where
   none_borrowed B v y x zero e h l = omega (arith, e)
   none_borrowed B v y x (suc k) e h l = absurd (omega (arith, e, h, l, mul-suc B k))
 
-  pub all_borrowed : (out : List ℕ) (borrow i : ℕ) → Borrowing a b out borrow i → n ≤ i → value b ≤ value a → value out + value b ≡ value a
-  all_borrowed out borrow i r p l =
+  pub all_borrowed : (out : List ℕ) (borrow i : ℕ) → Borrowing a b out borrow i → m ≤ i → n ≤ i → value b ≤ value a → value out + value b ≡ value a
+  all_borrowed out borrow i r o p l =
       none_borrowed
       (10 ^ i)
       (value out)
       (value b)
       (value a)
       borrow
-      (rw (below_clear a n da.clear i p, below_clear b n db.clear i p, written_value out i r.written) at r.total)
+      (rw (below_clear a m da.clear i o, below_clear b n db.clear i p, written_value out i r.written) at r.total)
       (rw (written_value out i r.written) at (written_below out i r.written))
       l
 
--- a larger count serves as well
-pub wider : (ds : List ℕ) (m n : ℕ) → m ≤ n → n ≤ 260 → Digits ds m → Digits ds n
-wider ds m n h k d = record { long = d.long; few = k; small = d.small; clear = λ i p. d.clear i (omega (arith, h, p)) }
-
 -- ---- the order: the highest digit that differs
--- what holds of the upper digits holds of the whole
-less_down : (i : ℕ) (a b : List ℕ) → ((k : ℕ) → get_or a k 0 < 10) → i ≤ length a → i ≤ length b → value (drop i a) < value (drop i b) → value a < value b
-less_down zero a b p la lb h = h
-less_down (suc i) a b p la lb h =
-    let e : i + 1 ≡ suc i = omega arith in
-    less_down i a b p (omega arith) (omega arith) (omega (arith, p i, rw e at (value_at a i (omega arith)), rw e at (value_at b i (omega arith))))
+-- one digit more at the end of two rows of one length
+last_decides : (s t : Bytes) (x y : ℕ) → length s ≡ length t → order_bytes (s ++ (x ∷ [])) (t ++ (y ∷ [])) ≡ then (order_bytes s t) (compare x y)
+last_decides [] [] x y e = go (cmp x y) ∙ sym (ap (λ (o : Ordering). then o (compare x y)) (order_none refl refl))
+  where
+    go : {o : Ordering} → Cmp x y o → order_bytes (x ∷ []) (y ∷ []) ≡ o
+    go (less h) = order_less refl refl h
+    go (same h) = order_on refl refl h ∙ order_none refl refl
+    go (more h) = order_more refl refl h
+last_decides [] (d ∷ t) x y e = absurd (omega (arith, e))
+last_decides (c ∷ s) [] x y e = absurd (omega (arith, e))
+last_decides (c ∷ s) (d ∷ t) x y e = go (last_decides s t x y (omega (arith, e))) (cmp c d)
+  where
+    go : {o : Ordering} → order_bytes (s ++ (x ∷ [])) (t ++ (y ∷ [])) ≡ then (order_bytes s t) (compare x y) → Cmp c d o →
+        order_bytes (c ∷ (s ++ (x ∷ []))) (d ∷ (t ++ (y ∷ []))) ≡ then (order_bytes (c ∷ s) (d ∷ t)) (compare x y)
+    go rest (less h) = order_less refl refl h ∙ sym (ap (λ (o : Ordering). then o (compare x y)) (order_less refl refl h))
+    go rest (same h) = order_on refl refl h ∙ rest ∙ sym (ap (λ (o : Ordering). then o (compare x y)) (order_on refl refl h))
+    go rest (more h) = order_more refl refl h ∙ sym (ap (λ (o : Ordering). then o (compare x y)) (order_more refl refl h))
 
-pub above_same : (a b : List ℕ) (n : ℕ) → Digits a n → Digits b n → value (drop n a) ≡ value (drop n b)
-above_same a b n p q = above_clear a n p.clear n (omega arith) ∙ sym (above_clear b n q.clear n (omega arith))
+-- the order of two numbers is that of their higher digits, and of the lowest where those are the same
+column : {v w x y : ℕ} {o p : Ordering} → x < 10 → y < 10 → Cmp v w o → Cmp x y p → compare (x + 10 * v) (y + 10 * w) ≡ then o p
+column a b (less h) q = cmp_is _ _ Ordering.lt (less (omega (arith, a, b, h)))
+column a b (more h) q = cmp_is _ _ Ordering.gt (more (omega (arith, a, b, h)))
+column a b (same h) (less k) = cmp_is _ _ Ordering.lt (less (omega (arith, h, k)))
+column a b (same h) (same k) = cmp_is _ _ Ordering.eq (same (omega (arith, h, k)))
+column a b (same h) (more k) = cmp_is _ _ Ordering.gt (more (omega (arith, h, k)))
 
-module _ (a b : List ℕ) (i : ℕ) (la : i < length a) (lb : i < length b) (e : value (drop (i + 1) a) ≡ value (drop (i + 1) b)) where
-  pub less_here : ((k : ℕ) → get_or a k 0 < 10) → get_or a i 0 < get_or b i 0 → value a < value b
-  less_here p h = less_down i a b p (omega arith) (omega arith) (omega (arith, value_at a i la, value_at b i lb))
+abbrev Small : List ℕ → Type 0
+Small ds = (k : ℕ) → get_or ds k 0 < 10
 
-  pub equal_here : get_or a i 0 ≡ get_or b i 0 → value (drop i a) ≡ value (drop i b)
-  equal_here h = omega (arith, value_at a i la, value_at b i lb)
+by_rows : (xs ys : List ℕ) → length xs ≡ length ys → Small xs → Small ys → order_bytes (reverse xs) (reverse ys) ≡ compare (value xs) (value ys)
+unfolding value
+by_rows [] [] e p q = order_none refl refl ∙ sym (cmp_is 0 0 Ordering.eq (same refl))
+by_rows [] (y ∷ ys) e p q = absurd (omega (arith, e))
+by_rows (x ∷ xs) [] e p q = absurd (omega (arith, e))
+by_rows (x ∷ xs) (y ∷ ys) e p q =
+    rw (reverse_onto xs x [], reverse_onto ys y [])
+    (last_decides (reverse xs) (reverse ys) x y (length-reverse xs ∙ omega (arith, e) ∙ sym (length-reverse ys))
+    ∙ ap (λ (o : Ordering). then o (compare x y)) (by_rows xs ys (omega (arith, e)) (λ k. p (suc k)) (λ k. q (suc k)))
+    ∙ sym (column (p 0) (q 0) (cmp (value xs) (value ys)) (cmp x y)))
+
+small_front : (n : ℕ) (ds : List ℕ) → Small ds → Small (take n ds)
+small_front zero ds h k = omega arith
+small_front (suc n) [] h k = h k
+small_front (suc n) (d ∷ ds) h zero = h 0
+small_front (suc n) (d ∷ ds) h (suc k) = small_front n ds (λ i. h (suc i)) k
+
+pub rows_order : (a b : List ℕ) (m k n : ℕ) → Digits a m → Digits b k → m ≤ n → k ≤ n → n ≤ 260 →
+    order_bytes (reverse (take n a)) (reverse (take n b)) ≡ compare (value a) (value b)
+rows_order a b m k n p q h i j =
+    by_rows (take n a) (take n b)
+    (length-take-le n a (omega (arith, p.long, j)) ∙ sym (length-take-le n b (omega (arith, q.long, j))))
+    (small_front n a p.small) (small_front n b q.small)
+    ∙ ap₂ compare (below_clear a m p.clear n h) (below_clear b k q.clear n i)

@@ -1,5 +1,6 @@
 pub mod Exact
 pub mod Digits
+mod Orders
 mod Columns
 mod Signs
 mod Parts

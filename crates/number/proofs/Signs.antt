@@ -1,12 +1,13 @@
 -- Laws of integers held as digits and a sign: their order, and their sum.
 -- Assumes nothing.
 use mathlib.Core.Bool.{Bool, beq, false, false≢true, true, true≢false}
-use mathlib.Core.Path.{refl, subst, sym, ◌∙◌, ◌≡◌}
+use mathlib.Core.Path.{refl, subst, sym, ◌≡◌}
 use Prim.Native.Nat.{Ordering, compare, ℕ, ◌+◌, ◌<◌}
 use native.Mathlib.Omega.{arith}
 use Rattle.number.proofs.Exact.{Cmp, cmp, cmp_is, less, more, same}
 use Rattle.number.specs.Decimal.{Integer, signed}
-use Rattle.number.specs.Places.{Digits, Same, Tidy, added, integer, order_integers, value}
+use Rattle.number.specs.Places.{Same, added, integer, order_integers}
+use Rattle.number.specs.Row.{value}
 use Rattle.number.specs.declared.places.Integer.{Integer as Held}
 
 -- what a comparison says
@@ -18,9 +19,6 @@ is_less (less h) = h
 
 pub is_same : {x y : ℕ} → Cmp x y Ordering.eq → x ≡ y
 is_same (same h) = h
-
-pub is_more : {x y : ℕ} → Cmp x y Ordering.gt → y < x
-is_more (more h) = h
 
 cmp_moved : {x y x' y' : ℕ} {o : Ordering} → x + y' ≡ x' + y → Cmp x y o → Cmp x' y' o
 cmp_moved e (less h) = less (omega (arith, e, h))
@@ -51,8 +49,8 @@ module _ (m n : ℕ) where
 
 -- an integer that is held, by its sign
 module _ (h : Held) (b : Bool) (e : h.negative ≡ b) where
-  pub held : Digits h.digits h.count → (b ≡ true → 0 < value h.digits) → (i : Integer) → Same (signed b (value h.digits)) i → Tidy h × Same (integer h) i
-  held d p i q = (record { digits = d; sign = λ k. p (sym e ∙ k) }, subst (λ (z : Bool). Same (signed z (value h.digits)) i) (sym e) q)
+  pub held_same : (i : Integer) → Same (signed b (value h.digits)) i → Same (integer h) i
+  held_same i q = subst (λ (z : Bool). Same (signed z (value h.digits)) i) (sym e) q
 
 -- ---- sums
 module _ (v x y : ℕ) where

@@ -3,15 +3,9 @@
 use Rattle.std.specs.Prelude.{false, true, ◌&&◌, leb, length}
 use Prim.Native.Nat.{Ordering}
 use Rattle.number.specs.Compare.{number_order}
-use Rattle.number.specs.declared.Order.{Order}
-use Rattle.number.specs.declared.Order.TheVariants as orders
 use Rattle.json_text.specs.Bytes.{Bytes}
 use Rattle.json_text.specs.Limits.{max_number}
-
-abbrev pub order_of : Order → Ordering
-order_of orders.Less = Ordering.lt
-order_of orders.Equal = Ordering.eq
-order_of orders.Greater = Ordering.gt
+pub use Rattle.json_text.specs.Orders.{order_of}
 
 -- bytes longer than a number may be are not looked at: they count as equal to anything
 unfoldable pub compared : Bytes → Bytes → Ordering

@@ -8,36 +8,26 @@ ghost use Rattle.std.specs.Prelude.{◌≡◌};
 ghost use Rattle.number.specs.Compared.{compared, order_of};
 
 use crate::text::Decimal;
+use std::cmp::Ordering;
 
-#[derive(Clone, Copy)]
-pub enum Order {
-    Less,
-    Equal,
-    Greater,
-}
+// The bytes that a number has at most.
+const LONGEST: usize = 255;
 
-pub fn compare(left: &[u8], right: &[u8]) -> Order
+pub fn compare(left: &[u8], right: &[u8]) -> Ordering
     ensures { order_of result ≡ compared left.now right.now }
 {
-    if 255 < left.len() {
-        return Order::Equal;
-    }
-    if 255 < right.len() {
-        return Order::Equal;
+    if LONGEST < left.len() || LONGEST < right.len() {
+        return Ordering::Equal;
     }
     let a = Decimal::parse(left);
     let b = Decimal::parse(right);
-    let i = a.rank(left);
-    let j = b.rank(right);
-    if i < j {
-        return Order::Less;
+    let (x, y) = (a.sign(), b.sign());
+    if x != y {
+        return x.cmp(&y);
     }
-    if j < i {
-        return Order::Greater;
-    }
-    match i {
-        0 => b.magnitude(right, a, left),
-        1 => Order::Equal,
-        _ => a.magnitude(left, b, right),
+    match x {
+        Ordering::Less => b.magnitude(&a),
+        Ordering::Equal => Ordering::Equal,
+        Ordering::Greater => a.magnitude(&b),
     }
 }

@@ -1,168 +1,119 @@
 // The place of a decimal point: an integer of 260 decimal digits, the lowest first, with a sign.
-ghost use Rattle.std.specs.Prelude.{◌≡◌, true, length, drop};
-ghost use Prim.Native.Nat.{ℕ, compare, ◌+◌, ◌-◌, ◌≤◌, ◌<◌};
-ghost use Rattle.json_text.specs.Bytes.{natural};
-ghost use Rattle.number.specs.Decimal.{signed};
-ghost use Rattle.number.specs.Places.{value, Digits, Tidy, Same, added, integer, order_integers};
-ghost use Rattle.number.specs.Compared.{order_of};
+ghost use Rattle.number.specs.Row.{Digits};
 
-use crate::Order;
+use std::cmp::Ordering;
 
+// `Tidy` is a clause and no ghost field, since what `parse` and `minus` make may be 0 with a sign.
 #[derive(Clone, Copy)]
 pub struct Integer {
-    pub digits: [u8; 260],
+    // the paper's form: 260 digits in an array
+    digits: [u8; 260],
     // how many of the digits are in use; those above them are 0
-    pub count: usize,
-    pub negative: bool,
-}
-
-// What a byte stands for as a digit.
-fn digit(c: u8) -> usize
-    ensures { result ≡ c - 48 }
-{
-    if c < 48 {
-        return 0;
-    }
-    (c - 48) as usize
-}
-
-pub fn larger(a: usize, b: usize) -> usize
-    ensures lower_bound { (a ≤ result) × (b ≤ result) }
-    ensures by_index { (n : ℕ) → a ≤ n → b ≤ n → result ≤ n }
-{
-    if a < b {
-        return b;
-    }
-    a
-}
-
-pub fn order_lengths(a: usize, b: usize) -> Order
-    ensures { order_of result ≡ compare a b }
-{
-    if a < b {
-        return Order::Less;
-    }
-    if b < a {
-        return Order::Greater;
-    }
-    Order::Equal
-}
-
-// The order of two rows of digits: the highest digit that differs decides.
-fn magnitude<'a>(a: &'a [u8; 260], b: &'a [u8; 260], count: usize) -> Order
-    requires { Digits a.now count × Digits b.now count }
-    ensures { order_of result ≡ compare (value a.now) (value b.now) }
-{
-    let mut i = count;
-    while 0 < i {
-        i -= 1;
-        let x = a[i];
-        let y = b[i];
-        if x < y {
-            return Order::Less;
-        }
-        if y < x {
-            return Order::Greater;
-        }
-    }
-    Order::Equal
-}
-
-// The order of two integers, by their signs and the digits that either has in use.
-pub fn order<'a>(x: bool, a: &'a [u8; 260], y: bool, b: &'a [u8; 260], count: usize) -> Order
-    requires digits { Digits a.now count × Digits b.now count }
-    requires a_nonzero { x ≡ true → 0 < value a.now }
-    requires b_nonzero { y ≡ true → 0 < value b.now }
-    ensures { order_of result ≡ order_integers (signed x (value a.now)) (signed y (value b.now)) }
-{
-    if x {
-        if y {
-            return magnitude(b, a, count);
-        }
-        return Order::Less;
-    }
-    if y {
-        return Order::Greater;
-    }
-    magnitude(a, b, count)
-}
-
-// The difference of two rows of digits, where the first is not the smaller.
-fn minus<'a>(a: &'a [u8; 260], b: &'a [u8; 260], count: usize, negative: bool) -> Integer
-    requires { Digits a.now count × Digits b.now count × (value b.now ≤ value a.now) }
-    ensures digits { Digits result.digits result.count }
-    ensures b_value { value result.digits + value b.now ≡ value a.now }
-    ensures negative_value { result.negative ≡ negative }
-{
-    let mut digits = [0u8; 260];
-    let mut borrow = 0u8;
-    let mut i = 0;
-    while i < count {
-        let t = 10 + a[i] - b[i] - borrow;
-        digits[i] = t % 10;
-        borrow = 1 - t / 10;
-        i += 1;
-    }
-    Integer {
-        digits: digits,
-        count: count,
-        negative: negative,
-    }
+    count: usize,
+    negative: bool,
+    ghost fits: { Digits digits count },
 }
 
 impl Integer {
-    // The number that the bytes from `at` on spell, and `more`: `more` is what is carried into the lowest digit.
-    pub fn parse(s: &[u8], at: usize, more: usize, negative: bool) -> Integer
-        requires { (at ≤ length s.now) × (length s.now ≤ 255) × (more ≤ 255) }
-        ensures digits { Digits result.digits result.count }
-        ensures digits_value { value result.digits ≡ natural 0 (drop at s.now) + more }
+    ghost use Prim.Native.Nat.{compare};
+    ghost use Rattle.json_text.specs.Bytes.{natural};
+    ghost use Rattle.json_text.specs.Orders.{order_of};
+    ghost use Rattle.number.specs.Decimal.{signed};
+    ghost use Rattle.number.specs.Places.{Same, Tidy, added, integer, order_integers};
+    ghost use Rattle.number.specs.Row.{value};
+    ghost use Rattle.std.specs.Prelude.{◌≡◌, ◌+◌, ◌<◌, ◌≤◌, length, true};
+
+    // The number that bytes spell, and `more`: `more` is what is carried into the lowest digit.
+    fn parse(s: &[u8], more: usize, negative: bool) -> Integer
+        requires { (length s.now ≤ 255) × (more ≤ 255) }
+        ensures digits_value { value result.digits ≡ natural 0 s.now + more }
         ensures negative_value { result.negative ≡ negative }
     {
         let mut digits = [0u8; 260];
-        let mut count = 0;
         let mut carry = more;
-        let mut i = s.len();
-        while at < i {
-            i -= 1;
-            let t = digit(s[i]) + carry;
-            digits[count] = (t % 10) as u8;
+        for (i, c) in s.iter().rev().enumerate() {
+            let t = c.saturating_sub(b'0') as usize + carry;
+            digits[i] = (t % 10) as u8;
             carry = t / 10;
-            count += 1;
         }
+        // What is left of the carry makes further digits: how many, only the carry tells.
+        let mut count = s.len();
         while carry != 0 {
             digits[count] = (carry % 10) as u8;
-            carry = carry / 10;
+            carry /= 10;
             count += 1;
         }
         Integer {
-            digits: digits,
-            count: count,
-            negative: negative,
+            digits,
+            count,
+            negative,
         }
     }
 
-    // The signed number that the bytes from `at` on spell, and a signed `amount`. Where the signs differ, the smaller is
-    // taken from the larger.
-    pub fn sum(s: &[u8], at: usize, negative: bool, amount: usize, less: bool) -> Integer
-        requires at_in_bounds { (at ≤ length s.now) × (length s.now ≤ 255) × (amount ≤ 255) }
+    // The signed number that bytes spell, and a signed `amount`. Where the signs differ, the smaller is taken from the larger.
+    // A sign beside its number, as `signed` of the specs has it: the bytes need one anyway, and an `isize` would need casts both ways.
+    pub fn sum(s: &[u8], negative: bool, amount: usize, less: bool) -> Integer
+        requires in_bounds { (length s.now ≤ 255) × (amount ≤ 255) }
         requires amount_nonzero { less ≡ true → 0 < amount }
         ensures tidy { Tidy result }
-        ensures same { Same (integer result) (added (signed negative (natural 0 (drop at s.now))) (signed less amount)) }
+        ensures same { Same (integer result) (added (signed negative (natural 0 s.now)) (signed less amount)) }
     {
-        let end = s.len();
-        if at == end {
-            return Integer::parse(s, at, amount, less);
+        if s.is_empty() || negative == less {
+            return Integer::parse(s, amount, less);
         }
-        if negative == less {
-            return Integer::parse(s, at, amount, less);
+        let x = Integer::parse(s, 0, negative);
+        let y = Integer::parse(&[], amount, less);
+        let (larger, smaller) = match x.order_digits(&y) {
+            Ordering::Less => (&y, &x),
+            Ordering::Equal => return Integer::parse(&[], 0, false),
+            Ordering::Greater => (&x, &y),
+        };
+        larger.minus(smaller)
+    }
+
+    // The order of two integers, by their signs and their digits.
+    // No Ord: it asks that neither is 0 with a sign, which a trait's method can't ask.
+    pub fn order(&self, other: &Integer) -> Ordering
+        requires { Tidy self.now × Tidy other.now }
+        ensures { order_of result ≡ order_integers (integer self.now) (integer other.now) }
+    {
+        match (self.negative, other.negative) {
+            (true, true) => other.order_digits(self),
+            (true, false) => Ordering::Less,
+            (false, true) => Ordering::Greater,
+            (false, false) => self.order_digits(other),
         }
-        let x = Integer::parse(s, at, 0, negative);
-        let y = Integer::parse(s, end, amount, less);
-        let count = larger(x.count, y.count);
-        match magnitude(&x.digits, &y.digits, count) {
-            Order::Less => minus(&y.digits, &x.digits, count, less),
-            Order::Equal => Integer::parse(s, end, 0, false),
-            Order::Greater => minus(&x.digits, &y.digits, count, negative),
+    }
+
+    // The order of two integers without their signs: the highest digit that differs decides.
+    fn order_digits(&self, other: &Integer) -> Ordering
+        ensures { order_of result ≡ compare (value self.now.digits) (value other.now.digits) }
+    {
+        let count = self.count.max(other.count);
+        self.digits[..count]
+            .iter()
+            .rev()
+            .cmp(other.digits[..count].iter().rev())
+    }
+
+    // What is left of an integer, with its sign, where the digits of another one are taken from it that are not the larger.
+    fn minus(&self, other: &Integer) -> Integer
+        requires { value other.now.digits ≤ value self.now.digits }
+        ensures left { value result.digits + value other.now.digits ≡ value self.now.digits }
+        ensures negative_value { result.negative ≡ self.now.negative }
+    {
+        let count = self.count.max(other.count);
+        let mut digits = [0u8; 260];
+        let mut borrow = 0;
+        for i in 0..count {
+            let t = 10 + self.digits[i] - other.digits[i] - borrow;
+            digits[i] = t % 10;
+            borrow = 1 - t / 10;
+        }
+        Integer {
+            digits,
+            count,
+            negative: self.negative,
         }
     }
 }

@@ -1,75 +1,60 @@
--- Laws of clearing the work table: a run of zeros written from a place on, words that are zero already, and what a call leaves.
+-- Laws of clearing the work table: zeros written over a part of it, words that are zero already, and what a call leaves.
 -- Assumes nothing.
 use mathlib.Core.Bool.{Bool, false, true}
-use mathlib.Core.List.{List, [], ◌++◌, ◌∷◌}
+use mathlib.Core.List.{List, ◌++◌}
 use mathlib.Core.Path.{ap, refl, subst, sym, ◌∙◌, ◌≡◌}
-use Prim.Native.Nat.{suc, zero, ℕ, ◌*◌, ◌+◌, ◌-◌, ◌<◌, ◌≤◌}
-use native.Mathlib.Nat.{add-zero, zero-add}
-use native.Mathlib.Numerals.{add-one}
+use Prim.Native.Nat.{ℕ, ◌*◌, ◌+◌, ◌-◌, ◌<◌, ◌≤◌}
 use native.Mathlib.Omega.{arith}
 use lib.Dec.{T, leb, leb→le}
-use lib.ListN.{drop, get_or, length, length-replicate, replicate, set}
-use lib.Seq.{get_or-set_other, set-get_or, sets}
+use lib.ListN.{drop, get_or, length, length-drop, length-replicate, replicate, take}
+use lib.Seq.{drop-append-add, drop-drop, length-take-le, take-append-add}
+use Rattle.std.proofs.Common.{append_assoc}
+use Rattle.std.proofs.lemmas.List.{ext_get_or, get_or-drop, get_or-replicate, get_or-take, replicate-append-replicate}
 use borrow.Author.Tests.{leb-false, lt-leb}
-use Rattle.writer.proofs.Laying.{sets_front}
 use Rattle.json_text.proofs.Laws.{leb_true}
 use Rattle.json_text.specs.Table.{after_at}
 use Rattle.answers.specs.Entry.{work_after, work_words, zeros}
 use Rattle.opening.specs.Opening.{Bounded}
 
-sets_snoc : (vs l : List ℕ) (i x : ℕ) → sets l i (vs ++ (x ∷ [])) ≡ set (sets l i vs) (i + length vs) x
-sets_snoc [] l i x = rw add-zero
-sets_snoc (v ∷ vs) l i x =
-    let e : suc i + length vs ≡ i + suc (length vs) = omega arith in
-    sets_snoc vs (set l i v) (suc i) x ∙ ap (λ (k : ℕ). set (sets (set l i v) (suc i) vs) k x) e
-
-zeros_suc : (n : ℕ) → zeros (n + 1) ≡ zeros n ++ (0 ∷ [])
+-- what `fill` writes over n words
+pub filled : (n : ℕ) (l : List ℕ) {f : List ℕ} → length l ≡ n → (((y : ℕ) → y ≡ 0 → y ≡ 0) → f ≡ replicate (length l) 0) → f ≡ zeros n
 unfolding zeros
-zeros_suc n = rw add-one (go n)
-  where
-    go : (k : ℕ) → replicate {A = ℕ} (suc k) 0 ≡ replicate k 0 ++ (0 ∷ [])
-    go zero = refl
-    go (suc k) = ap (λ (r : List ℕ). 0 ∷ r) (go k)
+filled n l e h = h (λ y q. q) ∙ ap (λ (k : ℕ). replicate {A = ℕ} k 0) e
 
 length_zeros : (n : ℕ) → length (zeros n) ≡ n
 unfolding zeros
 length_zeros n = length-replicate n 0
 
-pub no_zeros : (l : List ℕ) (i n : ℕ) → n ≡ 0 → l ≡ sets l i (zeros n)
+zeros_append : (n k : ℕ) → zeros n ++ zeros k ≡ zeros (n + k)
 unfolding zeros
-no_zeros l i n e = ap (λ (k : ℕ). sets l i (zeros k)) (sym e)
+zeros_append n k = replicate-append-replicate n k 0
 
-pub sets_zeros : (l : List ℕ) (i n : ℕ) → set (sets l i (zeros n)) (i + n) 0 ≡ sets l i (zeros (n + 1))
-sets_zeros l i n = rw (zeros_suc, sets_snoc (zeros n) l i 0, length_zeros n)
+-- words that are zero already
+zeros_here : (w : List ℕ) (n k : ℕ) → n + k ≤ length w → ((i : ℕ) → n ≤ i → i < n + k → get_or w i 0 ≡ 0) → take k (drop n w) ≡ zeros k
+unfolding zeros
+zeros_here w n k h z =
+    let long : length (take k (drop n w)) ≡ k = length-take-le k (drop n w) (omega (arith, h, length-drop n w)) in
+    ext_get_or 0 (take k (drop n w)) (replicate k 0) (long ∙ sym (length-replicate k 0))
+    (λ i p. let q : i < k = omega (arith, p, long) in
+    get_or-take k (drop n w) i 0 q ∙ get_or-drop n w i 0 ∙ z (n + i) (omega arith) (omega (arith, q)) ∙ sym (get_or-replicate k i 0 0 q))
 
--- one word more, at the place where the zeros end
-pub zeros_on : (w₀ w : List ℕ) (from i : ℕ) → from ≤ i → w ≡ sets w₀ from (zeros (i - from)) → set w i 0 ≡ sets w₀ from (zeros (i + 1 - from))
-zeros_on w₀ w from i h e =
-    let place : i ≡ from + (i - from) = omega arith in
-    let more : i - from + 1 ≡ i + 1 - from = omega arith in
-    ap (λ (l : List ℕ). set l i 0) e
-    ∙ ap (λ (k : ℕ). set (sets w₀ from (zeros (i - from))) k 0) place
-    ∙ sets_zeros w₀ from (i - from)
-    ∙ ap (λ (k : ℕ). sets w₀ from (zeros k)) more
+-- zeros in the first n words, where the k behind them are zero, and then zeros in b words more
+module _ (w : List ℕ) (n k b : ℕ) (long : n + k ≤ length w) (behind : (i : ℕ) → n ≤ i → i < n + k → get_or w i 0 ≡ 0) where
+  laid_front : take (n + k) (zeros n ++ drop n w) ≡ zeros (n + k)
+  laid_front =
+      ap (λ (m : ℕ). take (m + k) (zeros n ++ drop n w)) (sym (length_zeros n)) ∙ take-append-add (zeros n) (drop n w) k ∙
+      ap (λ (l : List ℕ). zeros n ++ l) (zeros_here w n k long behind) ∙ zeros_append n k
 
-pub zeros_upto : (w₀ : List ℕ) {w : List ℕ} (from : ℕ) {i to : ℕ} → i ≡ to → w ≡ sets w₀ from (zeros (i - from)) → w ≡ sets w₀ from (zeros (to - from))
-zeros_upto w₀ from e h = h ∙ ap (λ (k : ℕ). sets w₀ from (zeros (k - from))) e
+  laid_back : drop b (drop (n + k) (zeros n ++ drop n w)) ≡ drop (n + k + b) w
+  laid_back =
+      ap (λ (m : ℕ). drop b (drop (m + k) (zeros n ++ drop n w))) (sym (length_zeros n)) ∙ ap (drop b) (drop-append-add (zeros n) (drop n w) k ∙ drop-drop k n w) ∙
+      drop-drop b (n + k) w
 
--- zeros that go on over words that are zero change nothing
-sets_behind : (vs l : List ℕ) (i j : ℕ) → i + length vs ≤ j → get_or (sets l i vs) j 0 ≡ get_or l j 0
-sets_behind [] l i j h = refl
-sets_behind (v ∷ vs) l i j h = sets_behind vs (set l i v) (suc i) j (omega (arith, h)) ∙ get_or-set_other l i j v 0 (λ e. omega (arith, h, e))
-
-zeros_over : (w : List ℕ) (n k : ℕ) → ((i : ℕ) → n ≤ i → i < n + k → get_or w i 0 ≡ 0) → sets w 0 (zeros (n + k)) ≡ sets w 0 (zeros n)
-zeros_over w n zero h = ap (λ (m : ℕ). sets w 0 (zeros m)) (add-zero n)
-zeros_over w n (suc k) h =
-    let l : List ℕ = sets w 0 (zeros (n + k)) in
-    let more : n + suc k ≡ n + k + 1 = omega arith in
-    let still : get_or l (n + k) 0 ≡ 0 = sets_behind (zeros (n + k)) w 0 (n + k) (omega (arith, length_zeros (n + k))) ∙ h (n + k) (omega arith) (omega arith) in
-    ap (λ (m : ℕ). sets w 0 (zeros m)) more
-    ∙ sym (sets_zeros w 0 (n + k))
-    ∙ rw zero-add (ap (set l (n + k)) (sym still) ∙ set-get_or l (n + k) 0)
-    ∙ zeros_over w n k (λ i p q. h i p (omega (arith, q)))
+  laid : take (n + k) (zeros n ++ drop n w) ++ (zeros b ++ drop b (drop (n + k) (zeros n ++ drop n w))) ≡ zeros (n + k + b) ++ drop (n + k + b) w
+  laid =
+      ap (λ (l : List ℕ). l ++ (zeros b ++ drop b (drop (n + k) (zeros n ++ drop n w)))) laid_front ∙
+      ap (λ (l : List ℕ). zeros (n + k) ++ (zeros b ++ l)) laid_back ∙ sym (append_assoc (zeros (n + k)) (zeros b) (drop (n + k + b) w)) ∙
+      ap (λ (l : List ℕ). l ++ drop (n + k + b) w) (zeros_append (n + k) b)
 
 -- what a call leaves, by whether the table is large enough
 abbrev left : List ℕ → Bool → List ℕ
@@ -79,34 +64,21 @@ by_size : (w : List ℕ) (b : Bool) → leb work_words (length w) ≡ b → work
 unfolding work_after
 by_size w b e = ap {B = List ℕ} (left w) e
 
-pub cleared_table : (w w' : List ℕ) → 16384 ≤ length w → w' ≡ sets w 0 (zeros 16384) → w' ≡ work_after w
-cleared_table w w' h e =
-    e
-    ∙ sets_front (zeros 16384) w (omega (arith, length_zeros 16384))
-    ∙ ap (λ (n : ℕ). zeros 16384 ++ drop n w) (length_zeros 16384)
-    ∙ sym (by_size w true (leb_true work_words (length w) h))
-
--- zeros behind zeros
-zeros_append : (w : List ℕ) (n k : ℕ) → sets (sets w 0 (zeros n)) n (zeros k) ≡ sets w 0 (zeros (n + k))
-zeros_append w n zero = sym (no_zeros (sets w 0 (zeros n)) n 0 refl) ∙ ap (λ (m : ℕ). sets w 0 (zeros m)) (sym (add-zero n))
-zeros_append w n (suc k) =
-    let one : suc k ≡ k + 1 = omega arith in
-    let more : n + k + 1 ≡ n + suc k = omega arith in
-    ap (λ (m : ℕ). sets (sets w 0 (zeros n)) n (zeros m)) one
-    ∙ sym (sets_zeros (sets w 0 (zeros n)) n k)
-    ∙ ap (λ (l : List ℕ). set l (n + k) 0) (zeros_append w n k)
-    ∙ rw zero-add at (sets_zeros w 0 (n + k))
-    ∙ ap (λ (m : ℕ). sets w 0 (zeros m)) more
+pub cleared_table : (w : List ℕ) → 16384 ≤ length w → {f : List ℕ} → f ≡ zeros 16384 → f ++ drop 16384 w ≡ work_after w
+cleared_table w h e = ap (λ (l : List ℕ). l ++ drop 16384 w) e ∙ sym (by_size w true (leb_true work_words (length w) h))
 
 -- the rows up to the last node's end, and then the links
-pub cleared_rows : {w w₁ w₂ : List ℕ} → 16384 ≤ length w → Bounded w → (n : ℕ) → n ≡ 3 * after_at w 0 → w₁ ≡ sets w 0 (zeros n) →
-    w₂ ≡ sets w₁ 12288 (zeros 4096) → w₂ ≡ work_after w
-cleared_rows {w} {w₁} {w₂} l b n e f g =
+pub cleared_rows :
+    {w : List ℕ} → 16384 ≤ length w → Bounded w → (n : ℕ) → n ≡ 3 * after_at w 0 → {f g : List ℕ} → f ≡ zeros n → g ≡ zeros 4096 →
+    take 12288 (f ++ drop n w) ++ (g ++ drop 4096 (drop 12288 (f ++ drop n w))) ≡ work_after w
+cleared_rows {w} l b n e {f} {g} p q =
     let all : n + (12288 - n) ≡ 12288 = omega (arith, e, b.few) in
-    let rows : w₁ ≡ sets w 0 (zeros 12288) = f ∙
-    sym (zeros_over w n (12288 - n) (λ i p q. b.behind i (omega (arith, p, e)) (omega (arith, q, all)))) ∙
-    ap (λ (m : ℕ). sets w 0 (zeros m)) all in
-    cleared_table w w₂ l (g ∙ ap (λ (v : List ℕ). sets v 12288 (zeros 4096)) rows ∙ zeros_append w 12288 4096)
+    let P : ℕ → Type 0 = λ m. take m (zeros n ++ drop n w) ++ (zeros 4096 ++ drop 4096 (drop m (zeros n ++ drop n w))) ≡ zeros (m + 4096) ++ drop (m + 4096) w in
+    ap (λ (x : List ℕ). take 12288 (x ++ drop n w) ++ (g ++ drop 4096 (drop 12288 (x ++ drop n w)))) p ∙
+    ap (λ (x : List ℕ). take 12288 (zeros n ++ drop n w) ++ (x ++ drop 4096 (drop 12288 (zeros n ++ drop n w)))) q ∙
+    subst P all
+    (laid w n (12288 - n) 4096 (omega (arith, all, l)) (λ i h j. b.behind i (omega (arith, h, e)) (omega (arith, j, all)))) ∙
+    cleared_table w l refl
 
 pub small_table : (w : List ℕ) → length w < 16384 → w ≡ work_after w
 small_table w h = sym (by_size w false (lt-leb work_words (length w) h))

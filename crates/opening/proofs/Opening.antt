@@ -1,15 +1,17 @@
 -- Opening a sheet, from what reading and the shape say: refused as the calls refuse, or accepted.
 -- Assumes nothing.
+use Rattle.std.specs.Prelude.{IsErrAnd, Result as Fallible}
 use mathlib.Core.Bool.{Bool, false, true}
 use mathlib.Core.List.{List}
-use mathlib.Core.Option.{none}
+use Rattle.std.specs.Prelude.{None, Ok, Err}
 use mathlib.Core.Path.{ap, refl, subst, sym, ◌∙◌, ◌≡◌}
 use Prim.Native.Nat.{ℕ, ◌<◌, ◌≤◌}
 use native.Mathlib.Omega.{arith}
 use lib.Dec.{T, leb, leb→le}
 use lib.ListN.{drop, length}
 use lib.Seq.{drop-drop}
-use Rattle.answers.specs.Line.{refusal_line, refusal_number}
+use Rattle.std.proofs.lemmas.Result.{err_from_is_err_and}
+use Rattle.answers.specs.Line.{refusal_line}
 use Rattle.order.specs.Ordered.{Ordered, Unordered}
 use Rattle.json_text.proofs.Complete.{read_exactly}
 use Rattle.json_text.proofs.Laws.{leb_true}
@@ -21,34 +23,33 @@ use Rattle.json_text.specs.Reader.{json}
 use Rattle.strings.specs.Reads.{HoldsOf, ReadTold, read_of, reading}
 use Rattle.json_text.specs.Refusal.{Refusal, Result, ok, refused, work_too_small, ◌>>=◌}
 use Rattle.json_text.specs.Table.{value_at}
-use Rattle.strings.specs.declared.answer.Read.{Read}
-use Rattle.strings.specs.declared.answer.Read.TheVariants as reads
 use Rattle.strings.specs.declared.answer.Refusal.{Refusal as Why}
 use Rattle.strings.specs.declared.answer.Refusal.TheVariants as whys
 use Rattle.sheet.specs.Accepted.{Shaped, Stored}
 use Rattle.members.specs.Condition.{Condition}
 use Rattle.members.specs.Sheet.{Sheet, checked, read_sheet}
 use Rattle.sheet.specs.declared.shape.Members.{Members}
-use Rattle.sheet.specs.declared.shape.Shape.{Shape}
-use Rattle.sheet.specs.declared.shape.Shape.TheVariants as shapes
+use Rattle.sheet.specs.declared.shape.Misshapen.{Misshapen}
+use Rattle.sheet.specs.declared.shape.Misshapen.TheVariants as misshapen
 use Rattle.answers.specs.Entry.{enough, work_words}
-use Rattle.opening.specs.Opening.{OpenedAs, Opening, opening}
-use Rattle.opening.specs.declared.open.Opened.TheVariants as opened
+use Rattle.opening.specs.Opening.{OpenedAs, Opening, opening, why_not}
+use Rattle.opening.specs.declared.open.NotOpened.{NotOpened}
+use Rattle.opening.specs.declared.open.NotOpened.TheVariants as not_opened
 
--- the refusals of reading have no line
-no_line_lem : (why : Why) → refusal_line (refusal_of why) ≡ none
+-- no refusal on opening has a line
+no_line_lem : (why : NotOpened) → refusal_line (why_not why) ≡ None
 unfolding refusal_line
-no_line_lem whys.WorkTooSmall = refl
-no_line_lem whys.TooLong = refl
-no_line_lem whys.NotUtf8 = refl
-no_line_lem whys.NotJson = refl
-no_line_lem whys.TooDeep = refl
-no_line_lem whys.NumberTooLong = refl
-no_line_lem whys.TooManyNodes = refl
-no_line_lem whys.RepeatedName = refl
-
-pub numbered : {r why : Why} → r ≡ why → {n : ℕ} → n ≡ refusal_number (refusal_of why) → n ≡ refusal_number (refusal_of r)
-numbered e h = h ∙ ap (λ (x : Why). refusal_number (refusal_of x)) (sym e)
+no_line_lem (not_opened.Unread whys.WorkTooSmall) = refl
+no_line_lem (not_opened.Unread whys.TooLong) = refl
+no_line_lem (not_opened.Unread whys.NotUtf8) = refl
+no_line_lem (not_opened.Unread whys.NotJson) = refl
+no_line_lem (not_opened.Unread whys.TooDeep) = refl
+no_line_lem (not_opened.Unread whys.NumberTooLong) = refl
+no_line_lem (not_opened.Unread whys.TooManyNodes) = refl
+no_line_lem (not_opened.Unread whys.RepeatedName) = refl
+no_line_lem (not_opened.Misshapen misshapen.WrongSheet) = refl
+no_line_lem (not_opened.Misshapen misshapen.WrongShape) = refl
+no_line_lem (not_opened.Misshapen misshapen.NotCarried) = refl
 
 module _ (words : ℕ) (s : Bytes) where
   abbrev read_by : Bool → Result Value
@@ -107,20 +108,25 @@ module _ (words : ℕ) (s : Bytes) where
     pub is_sheet : opening words s ≡ read_sheet s
     is_sheet = open_by_lem true large
 
-past_table : {s : Bytes} {w w' : List ℕ} {r : Read} → ReadTold s w w' r → drop 16384 w' ≡ drop 16384 w
+-- what `?` returns
+returned : (r : Fallible Members NotOpened) {why : NotOpened} → IsErrAnd r (λ e. e ≡ why) → Err why ≡ r
+returned r h = let x = err_from_is_err_and r h in sym (x.1 ∙ ap Err x.2)
+
+past_table : {s : Bytes} {w w' : List ℕ} {r : Fallible ℕ Why} → ReadTold s w w' r → drop 16384 w' ≡ drop 16384 w
 past_table {s} {w} {w'} t = sym (drop-drop 4096 12288 w') ∙ ap (drop 4096) t.past ∙ drop-drop 4096 12288 w
 
-module _ {s : Bytes} {w w' : List ℕ} {r : Read} (t : ReadTold s w w' r) where
-  pub stopped_reading : (why : Why) → r ≡ reads.Refused why → {n : ℕ} → n ≡ refusal_number (refusal_of why) → Opening s w w' (opened.Refused n)
+module _ {s : Bytes} {w w' : List ℕ} {r : Fallible ℕ Why} (t : ReadTold s w w' r) where
+  pub stopped_reading : (why : Why) → r ≡ Err why → (a : Fallible Members NotOpened) → IsErrAnd a (λ e. e ≡ not_opened.Unread why) → Opening s w w' a
   unfolding OpenedAs read_of
-  stopped_reading why q e =
-      record {
-        is = record { why = refusal_of why; is = reading_refused (length w) s (refusal_of why) (t.answers ∙ ap {B = Result Value} (read_of s w') q); is_number = e; no_line = no_line_lem why };
+  stopped_reading why q a h =
+      subst (Opening s w w') (returned a h)
+      (record {
+        is = record { is = reading_refused (length w) s (refusal_of why) (t.answers ∙ ap {B = Result Value} (read_of s w') q); no_line = no_line_lem (not_opened.Unread why) };
         small = t.small;
         past = λ h. past_table t;
-      }
+      })
 
-  module _ (k : ℕ) (q : r ≡ reads.Table k) where
+  module _ (k : ℕ) (q : r ≡ Ok k) where
     was_read : reading (length w) s ≡ ok (value_at s w' 0)
     unfolding read_of
     was_read = t.answers ∙ ap {B = Result Value} (read_of s w') q
@@ -146,18 +152,28 @@ module _ {s : Bytes} {w w' : List ℕ} {r : Read} (t : ReadTold s w w' r) where
       still_past : 16384 ≤ length w → drop 16384 w'' ≡ drop 16384 w
       still_past h = o.further ∙ past_table t
 
+      shape_says : (why : Misshapen) → Shaped s w'' (Err why) → read_sheet s ≡ refused (why_not (not_opened.Misshapen why))
+      unfolding Shaped
+      shape_says misshapen.WrongSheet h = h
+      shape_says misshapen.WrongShape h = h
+      shape_says misshapen.NotCarried h = h
+
       pub stopped_shape :
-          (f : Refusal) {n : ℕ} → n ≡ refusal_number f → refusal_line f ≡ none → {a : Shape} → Shaped s w'' a → (b : Shape) → a ≡ b →
-          (Shaped s w'' b → read_sheet s ≡ refused f) → Opening s w w'' (opened.Refused n)
+          {f : Fallible Members Misshapen} → Shaped s w'' f → (why : Misshapen) → f ≡ Err why → (a : Fallible Members NotOpened) →
+          IsErrAnd a (λ e. e ≡ not_opened.Misshapen why) → Opening s w w'' a
       unfolding OpenedAs
-      stopped_shape f e l h b z i =
-          record {
-            is = record { why = f; is = is_sheet (length w) s (value_at s w' 0) was_read ∙ i (subst (Shaped s w'') z h); is_number = e; no_line = l };
+      stopped_shape h why z a r =
+          subst (Opening s w w'') (returned a r)
+          (record {
+            is = record {
+              is = is_sheet (length w) s (value_at s w' 0) was_read ∙ shape_says why (subst (Shaped s w'') z h);
+              no_line = no_line_lem (not_opened.Misshapen why);
+            };
             small = still_small;
             past = still_past;
-          }
+          })
 
-      pub opened_sheet : {a : Shape} → Shaped s w'' a → (m : Members) → a ≡ shapes.Is m → Opening s w w'' (opened.Sheet m)
+      pub opened_sheet : {a : Fallible Members Misshapen} → Shaped s w'' a → (m : Members) → a ≡ Ok m → Opening s w w'' (Ok m)
       unfolding OpenedAs Shaped
       opened_sheet {a} h m e =
           let x = subst (Shaped s w'') e h in

@@ -1,51 +1,56 @@
 // A sheet read and accepted, or refused by its text or its shape.
 ghost use Rattle.std.specs.Prelude.{◌≡◌};
 ghost use Rattle.answers.specs.Line.{refusal_number};
-ghost use Rattle.strings.specs.Answers.{refusal_of};
-ghost use Rattle.opening.specs.Opening.{Opening};
+ghost use Rattle.opening.specs.Opening.{Opening, why_not};
+ghost use Rattle.opening.specs.declared.open.NotOpened.TheVariants as not_opened;
 
 use order::order::order;
 use reader::read;
-use sheet::shape::{Members, Shape, shape_of};
-use strings::answer::{Read, Refusal};
+use sheet::shape::{Members, Misshapen, shape_of};
+use strings::answer::Refusal;
 
-// A refusal's number, 1 to 11, or the nodes of the sheet's members.
+// Why bytes are no sheet: they could not be read as JSON, or the tree that they spell has another shape.
 #[derive(Clone, Copy)]
-pub enum Opened {
-    Refused(usize),
-    Sheet(Members),
+pub enum NotOpened {
+    Unread(Refusal),
+    Misshapen(Misshapen),
 }
 
-// The number of a refusal of reading.
-fn number(why: Refusal) -> usize
-    ensures { result ≡ refusal_number (refusal_of why) }
-{
-    match why {
-        Refusal::WorkTooSmall => 1,
-        Refusal::TooLong => 2,
-        Refusal::NotUtf8 => 3,
-        Refusal::NotJson => 4,
-        Refusal::TooDeep => 5,
-        Refusal::NumberTooLong => 6,
-        Refusal::TooManyNodes => 7,
-        Refusal::RepeatedName => 8,
+impl From<Refusal> for NotOpened {
+    ghost from_gives = { λ why e. e ≡ not_opened.Unread why };
+
+    fn from(why: Refusal) -> NotOpened {
+        NotOpened::Unread(why)
+    }
+}
+
+impl From<Misshapen> for NotOpened {
+    ghost from_gives = { λ why e. e ≡ not_opened.Misshapen why };
+
+    fn from(why: Misshapen) -> NotOpened {
+        NotOpened::Misshapen(why)
+    }
+}
+
+impl NotOpened {
+    // The number of a refusal, 1 to 11.
+    pub fn number(self) -> usize
+        ensures { result ≡ refusal_number (why_not self) }
+    {
+        match self {
+            NotOpened::Unread(why) => why.number(),
+            NotOpened::Misshapen(Misshapen::WrongSheet) => 9,
+            NotOpened::Misshapen(Misshapen::WrongShape) => 10,
+            NotOpened::Misshapen(Misshapen::NotCarried) => 11,
+        }
     }
 }
 
 // The sheet that the bytes spell: its tree in the table, the members of every object linked in their order.
-pub fn open(sheet: &[u8], work: &mut [u32]) -> Opened
+pub fn open(sheet: &[u8], work: &mut [u32]) -> Result<Members, NotOpened>
     ensures { Opening sheet.now work.old work.new result }
 {
-    match read(sheet, work) {
-        Read::Refused(why) => Opened::Refused(number(why)),
-        Read::Table(_) => {
-            order(sheet, work);
-            match shape_of(sheet, work) {
-                Shape::WrongSheet => Opened::Refused(9),
-                Shape::WrongShape => Opened::Refused(10),
-                Shape::NotCarried => Opened::Refused(11),
-                Shape::Is(m) => Opened::Sheet(m),
-            }
-        }
-    }
+    read(sheet, work)?;
+    order(sheet, work);
+    Ok(shape_of(sheet, work)?)
 }

@@ -2,7 +2,7 @@
 -- Assumes nothing.
 use mathlib.Core.Path.{◌≡◌, refl, ◌∙◌, ap}
 use mathlib.Core.List.{List, [], ◌∷◌}
-use mathlib.Core.Option.{Option, none, some}
+use Rattle.std.specs.Prelude.{Option, None, Some}
 use mathlib.Core.Bool.{Bool, true, false, ◌||◌, not}
 use Prim.Native.Nat.{ℕ, zero, suc, ◌≤◌, ◌<◌, Ordering}
 use native.Mathlib.Omega.{arith}
@@ -173,16 +173,16 @@ module _ (R : Operand → Value → Type 0) (m : ℕ) (same : Operand → Operan
   fits_contained is_nothing r k h = refl
   fits_contained is_truth r k h = refl
   fits_contained is_digits r k h = refl
-  fits_contained (is_words {s = s}) r k h = ap (λ (x : Option Bytes). elim x as (λ _. Bool) [ none ↦ false | some t ↦ is_part t s ]) (fits_words k)
+  fits_contained (is_words {s = s}) r k h = ap (λ (x : Option Bytes). elim x as (λ _. Bool) [ None ↦ false | Some t ↦ is_part t s ]) (fits_words k)
   fits_contained (is_items j) r k h = fits_one r j (omega arith)
   fits_contained {t = t} (is_fields {ms = ms} j) r k h =
-      ap (λ (ks : List Bytes). elim (as_words t) as (λ _. Bool) [ none ↦ false | some n ↦ is_one_of n ks ]) (fits_keys j) ∙
-      ap (λ (x : Option Bytes). elim x as (λ _. Bool) [ none ↦ false | some n ↦ is_one_of n (keys ms) ]) (fits_words k)
+      ap (λ (ks : List Bytes). elim (as_words t) as (λ _. Bool) [ None ↦ false | Some n ↦ is_one_of n ks ]) (fits_keys j) ∙
+      ap (λ (x : Option Bytes). elim x as (λ _. Bool) [ None ↦ false | Some n ↦ is_one_of n (keys ms) ]) (fits_words k)
 
   fits_numbers : (q : Ordering → Bool) {s t : Shape Operand} {v w : Value} → Fits R s v → Fits R t w → two_numbers q s t ≡ numbers kernel q v w
   fits_numbers q is_nothing k = refl
   fits_numbers q is_truth k = refl
-  fits_numbers q (is_digits {s = s}) k = ap (λ (x : Option Bytes). elim x as (λ _. Bool) [ none ↦ false | some t ↦ q (number_order s t) ]) (fits_digits k)
+  fits_numbers q (is_digits {s = s}) k = ap (λ (x : Option Bytes). elim x as (λ _. Bool) [ None ↦ false | Some t ↦ q (number_order s t) ]) (fits_digits k)
   fits_numbers q is_words k = refl
   fits_numbers q (is_items j) k = refl
   fits_numbers q (is_fields j) k = refl
@@ -191,12 +191,12 @@ module _ (R : Operand → Value → Type 0) (m : ℕ) (same : Operand → Operan
   fits_texts q is_nothing k = refl
   fits_texts q is_truth k = refl
   fits_texts q is_digits k = refl
-  fits_texts q (is_words {s = s}) k = ap (λ (x : Option Bytes). elim x as (λ _. Bool) [ none ↦ false | some t ↦ q s t ]) (fits_words k)
+  fits_texts q (is_words {s = s}) k = ap (λ (x : Option Bytes). elim x as (λ _. Bool) [ None ↦ false | Some t ↦ q s t ]) (fits_words k)
   fits_texts q (is_items j) k = refl
   fits_texts q (is_fields j) k = refl
 
   fits_member : {o : Operand} {t : Shape Operand} {v w : Value} → R o v → Fits R t w → depth w ≤ m →
-      elim (as_items t) as (λ _. Bool) [ none ↦ false | some ys ↦ one_alike same o ys ] ≡ member_of kernel v w
+      elim (as_items t) as (λ _. Bool) [ None ↦ false | Some ys ↦ one_alike same o ys ] ≡ member_of kernel v w
   unfolding depth
   fits_member r is_nothing h = refl
   fits_member r is_truth h = refl

@@ -6,7 +6,8 @@ use mathlib.Core.Path.{ap, refl, subst, sym, ◌∙◌, ◌≡◌}
 use Prim.Native.Nat.{Ordering, ℕ}
 use lib.ListN.{length}
 use Rattle.number.specs.Compare.{number_order}
-use Rattle.json_text.specs.Bytes.{Bytes, is_one_of, same_bytes}
+use Rattle.json_text.specs.Bytes.{Bytes, begins, is_one_of, same_bytes}
+use Rattle.json_text.specs.Orders.{order_of}
 use Rattle.json_text.specs.Held.{HasNode}
 use Rattle.json_text.specs.Links.{Linked}
 use Rattle.json_text.specs.Spans.{text_at}
@@ -14,20 +15,32 @@ use Rattle.json_text.specs.Table.{start_at}
 use Rattle.members.specs.Condition as condition
 use Rattle.members.specs.Condition.{Condition}
 use Rattle.members.specs.Sheet.{Sheet}
-use Rattle.paths.specs.Children.{ChildAt, ChildrenAt, Given, Named, begun, children_of}
-use Rattle.semantics.specs.Forms.{is_greater, is_less}
+use Rattle.paths.specs.Children.{ChildAt, ChildrenAt, Given, Named, begun, children_of, next_of}
+use Rattle.semantics.specs.Forms.{ends, is_greater, is_less, is_part}
 use Rattle.paths.specs.Comparing.{alike, holds_of, nesting}
 use Rattle.paths.specs.Layered.{TextPlace, class_of, digits_of, each_name, each_node, kids, part_at, shape_of, words_of}
 use Rattle.paths.specs.Lazy as lazy
-use Rattle.paths.specs.Matched.{Holds, NumbersTold, TextsTold, found, in_order, names_of}
+use Rattle.paths.specs.Matched.{Holds, NumbersTold, names_of}
 use Rattle.semantics.specs.Semantics.{is_same}
 use Rattle.paths.specs.Shape.{Shape, contained_in, digits, fields, holds_shapes, items, keys_of, nothing, one_alike, truth, two_numbers, two_texts, words}
 use Rattle.paths.specs.Stored.{operand_of}
 use Rattle.paths.specs.declared.children.Children.{Children}
-use Rattle.paths.specs.declared.operand.Where.{Where}
-use Rattle.paths.specs.declared.operand.Where.TheVariants as wheres
 use Rattle.paths.specs.declared.operand.Operand.{Operand}
-use Rattle.resolving.proofs.Alike.{walk_begins, walk_kids, walk_named}
+use Rattle.std.specs.Ordering as std
+use Rattle.std.specs.declared.cmp.Ordering.{Ordering as CodeOrdering}
+use Rattle.std.specs.declared.cmp.Ordering.TheVariants as orders
+use Rattle.strings.specs.declared.rows.Kind.{Kind as Class}
+use Rattle.strings.specs.declared.rows.Kind.TheVariants as classes
+use Rattle.operands.specs.Told.{TextsTold}
+use denote.Enum.Bare.{same_true, sameb}
+use borrow.Author.Rules.{rules}
+use Rattle.std.specs.Prelude.{Option, None, Some, is_some}
+use Rattle.strings.proofs.KindCodes.{is_other}
+use Rattle.strings.specs.Answers.{code_of}
+use Rattle.strings.specs.contracts.rows.Kind.{the_type}
+use Rattle.paths.proofs.Ordered.{child_end, child_given}
+use Rattle.paths.specs.declared.children.Next.{Next}
+use Rattle.resolving.proofs.Alike.{Comparing, both_end, first_ends, not_no, not_yes, walk_begins, walk_kids, walk_named}
 use Rattle.resolving.proofs.Layered.{array_is, class_is, number_is, object_is, shape_kind, shape_class, text_is}
 
 -- a walk that looks for one child
@@ -62,6 +75,22 @@ pub child_named : (s : Bytes) (t : List ℕ) {k : ℕ} → ChildAt s t true k �
 unfolding ChildAt
 child_named s t h = h
 
+-- two kinds of rows that a comparison tells apart, or the same
+pub apart_kinds : (k q : Class) {b : Bool} → b ≡ not (sameb the_type k q) → b ≡ true → k ≡ q → ⊥
+apart_kinds k q h e i = is_other k q refl (sym (not_yes _ (sym h ∙ e))) (ap code_of i)
+
+pub same_kinds : (k q : Class) {b : Bool} → b ≡ not (sameb the_type k q) → b ≡ false → k ≡ q
+same_kinds k q h e = same_true the_type (search rules) _ _ (not_no _ (sym h ∙ e))
+
+-- parts of the first are at an end: then those of the second are, or there are more
+pub parts_end : (s : Bytes) (t : List ℕ) (f : lazy.Operand → lazy.Operand → Bool) (named : Bool) (g h : ℕ → lazy.Operand) (whole : Bool) {x y : Children} →
+    Comparing s t f named g h whole x y → children_of t x ≡ [] → {r : Option Next} → r ≡ next_of t y → {b : Bool} → is_some r ≡ not b → b ≡ whole
+parts_end s t f named g h whole {x} {y} l p {r} q {b} e = go r refl e
+  where
+    go : (n : Option Next) → r ≡ n → is_some n ≡ not b → b ≡ whole
+    go None i k = not_no b (sym k) ∙ both_end s t f named g h whole l p (child_end l.second q i)
+    go (Some n) i k = not_yes b (sym k) ∙ first_ends s t f named g h whole l p (child_given l.second q n i)
+
 -- an element, and a key
 module _ (f : lazy.Operand → lazy.Operand → Bool) (o : lazy.Operand) (g : ℕ → lazy.Operand) where
   pub element_none : one_alike f o (each_node g []) ≡ false
@@ -92,7 +121,7 @@ module _ (s : Bytes) (t : List ℕ) (b : Bytes) where
   key_on k ks e h q = let z : same_bytes b (text_at s (start_at t k)) ≡ false = ap (λ (x : ℕ). same_bytes b (text_at s x)) (sym e) ∙ sym h ∙ q in rw (z, is_one_of)
 
 -- layers of another class hold no number, no text, no elements
-first_number : (p : Ordering → Bool) (x y : Shape lazy.Operand) → (shape_class x ≡ 3 → ⊥) → false ≡ two_numbers p x y
+first_number : (p : Ordering → Bool) (x y : Shape lazy.Operand) → (shape_class x ≡ classes.Number → ⊥) → false ≡ two_numbers p x y
 first_number p nothing y h = refl
 first_number p (truth true) y h = refl
 first_number p (truth false) y h = refl
@@ -101,7 +130,7 @@ first_number p (words b) y h = refl
 first_number p (items b) y h = refl
 first_number p (fields b) y h = refl
 
-second_number : (p : Ordering → Bool) (x y : Shape lazy.Operand) → (shape_class y ≡ 3 → ⊥) → false ≡ two_numbers p x y
+second_number : (p : Ordering → Bool) (x y : Shape lazy.Operand) → (shape_class y ≡ classes.Number → ⊥) → false ≡ two_numbers p x y
 second_number p nothing y h = refl
 second_number p (truth b) y h = refl
 second_number p (digits b) nothing h = refl
@@ -115,7 +144,7 @@ second_number p (words b) y h = refl
 second_number p (items b) y h = refl
 second_number p (fields b) y h = refl
 
-first_text : (p : Bytes → Bytes → Bool) (x y : Shape lazy.Operand) → (shape_class x ≡ 4 → ⊥) → false ≡ two_texts p x y
+first_text : (p : Bytes → Bytes → Bool) (x y : Shape lazy.Operand) → (shape_class x ≡ classes.Text → ⊥) → false ≡ two_texts p x y
 first_text p nothing y h = refl
 first_text p (truth true) y h = refl
 first_text p (truth false) y h = refl
@@ -124,7 +153,7 @@ first_text p (words b) y h = absurd (h refl)
 first_text p (items b) y h = refl
 first_text p (fields b) y h = refl
 
-second_text : (p : Bytes → Bytes → Bool) (x y : Shape lazy.Operand) → (shape_class y ≡ 4 → ⊥) → false ≡ two_texts p x y
+second_text : (p : Bytes → Bytes → Bool) (x y : Shape lazy.Operand) → (shape_class y ≡ classes.Text → ⊥) → false ≡ two_texts p x y
 second_text p nothing y h = refl
 second_text p (truth b) y h = refl
 second_text p (digits b) y h = refl
@@ -139,7 +168,7 @@ second_text p (items b) y h = refl
 second_text p (fields b) y h = refl
 
 no_items : (f : lazy.Operand → lazy.Operand → Bool) (o : lazy.Operand) (x : Shape lazy.Operand) (p : lazy.Operand) (y : Shape lazy.Operand) →
-    (shape_class y ≡ 5 → ⊥) → holds_shapes f condition.is_in o x p y ≡ false
+    (shape_class y ≡ classes.Array → ⊥) → holds_shapes f condition.is_in o x p y ≡ false
 unfolding holds_shapes
 no_items f o x p nothing h = refl
 no_items f o x p (truth true) h = refl
@@ -150,7 +179,7 @@ no_items f o x p (items b) h = absurd (h refl)
 no_items f o x p (fields b) h = refl
 
 no_key : (f : lazy.Operand → lazy.Operand → Bool) (xs : List (Bytes × lazy.Operand)) (o : lazy.Operand) (y : Shape lazy.Operand) →
-    (shape_class y ≡ 4 → ⊥) → contained_in f (fields xs) o y ≡ false
+    (shape_class y ≡ classes.Text → ⊥) → contained_in f (fields xs) o y ≡ false
 unfolding contained_in
 no_key f xs o nothing h = refl
 no_key f xs o (truth true) h = refl
@@ -161,13 +190,13 @@ no_key f xs o (items b) h = refl
 no_key f xs o (fields b) h = refl
 
 part_in : (f : lazy.Operand → lazy.Operand → Bool) (b : Bytes) (o : lazy.Operand) (y : Shape lazy.Operand) →
-    two_texts (found wheres.Anywhere) (words b) y ≡ contained_in f (words b) o y
+    two_texts (λ text part. is_part part text) (words b) y ≡ contained_in f (words b) o y
 unfolding contained_in
 part_in f b o y = refl
 
 no_holder :
-    (f : lazy.Operand → lazy.Operand → Bool) (x : Shape lazy.Operand) (o : lazy.Operand) (y : Shape lazy.Operand) → (shape_class x ≡ 4 → ⊥) →
-    (shape_class x ≡ 5 → ⊥) → (shape_class x ≡ 6 → ⊥) → contained_in f x o y ≡ false
+    (f : lazy.Operand → lazy.Operand → Bool) (x : Shape lazy.Operand) (o : lazy.Operand) (y : Shape lazy.Operand) → (shape_class x ≡ classes.Text → ⊥) →
+    (shape_class x ≡ classes.Array → ⊥) → (shape_class x ≡ classes.Object → ⊥) → contained_in f x o y ≡ false
 unfolding contained_in
 no_holder f nothing o y h k l = refl
 no_holder f (truth true) o y h k l = refl
@@ -178,32 +207,31 @@ no_holder f (items b) o y h k l = absurd (k refl)
 no_holder f (fields b) o y h k l = absurd (l refl)
 
 module _ (s : Bytes) (t : List ℕ) (a b : Operand) where
-  differs : (sheet : Sheet Condition) (fs : lazy.Frames) (o : Operand) (k : ℕ) {c : ℕ} → c ≡ class_of o.kind → (c ≡ k → ⊥) →
-      shape_class (shape_of sheet s t fs o) ≡ k → ⊥
-  differs sheet fs o k e h q = h (e ∙ sym (class_is sheet s t fs o.node o.depth o.kind) ∙ q)
+  differs : (sheet : Sheet Condition) (fs : lazy.Frames) (o : Operand) (k : Class) → (class_of o.kind ≡ k → ⊥) → shape_class (shape_of sheet s t fs o) ≡ k → ⊥
+  differs sheet fs o k h q = h (sym (class_is sheet s t fs o.node o.depth o.kind) ∙ q)
 
   -- numbers
-  pub first_no_number : (p : Ordering → Bool) {c : ℕ} → c ≡ class_of a.kind → (c ≡ 3 → ⊥) → NumbersTold s t a b p false
-  first_no_number p e h sheet fs = first_number p (shape_of sheet s t fs a) (shape_of sheet s t fs b) (differs sheet fs a 3 e h)
+  pub first_no_number : (p : Ordering → Bool) → (class_of a.kind ≡ classes.Number → ⊥) → NumbersTold s t a b p false
+  first_no_number p h sheet fs = first_number p (shape_of sheet s t fs a) (shape_of sheet s t fs b) (differs sheet fs a classes.Number h)
 
-  pub second_no_number : (p : Ordering → Bool) {c : ℕ} → c ≡ class_of b.kind → (c ≡ 3 → ⊥) → NumbersTold s t a b p false
-  second_no_number p e h sheet fs = second_number p (shape_of sheet s t fs a) (shape_of sheet s t fs b) (differs sheet fs b 3 e h)
+  pub second_no_number : (p : Ordering → Bool) → (class_of b.kind ≡ classes.Number → ⊥) → NumbersTold s t a b p false
+  second_no_number p h sheet fs = second_number p (shape_of sheet s t fs a) (shape_of sheet s t fs b) (differs sheet fs b classes.Number h)
 
-  pub in_order_lem : (p : Ordering → Bool) {o : Ordering} → class_of a.kind ≡ 3 → class_of b.kind ≡ 3 →
-      o ≡ number_order (digits_of s t a.node) (digits_of s t b.node) → NumbersTold s t a b p (p o)
-  in_order_lem p u v e sheet fs = rw (number_is sheet s t fs a.node a.depth a.kind u, number_is sheet s t fs b.node b.depth b.kind v, ← e)
+  pub in_order : (p : Ordering → Bool) {o : Ordering} {r : Bool} → class_of a.kind ≡ classes.Number → class_of b.kind ≡ classes.Number →
+      o ≡ number_order (digits_of s t a.node) (digits_of s t b.node) → r ≡ p o → NumbersTold s t a b p r
+  in_order p u v e z sheet fs = z ∙ rw (number_is sheet s t fs a.node a.depth a.kind u, number_is sheet s t fs b.node b.depth b.kind v, ← e)
 
   -- texts
-  pub first_no_text : (w : Where) {c : ℕ} → c ≡ class_of a.kind → (c ≡ 4 → ⊥) → TextsTold s t a b w false
-  first_no_text w e h sheet fs = first_text (found w) (shape_of sheet s t fs a) (shape_of sheet s t fs b) (differs sheet fs a 4 e h)
+  pub first_no_text : (p : Bytes → Bytes → Bool) → (class_of a.kind ≡ classes.Text → ⊥) → TextsTold s t a b p false
+  first_no_text p h sheet fs = first_text p (shape_of sheet s t fs a) (shape_of sheet s t fs b) (differs sheet fs a classes.Text h)
 
-  pub second_no_text : (w : Where) {c : ℕ} → c ≡ class_of b.kind → (c ≡ 4 → ⊥) → TextsTold s t a b w false
-  second_no_text w e h sheet fs = second_text (found w) (shape_of sheet s t fs a) (shape_of sheet s t fs b) (differs sheet fs b 4 e h)
+  pub second_no_text : (p : Bytes → Bytes → Bool) → (class_of b.kind ≡ classes.Text → ⊥) → TextsTold s t a b p false
+  second_no_text p h sheet fs = second_text p (shape_of sheet s t fs a) (shape_of sheet s t fs b) (differs sheet fs b classes.Text h)
 
   pub texts_found :
-      (w : Where) {x y : ℕ} {r : Bool} → class_of a.kind ≡ 4 → class_of b.kind ≡ 4 → TextPlace s t a x → TextPlace s t b y →
-      r ≡ found w (text_at s x) (text_at s y) → TextsTold s t a b w r
-  texts_found w u v p q e sheet fs = e ∙ rw (text_is sheet s t fs a.node a.depth a.kind u, text_is sheet s t fs b.node b.depth b.kind v, p.is, q.is)
+      (p : Bytes → Bytes → Bool) {x y : ℕ} {r : Bool} → class_of a.kind ≡ classes.Text → class_of b.kind ≡ classes.Text → TextPlace s t a x → TextPlace s t b y →
+      r ≡ p (text_at s x) (text_at s y) → TextsTold s t a b p r
+  texts_found p u v i j e sheet fs = e ∙ rw (text_is sheet s t fs a.node a.depth a.kind u, text_is sheet s t fs b.node b.depth b.kind v, i.is, j.is)
 
 -- the forms
 module _ (sheet : Sheet Condition) (s : Bytes) (t : List ℕ) (fs : lazy.Frames) (a b : Operand) where
@@ -225,116 +253,84 @@ module _ (sheet : Sheet Condition) (s : Bytes) (t : List ℕ) (fs : lazy.Frames)
   unfolding holds_shapes
   form_ne h = ap not h ∙ sym (layers condition.ne)
 
-  order_as : (p q : Ordering → Bool) → ((o : Ordering) → p o ≡ q o) → (x y : Shape lazy.Operand) → two_numbers p x y ≡ two_numbers q x y
-  order_as p q h nothing y = refl
-  order_as p q h (truth b) y = refl
-  order_as p q h (digits u) nothing = refl
-  order_as p q h (digits u) (truth b) = refl
-  order_as p q h (digits u) (digits v) = h (number_order u v)
-  order_as p q h (digits u) (words v) = refl
-  order_as p q h (digits u) (items v) = refl
-  order_as p q h (digits u) (fields v) = refl
-  order_as p q h (words u) y = refl
-  order_as p q h (items u) y = refl
-  order_as p q h (fields u) y = refl
-
-  pub form_gt : {r : Bool} → NumbersTold s t a b (in_order false false true) r → r ≡ holds_of sheet fs condition.gt (operand_of s t a) (operand_of s t b)
+  pub form_gt : {r : Bool} → NumbersTold s t a b is_greater r → r ≡ holds_of sheet fs condition.gt (operand_of s t a) (operand_of s t b)
   unfolding holds_shapes
-  form_gt h = h sheet fs ∙ order_as (in_order false false true) is_greater go (shape_of sheet s t fs a) (shape_of sheet s t fs b) ∙ sym (layers condition.gt)
-    where
-      go : (o : Ordering) → in_order false false true o ≡ is_greater o
-      go Ordering.lt = refl
-      go Ordering.eq = refl
-      go Ordering.gt = refl
+  form_gt h = h sheet fs ∙ sym (layers condition.gt)
 
-  pub form_gte : {r : Bool} → NumbersTold s t a b (in_order false true true) r → r ≡ holds_of sheet fs condition.gte (operand_of s t a) (operand_of s t b)
+  pub form_gte : {r : Bool} → NumbersTold s t a b (λ o. is_greater o || is_same o) r → r ≡ holds_of sheet fs condition.gte (operand_of s t a) (operand_of s t b)
   unfolding holds_shapes
-  form_gte h = h sheet fs ∙ order_as (in_order false true true) (λ o. is_greater o || is_same o) go (shape_of sheet s t fs a) (shape_of sheet s t fs b) ∙ sym (layers condition.gte)
-    where
-      go : (o : Ordering) → in_order false true true o ≡ (is_greater o || is_same o)
-      go Ordering.lt = refl
-      go Ordering.eq = refl
-      go Ordering.gt = refl
+  form_gte h = h sheet fs ∙ sym (layers condition.gte)
 
-  pub form_lt : {r : Bool} → NumbersTold s t a b (in_order true false false) r → r ≡ holds_of sheet fs condition.lt (operand_of s t a) (operand_of s t b)
+  pub form_lt : {r : Bool} → NumbersTold s t a b is_less r → r ≡ holds_of sheet fs condition.lt (operand_of s t a) (operand_of s t b)
   unfolding holds_shapes
-  form_lt h = h sheet fs ∙ order_as (in_order true false false) is_less go (shape_of sheet s t fs a) (shape_of sheet s t fs b) ∙ sym (layers condition.lt)
-    where
-      go : (o : Ordering) → in_order true false false o ≡ is_less o
-      go Ordering.lt = refl
-      go Ordering.eq = refl
-      go Ordering.gt = refl
+  form_lt h = h sheet fs ∙ sym (layers condition.lt)
 
-  pub form_lte : {r : Bool} → NumbersTold s t a b (in_order true true false) r → r ≡ holds_of sheet fs condition.lte (operand_of s t a) (operand_of s t b)
+  pub form_lte : {r : Bool} → NumbersTold s t a b (λ o. is_less o || is_same o) r → r ≡ holds_of sheet fs condition.lte (operand_of s t a) (operand_of s t b)
   unfolding holds_shapes
-  form_lte h = h sheet fs ∙ order_as (in_order true true false) (λ o. is_less o || is_same o) go (shape_of sheet s t fs a) (shape_of sheet s t fs b) ∙ sym (layers condition.lte)
-    where
-      go : (o : Ordering) → in_order true true false o ≡ (is_less o || is_same o)
-      go Ordering.lt = refl
-      go Ordering.eq = refl
-      go Ordering.gt = refl
+  form_lte h = h sheet fs ∙ sym (layers condition.lte)
 
-  pub form_starts : {r : Bool} → TextsTold s t a b wheres.Start r → r ≡ holds_of sheet fs condition.starts_with (operand_of s t a) (operand_of s t b)
+  pub form_starts : {r : Bool} → TextsTold s t a b (λ text part. begins part text) r → r ≡ holds_of sheet fs condition.starts_with (operand_of s t a) (operand_of s t b)
   unfolding holds_shapes
   form_starts h = h sheet fs ∙ sym (layers condition.starts_with)
 
-  pub form_ends : {r : Bool} → TextsTold s t a b wheres.End r → r ≡ holds_of sheet fs condition.ends_with (operand_of s t a) (operand_of s t b)
+  pub form_ends : {r : Bool} → TextsTold s t a b (λ text part. ends part text) r → r ≡ holds_of sheet fs condition.ends_with (operand_of s t a) (operand_of s t b)
   unfolding holds_shapes
   form_ends h = h sheet fs ∙ sym (layers condition.ends_with)
 
   -- in
-  pub in_none : {c : ℕ} → c ≡ class_of b.kind → (c ≡ 5 → ⊥) → false ≡ holds_of sheet fs condition.is_in (operand_of s t a) (operand_of s t b)
+  pub in_none : (class_of b.kind ≡ classes.Array → ⊥) → false ≡ holds_of sheet fs condition.is_in (operand_of s t a) (operand_of s t b)
   unfolding holds_shapes
-  in_none e h = sym (layers condition.is_in ∙ no_items f (operand_of s t a) (shape_of sheet s t fs a) (operand_of s t b) (shape_of sheet s t fs b) (differs s t a b sheet fs b 5 e h))
+  in_none h = sym (layers condition.is_in ∙ no_items f (operand_of s t a) (shape_of sheet s t fs a) (operand_of s t b) (shape_of sheet s t fs b) (differs s t a b sheet fs b classes.Array h))
 
-  pub in_some : {r : Bool} → class_of b.kind ≡ 5 →
+  pub in_some : {r : Bool} → class_of b.kind ≡ classes.Array →
       r ≡ one_alike (alike sheet (nesting (length fs)) fs) (operand_of s t a) (each_node (part_at sheet s t fs b) (kids s t b.node false)) →
       r ≡ holds_of sheet fs condition.is_in (operand_of s t a) (operand_of s t b)
   unfolding holds_shapes
   in_some e h = h ∙ sym (layers condition.is_in ∙ rw (array_is sheet s t fs b.node b.depth b.kind e))
 
   -- contains
-  pub contains_text : {r : Bool} → class_of a.kind ≡ 4 → TextsTold s t a b wheres.Anywhere r → r ≡ holds_of sheet fs condition.contains (operand_of s t a) (operand_of s t b)
+  pub contains_text : {r : Bool} → class_of a.kind ≡ classes.Text → TextsTold s t a b (λ text part. is_part part text) r → r ≡ holds_of sheet fs condition.contains
+      (operand_of s t a) (operand_of s t b)
   unfolding holds_shapes contained_in
   contains_text e h =
       let w = text_is sheet s t fs a.node a.depth a.kind e in h sheet fs ∙
-      ap (λ (x : Shape lazy.Operand). two_texts (found wheres.Anywhere) x (shape_of sheet s t fs b)) w ∙
+      ap (λ (x : Shape lazy.Operand). two_texts (λ text part. is_part part text) x (shape_of sheet s t fs b)) w ∙
       part_in f (words_of s t a.node a.kind) (operand_of s t b) (shape_of sheet s t fs b) ∙
       ap (λ (x : Shape lazy.Operand). contained_in f x (operand_of s t b) (shape_of sheet s t fs b)) (sym w) ∙
       sym (layers condition.contains)
 
-  pub contains_element : {r : Bool} → class_of a.kind ≡ 5 →
+  pub contains_element : {r : Bool} → class_of a.kind ≡ classes.Array →
       r ≡ one_alike (alike sheet (nesting (length fs)) fs) (operand_of s t b) (each_node (part_at sheet s t fs a) (kids s t a.node false)) →
       r ≡ holds_of sheet fs condition.contains (operand_of s t a) (operand_of s t b)
   unfolding holds_shapes contained_in
   contains_element e h = h ∙ sym (layers condition.contains ∙ rw (array_is sheet s t fs a.node a.depth a.kind e))
 
-  pub contains_none : {c : ℕ} → c ≡ class_of a.kind → (c ≡ 4 → ⊥) → (c ≡ 5 → ⊥) → (c ≡ 6 → ⊥) →
+  pub contains_none : (class_of a.kind ≡ classes.Text → ⊥) → (class_of a.kind ≡ classes.Array → ⊥) → (class_of a.kind ≡ classes.Object → ⊥) →
       false ≡ holds_of sheet fs condition.contains (operand_of s t a) (operand_of s t b)
   unfolding holds_shapes
-  contains_none e h k l =
+  contains_none h k l =
       sym
       (layers condition.contains ∙
-      no_holder f (shape_of sheet s t fs a) (operand_of s t b) (shape_of sheet s t fs b) (differs s t a b sheet fs a 4 e h)
-      (differs s t a b sheet fs a 5 e k) (differs s t a b sheet fs a 6 e l))
+      no_holder f (shape_of sheet s t fs a) (operand_of s t b) (shape_of sheet s t fs b) (differs s t a b sheet fs a classes.Text h)
+      (differs s t a b sheet fs a classes.Array k) (differs s t a b sheet fs a classes.Object l))
 
   keys_of_lem : (g : ℕ → lazy.Operand) (ks : List ℕ) → keys_of (each_name s t g ks) ≡ names_of s t ks
   unfolding keys_of each_name names_of
   keys_of_lem g [] = refl
   keys_of_lem g (k ∷ ks) = ap (λ (l : List Bytes). text_at s (start_at t k) ∷ l) (keys_of_lem g ks)
 
-  pub contains_no_key : {c : ℕ} → class_of a.kind ≡ 6 → c ≡ class_of b.kind → (c ≡ 4 → ⊥) →
+  pub contains_no_key : class_of a.kind ≡ classes.Object → (class_of b.kind ≡ classes.Text → ⊥) →
       false ≡ holds_of sheet fs condition.contains (operand_of s t a) (operand_of s t b)
   unfolding holds_shapes contained_in
-  contains_no_key e q h =
+  contains_no_key e h =
       sym
       (layers condition.contains ∙
       ap (λ (x : Shape lazy.Operand). contained_in f x (operand_of s t b) (shape_of sheet s t fs b))
       (object_is sheet s t fs a.node a.depth a.kind e) ∙
       no_key f (each_name s t (part_at sheet s t fs a) (kids s t a.node true)) (operand_of s t b) (shape_of sheet s t fs b)
-      (differs s t a b sheet fs b 4 q h))
+      (differs s t a b sheet fs b classes.Text h))
 
-  pub contains_key : {r : Bool} {y : ℕ} → class_of a.kind ≡ 6 → class_of b.kind ≡ 4 → TextPlace s t b y →
+  pub contains_key : {r : Bool} {y : ℕ} → class_of a.kind ≡ classes.Object → class_of b.kind ≡ classes.Text → TextPlace s t b y →
       r ≡ is_one_of (text_at s y) (names_of s t (kids s t a.node true)) →
       r ≡ holds_of sheet fs condition.contains (operand_of s t a) (operand_of s t b)
   unfolding holds_shapes contained_in
@@ -348,3 +344,24 @@ module _ (sheet : Sheet Condition) (s : Bytes) (t : List ℕ) (fs : lazy.Frames)
       sym
       (layers condition.contains ∙
       rw (object_is sheet s t fs a.node a.depth a.kind e, text_is sheet s t fs b.node b.depth b.kind q))
+
+-- std's tests of an order
+pub greater_told : (o : CodeOrdering) → std.is_gt o ≡ is_greater (order_of o)
+greater_told orders.Less = refl
+greater_told orders.Equal = refl
+greater_told orders.Greater = refl
+
+pub greater_or_same_told : (o : CodeOrdering) → std.is_ge o ≡ (is_greater (order_of o) || is_same (order_of o))
+greater_or_same_told orders.Less = refl
+greater_or_same_told orders.Equal = refl
+greater_or_same_told orders.Greater = refl
+
+pub less_told : (o : CodeOrdering) → std.is_lt o ≡ is_less (order_of o)
+less_told orders.Less = refl
+less_told orders.Equal = refl
+less_told orders.Greater = refl
+
+pub less_or_same_told : (o : CodeOrdering) → std.is_le o ≡ (is_less (order_of o) || is_same (order_of o))
+less_or_same_told orders.Less = refl
+less_or_same_told orders.Equal = refl
+less_or_same_told orders.Greater = refl

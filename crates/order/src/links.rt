@@ -2,6 +2,7 @@
 ghost use Rattle.std.specs.Prelude.{◌≡◌};
 ghost use Rattle.order.specs.Chained.{AllSmall, CanLink, chained, linked};
 
+// A node's link to the next.
 fn link(work: &mut [u32], node: usize, next: usize)
     requires { CanLink work.old node next }
     ensures { work.new ≡ linked work.old node next }
@@ -15,12 +16,10 @@ pub fn chain(work: &mut [u32], node: usize, names: &[u16], end: usize)
     ensures { work.new ≡ chained work.old node names.now end }
 {
     let mut at = node;
-    let mut i = 0;
-    while i < names.len() {
-        let next = names[i] as usize;
+    for name in names {
+        let next = *name as usize;
         link(work, at, next);
         at = next;
-        i += 1;
     }
     link(work, at, end);
 }

@@ -4,13 +4,14 @@ ghost use Rattle.order.specs.ByText.{TextNodes, by_key, key_at};
 ghost use Rattle.order.specs.Chained.{CanGather, CanLink, CanOrder, ClearedBehind, Gathered, chained, ordered_at};
 ghost use Rattle.order.specs.Ordered.{CanOrderRows, LinkedUpto, Ordered, Unordered};
 
-use strings::rows::after_at;
+use strings::rows::{Kind, after_at, kind_at};
 
 // The nodes of the names from a place up to another, as the text has them; how many there are.
 fn gather(work: &[u32], from: usize, end: usize, names: &mut [u16]) -> usize
     requires { CanGather work.now from end (length names.old) }
     ensures { Gathered work.now from end names.new result }
 {
+    // the list is lent, so its length stands beside it; a `for` over its places would lend them one by one, and say nothing of what they hold then
     let mut count = 0;
     let mut k = from;
     while k < end {
@@ -38,6 +39,7 @@ fn link_names(
 }
 
 // An object's names are linked in their order.
+// Two lists and no struct of them: the sort lends a part of the one and all of the other. They lie on the stack, since there is no heap.
 fn order_at(s: &[u8], work: &mut [u32], node: usize, names: &mut [u16], spare: &mut [u16])
     requires { CanOrder s.now work.old node (length names.old) (length spare.old) }
     ensures { work.new ≡ ordered_at s.now work.old node }
@@ -52,10 +54,8 @@ fn clear_behind(work: &mut [u32], count: usize)
     requires { (16384 ≤ length work.old) × (count ≤ 4096) }
     ensures { ClearedBehind work.old count work.new }
 {
-    let mut k = 3 * count;
-    while k < 12288 {
+    for k in 3 * count..12288 {
         work[k] = 0;
-        k += 1;
     }
 }
 
@@ -64,13 +64,10 @@ fn order_rows(s: &[u8], work: &mut [u32], count: usize, names: &mut [u16], spare
     requires { CanOrderRows s.now work.old count (length names.old) (length spare.old) }
     ensures { LinkedUpto s.now work.old work.new count }
 {
-    let mut k = 0;
-    while k < count {
-        let w = work[3 * k];
-        if w % 8 == 6 {
+    for k in 0..count {
+        if kind_at(work, k) == Kind::Object {
             order_at(s, work, k, names, spare);
         }
-        k += 1;
     }
 }
 

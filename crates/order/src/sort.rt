@@ -3,32 +3,14 @@ ghost use Rattle.std.specs.Prelude.{◌++◌, ◌≡◌, ◌<◌, ◌≤◌, dro
 ghost use Rattle.order.specs.ByText.{Halves, Joinable, TextNode, TextNodes, by_key, is_above, is_after, key_at};
 
 use strings::rows::start_at;
-use strings::text::Order;
+use strings::text::compare;
 
 // Whether a node's text stands after another's.
 fn is_after(s: &[u8], work: &[u32], a: usize, b: usize) -> bool
     requires { (12288 ≤ length work.now) × TextNode s.now work.now a × TextNode s.now work.now b }
     ensures { result ≡ is_after (key_at s.now work.now) a b }
 {
-    let x = start_at(work, a);
-    let y = start_at(work, b);
-    match strings::text::compare(s, x, y) {
-        Order::Less => false,
-        Order::Same => false,
-        Order::More => true,
-    }
-}
-
-// The same nodes at the front of `to`.
-fn copy(from: &[u16], to: &mut [u16])
-    requires { length from.now ≤ length to.old }
-    ensures { to.new ≡ from.now ++ drop (length from.now) to.old }
-{
-    let mut i = 0;
-    while i < from.len() {
-        to[i] = from[i];
-        i += 1;
-    }
+    compare(s, start_at(work, a), start_at(work, b)).is_gt()
 }
 
 // Whether the node at `j` of the right comes before the node at `i` of the left.
@@ -36,11 +18,7 @@ fn right_first(s: &[u8], work: &[u32], left: &[u16], i: usize, right: &[u16], j:
     requires { (12288 ≤ length work.now) × TextNodes s.now work.now left.now × TextNodes s.now work.now (drop j right.now) × (i < length left.now) }
     ensures { result ≡ is_above (key_at s.now work.now) (get_or left.now i 0) (drop j right.now) }
 {
-    if j < right.len() {
-        is_after(s, work, left[i] as usize, right[j] as usize)
-    } else {
-        false
-    }
+    j < right.len() && is_after(s, work, left[i] as usize, right[j] as usize)
 }
 
 // Nodes in order and those behind the place where they stood, in order too, become one list in order.
@@ -48,6 +26,7 @@ fn merge(s: &[u8], work: &[u32], left: &[u16], nodes: &mut [u16])
     requires { Halves s.now work.now left.now nodes.old }
     ensures { nodes.new ≡ by_key (key_at s.now work.now) (left.now ++ drop (length left.now) nodes.old) }
 {
+    // three places, each of which moves on at its own pace: no one loop over a list counts them
     let mut i = 0;
     let mut j = left.len();
     let mut k = 0;
@@ -70,8 +49,9 @@ fn join(s: &[u8], work: &[u32], nodes: &mut [u16], mid: usize, spare: &mut [u16]
 {
     // names that are written in order need no merging
     if is_after(s, work, nodes[mid - 1] as usize, nodes[mid] as usize) {
-        copy(&nodes[..mid], spare);
-        merge(s, work, &spare[..mid], nodes);
+        let left = &mut spare[..mid];
+        left.copy_from_slice(&nodes[..mid]);
+        merge(s, work, left, nodes);
     }
 }
 
@@ -80,15 +60,14 @@ fn insert_each(s: &[u8], work: &[u32], nodes: &mut [u16])
     requires { (12288 ≤ length work.now) × TextNodes s.now work.now nodes.old }
     ensures { nodes.new ≡ by_key (key_at s.now work.now) nodes.old }
 {
-    let mut i = nodes.len();
-    while 0 < i {
-        i -= 1;
-        let one = [nodes[i]; 1];
+    for i in (0..nodes.len()).rev() {
+        let one = [nodes[i]];
         merge(s, work, &one, &mut nodes[i..]);
     }
 }
 
 // The nodes in order. `spare` is as long at least, and holds anything.
+// Not std's `sort_unstable_by`: its comparison has to be callable on any two numbers, and this one only on nodes of texts.
 pub fn sort(s: &[u8], work: &[u32], nodes: &mut [u16], spare: &mut [u16])
     requires { (12288 ≤ length work.now) × TextNodes s.now work.now nodes.old × (length nodes.old ≤ length spare.old) }
     ensures { nodes.new ≡ by_key (key_at s.now work.now) nodes.old }

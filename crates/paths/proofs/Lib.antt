@@ -10,3 +10,4 @@ pub mod Unbound
 pub mod Lookup
 pub mod Reaching
 pub mod Searching
+pub mod Naming

@@ -2,7 +2,7 @@
 -- Assumes nothing.
 use mathlib.Core.Bool.{Bool, cond, false, true}
 use mathlib.Core.List.{List, [], ◌∷◌}
-use mathlib.Core.Option.{Option, none, some}
+use Rattle.std.specs.Prelude.{Option, None, Some}
 use mathlib.Core.Path.{ap, refl, subst, sym, ◌∙◌, ◌≡◌}
 use Prim.Native.Nat.{Ordering, suc, zero, ℕ, ◌+◌, ◌<◌, ◌≤◌}
 use native.Mathlib.Omega.{arith}
@@ -42,24 +42,24 @@ use Rattle.paths.proofs.Trees.{object_row}
 
 -- the later of two
 abbrev pub or_earlier : {A : Type 0} → Option A → Option A → Option A
-or_earlier none o = o
-or_earlier (some a) o = some a
+or_earlier None o = o
+or_earlier (Some a) o = Some a
 
 abbrev pub hit : {A : Type 0} → Bytes → Bytes × A → Option A
-hit k x = cond (same_bytes k x.0) (some x.1) none
+hit k x = cond (same_bytes k x.0) (Some x.1) None
 
 unfoldable pub find_last : {A : Type 0} → Bytes → List (Bytes × A) → Option A
 unfolding same_bytes
-find_last k [] = none
+find_last k [] = None
 find_last k (x ∷ xs) = or_earlier (find_last k xs) (hit k x)
 
 or_assoc : {A : Type 0} (a b c : Option A) → or_earlier (or_earlier a b) c ≡ or_earlier a (or_earlier b c)
-or_assoc none b c = refl
-or_assoc (some x) b c = refl
+or_assoc None b c = refl
+or_assoc (Some x) b c = refl
 
-or_none : {A : Type 0} (a : Option A) → or_earlier a none ≡ a
-or_none none = refl
-or_none (some x) = refl
+or_none : {A : Type 0} (a : Option A) → or_earlier a None ≡ a
+or_none None = refl
+or_none (Some x) = refl
 
 less_apart : {a b : Bytes} → Less a b → same_bytes a b ≡ false
 less_apart {a} {b} h = go (same_bytes a b) refl
@@ -72,7 +72,7 @@ less_apart {a} {b} h = go (same_bytes a b) refl
         absurd (impossible (cc))
 
 module _ {A : Type 0} where
-  find_above : {j k : Bytes} {ys : List (Bytes × A)} → Less j k → Above A k ys → find j ys ≡ none
+  find_above : {j k : Bytes} {ys : List (Bytes × A)} → Less j k → Above A k ys → find j ys ≡ None
   unfolding find
   find_above h above_none = refl
   find_above h (above_more {y} {ys} l a) = rw (less_apart (less_trans h l), find) (find_above h a)
@@ -87,8 +87,8 @@ module _ {A : Type 0} where
       go false q = rw (q, find)
   find_put k x (asc_more {x = y} {xs = ys} a r) = go (order_bytes x.0 y.0) (order_view x.0 y.0) refl (same_bytes k x.0) refl (same_bytes k y.0) refl (find_put k x r)
     where
-      none_above : Less x.0 y.0 → same_bytes k x.0 ≡ true → find k (y ∷ ys) ≡ none
-      none_above h q = subst (λ (j : Bytes). find j (y ∷ ys) ≡ none) (sym (same_bytes_true k x.0 q)) (rw (less_apart h, find) (find_above h a))
+      none_above : Less x.0 y.0 → same_bytes k x.0 ≡ true → find k (y ∷ ys) ≡ None
+      none_above h q = subst (λ (j : Bytes). find j (y ∷ ys) ≡ None) (sym (same_bytes_true k x.0 q)) (rw (less_apart h, find) (find_above h a))
 
       go : (o : Ordering) → OrderView x.0 y.0 o → order_bytes x.0 y.0 ≡ o → (b : Bool) → same_bytes k x.0 ≡ b → (c : Bool) →
           same_bytes k y.0 ≡ c → find k (put x ys) ≡ or_earlier (find k ys) (hit k x) →
@@ -105,24 +105,14 @@ module _ {A : Type 0} where
   find_in_order k [] = refl
   find_in_order k (x ∷ xs) = find_put k x (in_order_ascending xs) ∙ ap (λ (o : Option A). or_earlier o (hit k x)) (find_in_order k xs)
 
-tree_there : (s : Bytes) (t : List ℕ) (n : ℕ) → 0 < n → found_tree s t n ≡ some (tree s t n)
-unfolding found_tree
-tree_there s t zero h = absurd (omega arith)
-tree_there s t (suc n) h = refl
-
-node_there : (s : Bytes) (t : List ℕ) (n : ℕ) → HasNode s t n → FoundNode s t n
-unfolding FoundNode
-node_there s t zero h = tt
-node_there s t (suc n) h = h
-
 -- the loop from k on: what is found further on, or what was found before
-pub record Picking (s : Bytes) (t : List ℕ) (key : Bytes) (n e found k : ℕ) : Type 0 where
+pub record Picking (s : Bytes) (t : List ℕ) (key : Bytes) (n e : ℕ) (found : Option ℕ) (k : ℕ) : Type 0 where
   pub members : HasMembers s t k e
   pub node : FoundNode s t found
   pub rest : find key (entries (fields_of s t n)) ≡ or_earlier (find_last key (each_sorted (entries (members_at s t k e)))) (found_tree s t found)
 
 module _ {s : Bytes} {t : List ℕ} {key : Bytes} {n : ℕ} where
-  pub picking : HasKind s t n 6 → (e : ℕ) → e ≡ after_at t n → Picking s t key n e 0 (n + 1)
+  pub picking : HasKind s t n 6 → (e : ℕ) → e ≡ after_at t n → Picking s t key n e None (n + 1)
   unfolding FoundNode found_tree fields_of
   picking h e q = rw q record {
     members = (object_row h).members;
@@ -130,7 +120,7 @@ module _ {s : Bytes} {t : List ℕ} {key : Bytes} {n : ℕ} where
     rest = ap (find key) (entries_sorted (members_at s t (n + 1) (after_at t n))) ∙ find_in_order key _ ∙ sym (or_none _);
   }
 
-  module _ {e found k : ℕ} (l : Picking s t key n e found k) where
+  module _ {e k : ℕ} {found : Option ℕ} (l : Picking s t key n e found k) where
     pub picked : e ≤ k → MemberTold s t key n found
     unfolding find_last each_sorted
     picked h = record { is = l.rest ∙ rw (members_done s t l.members.members h); node = l.node }
@@ -158,20 +148,16 @@ module _ {s : Bytes} {t : List ℕ} {key : Bytes} {n : ℕ} where
           (or_assoc (find_last key (each_sorted (entries (members_at s t (after_at t (k + 1)) e))))
           (hit key (text_at s (start_at t k), tree s t (k + 1))) (found_tree s t found))
 
-      pub pick_on : {a f k' : ℕ} → a ≡ start_at t k → f ≡ cond (same_bytes key (text_at s a)) (k + 1) found → k' ≡ after_at t (k + 1) → Picking s t key n e f k'
-      pick_on {a} {f} {k'} p q r = go (same_bytes key (text_at s (start_at t k))) refl
-        where
-          at : (b : Bool) → same_bytes key (text_at s (start_at t k)) ≡ b → f ≡ cond b (k + 1) found
-          at b e = q ∙ rw (p, e)
+      members_left : {k' : ℕ} → k' ≡ after_at t (k + 1) → HasMembers s t k' e
+      members_left r = rw r record { left = l.members.left; members = m.others }
 
-          go : (b : Bool) → same_bytes key (text_at s (start_at t k)) ≡ b → Picking s t key n e f k'
-          go true e = rw (r, at true e) record {
-            members = record { left = l.members.left; members = m.others };
-            node = node_there s t (k + 1) (record { left = l.members.left; is_node = m.here });
-            rest = one_more ∙ rw (e, tree_there s t (k + 1) (omega arith));
-          }
-          go false e = rw (r, at false e) record {
-            members = record { left = l.members.left; members = m.others };
-            node = l.node;
-            rest = one_more ∙ rw e;
-          }
+      pub pick_here : {a k' : ℕ} → a ≡ start_at t k → same_bytes key (text_at s a) ≡ true → k' ≡ after_at t (k + 1) → Picking s t key n e (Some (k + 1)) k'
+      unfolding FoundNode found_tree
+      pick_here {a} p q r =
+          let e' : same_bytes key (text_at s (start_at t k)) ≡ true = subst (λ (x : ℕ). same_bytes key (text_at s x) ≡ true) p q in
+          record { members = members_left r; node = record { left = l.members.left; is_node = m.here }; rest = rw r (one_more ∙ rw e') }
+
+      pub pick_on : {a k' : ℕ} → a ≡ start_at t k → same_bytes key (text_at s a) ≡ false → k' ≡ after_at t (k + 1) → Picking s t key n e found k'
+      pick_on {a} p q r =
+          let e' : same_bytes key (text_at s (start_at t k)) ≡ false = subst (λ (x : ℕ). same_bytes key (text_at s x) ≡ false) p q in
+          record { members = members_left r; node = l.node; rest = rw r (one_more ∙ rw e') }

@@ -2,7 +2,7 @@
 -- Assumes nothing.
 use mathlib.Core.Path.{◌≡◌, refl, subst}
 use mathlib.Core.List.{List, [], ◌∷◌}
-use mathlib.Core.Option.{Option, none, some}
+use Rattle.std.specs.Prelude.{Option, None, Some}
 use mathlib.Core.Bool.{Bool, true, false}
 use Prim.Native.Nat.{ℕ, suc, ◌+◌, ◌*◌, ◌≤◌, max}
 use native.Mathlib.Omega.{arith}
@@ -44,7 +44,7 @@ unfolding depth_of
 members_low n empty h = tt
 members_low n (member k v ms) h = (omega arith, members_low n ms (omega arith))
 
-step_low : (k : Bytes) (v : Value) {w : Value} → member_step k v ≡ some w → depth w ≤ depth v
+step_low : (k : Bytes) (v : Value) {w : Value} → member_step k v ≡ Some w → depth w ≤ depth v
 unfolding depth
 step_low k null e = absurd (impossible (cc))
 step_low k (bool b) e = absurd (impossible (cc))
@@ -53,42 +53,42 @@ step_low k (text s) e = absurd (impossible (cc))
 step_low k (array vs) e = absurd (impossible (cc))
 step_low k (object ms) e = let h = find_entry (λ v. depth v ≤ depth_of ms) k (entries ms) (members_low (depth_of ms) ms (omega arith)) e in omega arith
 
-walk_low : (ks : List Bytes) (v : Value) {w : Value} → walk kernel ks v ≡ some w → depth w ≤ depth v
+walk_low : (ks : List Bytes) (v : Value) {w : Value} → walk kernel ks v ≡ Some w → depth w ≤ depth v
 unfolding walk
 walk_low [] v {w} e = let z : v ≡ w = cc in rw z (omega arith)
 walk_low (k ∷ ks) v {w} e = go (λ u. walk_low ks u) (member_step k v) refl e
   where
-    go : ((u : Value) → walk kernel ks u ≡ some w → depth w ≤ depth u) → (x : Option Value) → member_step k v ≡ x →
-        elim x as (λ _. Option Value) [ none ↦ none | some u ↦ walk kernel ks u ] ≡ some w → depth w ≤ depth v
-    go rest none q z = absurd (impossible (cc))
-    go rest (some u) q z = let a = step_low k v q in let b = rest u z in omega arith
+    go : ((u : Value) → walk kernel ks u ≡ Some w → depth w ≤ depth u) → (x : Option Value) → member_step k v ≡ x →
+        elim x as (λ _. Option Value) [ None ↦ None | Some u ↦ walk kernel ks u ] ≡ Some w → depth w ≤ depth v
+    go rest None q z = absurd (impossible (cc))
+    go rest (Some u) q z = let a = step_low k v q in let b = rest u z in omega arith
 
 module _ {C : Type 0} (sheet : Sheet C) (low : LowSheet sheet) where
   -- an answer, if there is one, has at most 64 brackets
   LowAnswer : Result (Option Value) → Type 0
-  LowAnswer r = (v : Value) → r ≡ ok (some v) → depth v ≤ 64
+  LowAnswer r = (v : Value) → r ≡ ok (Some v) → depth v ≤ 64
 
-  text_low : (s : Bytes) → LowAnswer (ok (some (text s)))
+  text_low : (s : Bytes) → LowAnswer (ok (Some (text s)))
   unfolding LowAnswer depth
   text_low s v e = let z : text s ≡ v = cc in subst (λ (x : Value). depth x ≤ 64) z (omega arith)
 
-  number_low : (s : Bytes) → LowAnswer (ok (some (number s)))
+  number_low : (s : Bytes) → LowAnswer (ok (Some (number s)))
   unfolding LowAnswer depth
   number_low s v e = let z : number s ≡ v = cc in subst (λ (x : Value). depth x ≤ 64) z (omega arith)
 
-  object_low : (ms : Members) → depth (object ms) ≤ 64 → LowAnswer (ok (some (object ms)))
+  object_low : (ms : Members) → depth (object ms) ≤ 64 → LowAnswer (ok (Some (object ms)))
   unfolding LowAnswer
   object_low ms h v e = let z : object ms ≡ v = cc in subst (λ (x : Value). depth x ≤ 64) z h
 
   id_low : (s : Option Bytes) → LowAnswer (id_of s)
   unfolding LowAnswer
-  id_low none v e = absurd (impossible (cc))
-  id_low (some s) v e = unfold LowAnswer in text_low s v e
+  id_low None v e = absurd (impossible (cc))
+  id_low (Some s) v e = unfold LowAnswer in text_low s v e
 
   any_low : (s : Option Bytes) → LowAnswer (ok (if_any s))
   unfolding LowAnswer
-  any_low none v e = absurd (impossible (cc))
-  any_low (some s) v e = unfold LowAnswer in text_low s v e
+  any_low None v e = absurd (impossible (cc))
+  any_low (Some s) v e = unfold LowAnswer in text_low s v e
 
   roots_low : Entries LowAnswer (roots sheet)
   roots_low = (
@@ -125,43 +125,43 @@ module _ {C : Type 0} (sheet : Sheet C) (low : LowSheet sheet) where
   unbound_low e name [] v h = go (find name (roots sheet)) refl h
     where
       go : (x : Option (Result (Option Value))) → find name (roots sheet) ≡ x →
-          elim x as (λ _. Result (Option Value)) [ none ↦ refused (unknown_expression (36 ∷ e)) | some r ↦ r ] ≡ ok (some v) → depth v ≤ 64
-      go none q z = absurd (impossible (cc))
-      go (some r) q z = find_entry LowAnswer name (roots sheet) roots_low q v z
+          elim x as (λ _. Result (Option Value)) [ None ↦ refused (unknown_expression (36 ∷ e)) | Some r ↦ r ] ≡ ok (Some v) → depth v ≤ 64
+      go None q z = absurd (impossible (cc))
+      go (Some r) q z = find_entry LowAnswer name (roots sheet) roots_low q v z
   unbound_low e name (p ∷ ps) v h = go (find name (bases sheet)) refl h
     where
-      inside : (q : Bytes) (ms : Members) → depth (object ms) ≤ 64 → ok (below kernel sheet q ps ms) ≡ ok (some v) → depth v ≤ 64
+      inside : (q : Bytes) (ms : Members) → depth (object ms) ≤ 64 → ok (below kernel sheet q ps ms) ≡ ok (Some v) → depth v ≤ 64
       inside [] ms k z = absurd (impossible (cc))
-      inside (c ∷ q) ms k z = let y : walk kernel ((c ∷ q) ∷ ps) (object ms) ≡ some v = cc in let d = walk_low ((c ∷ q) ∷ ps) (object ms) y in omega arith
+      inside (c ∷ q) ms k z = let y : walk kernel ((c ∷ q) ∷ ps) (object ms) ≡ Some v = cc in let d = walk_low ((c ∷ q) ∷ ps) (object ms) y in omega arith
 
       go : (x : Option Members) → find name (bases sheet) ≡ x →
           elim x as (λ _. Result (Option Value))
-          [ none ↦ refused (unknown_expression (36 ∷ e)) | some ms ↦ ok (below kernel sheet p ps ms) ] ≡ ok (some v) → depth v ≤ 64
-      go none q z = absurd (impossible (cc))
-      go (some ms) q z = inside p ms (find_entry (λ ms. depth (object ms) ≤ 64) name (bases sheet) bases_low q) z
+          [ None ↦ refused (unknown_expression (36 ∷ e)) | Some ms ↦ ok (below kernel sheet p ps ms) ] ≡ ok (Some v) → depth v ≤ 64
+      go None q z = absurd (impossible (cc))
+      go (Some ms) q z = inside p ms (find_entry (λ ms. depth (object ms) ≤ 64) name (bases sheet) bases_low q) z
 
-  env_low : (name : Bytes) (env : Env) {v : Value} → LowEnv env → find name env ≡ some v → depth v ≤ 64 * (length env + 1)
+  env_low : (name : Bytes) (env : Env) {v : Value} → LowEnv env → find name env ≡ Some v → depth v ≤ 64 * (length env + 1)
   unfolding LowEnv find
   env_low name [] h e = absurd (impossible (cc))
   env_low name (x ∷ env) {v} h e = go (env_low name env h.1) (same_bytes name x.0) refl
     where
-      go : (find name env ≡ some v → depth v ≤ 64 * (length env + 1)) → (b : Bool) → same_bytes name x.0 ≡ b → depth v ≤ 64 * (suc (length env) + 1)
+      go : (find name env ≡ Some v → depth v ≤ 64 * (length env + 1)) → (b : Bool) → same_bytes name x.0 ≡ b → depth v ≤ 64 * (suc (length env) + 1)
       go rest true q = let z : x.1 ≡ v = (let y = rw (q, find) at e in cc) in let k = subst (λ (u : Value). depth u ≤ 64 * (length env + 2)) z h.0 in omega arith
       go rest false q = let k = rest (rw (q, find) at e) in omega arith
 
-  gives_low : (env : Env) (e : Bytes) {v : Value} → LowEnv env → gives kernel sheet env e ≡ ok (some v) → depth v ≤ 64 * (length env + 1)
+  gives_low : (env : Env) (e : Bytes) {v : Value} → LowEnv env → gives kernel sheet env e ≡ ok (Some v) → depth v ≤ 64 * (length env + 1)
   unfolding gives gives_parts LowAnswer
   gives_low env e {v} h g = go (parts e) g
     where
-      go : (ps : List Bytes) → gives_parts kernel sheet env e ps ≡ ok (some v) → depth v ≤ 64 * (length env + 1)
+      go : (ps : List Bytes) → gives_parts kernel sheet env e ps ≡ ok (Some v) → depth v ≤ 64 * (length env + 1)
       go [] z = absurd (impossible (cc))
       go (name ∷ path) z = decide (find name env) refl z
         where
           decide : (x : Option Value) → find name env ≡ x →
-              elim x as (λ _. Result (Option Value)) [ some u ↦ ok (walk kernel path u) | none ↦ unbound kernel sheet e name path ] ≡
-              ok (some v) → depth v ≤ 64 * (length env + 1)
-          decide none q y = let k = unbound_low e name path v y in omega arith
-          decide (some u) q y = let k = env_low name env h q in let w : walk kernel path u ≡ some v = cc in let l = walk_low path u w in omega arith
+              elim x as (λ _. Result (Option Value)) [ Some u ↦ ok (walk kernel path u) | None ↦ unbound kernel sheet e name path ] ≡
+              ok (Some v) → depth v ≤ 64 * (length env + 1)
+          decide None q y = let k = unbound_low e name path v y in omega arith
+          decide (Some u) q y = let k = env_low name env h q in let w : walk kernel path u ≡ Some v = cc in let l = walk_low path u w in omega arith
 
   text_resolved_low : (env : Env) (s : Bytes) {w : Value} → LowEnv env → resolve_text kernel sheet env s ≡ ok (present w) → depth w ≤ 64 * (length env + 1)
   unfolding resolve_text depth

@@ -1,5 +1,6 @@
 -- Laws of the frames in force: a push, the outermost of them, and a name looked up turn by turn.
 -- Assumes nothing.
+use Rattle.std.specs.Prelude.{Some, None}
 use mathlib.Core.Bool.{Bool, cond, false, true}
 use mathlib.Core.List.{List, [], ◌∷◌, map}
 use mathlib.Core.Logic.{◌≢◌, ⊎_elim}
@@ -18,7 +19,6 @@ use Rattle.json_text.specs.Spans.{text_at}
 use Rattle.paths.specs.Lazy.{outer}
 use Rattle.paths.specs.Stack.{Named, bound_in, frame_in, no_slot, top}
 use Rattle.paths.specs.declared.frames.Slot.{Slot}
-use Rattle.paths.specs.declared.operand.Bound.TheVariants.{At, Nothing}
 use Rattle.paths.proofs.Stands.{outer_all, outer_cons}
 
 pub top_set : (n : ℕ) (xs : List Slot) (m : ℕ) (v : Slot) → n ≤ m → top n (set xs m v) ≡ top n xs
@@ -62,6 +62,12 @@ top_outer d (suc n) xs h = go (leb d n) refl (top_outer d n xs)
 pub top_whole : (d n : ℕ) (xs : List Slot) → n ≤ d → top n xs ≡ outer d (top n xs)
 top_whole d n xs h = let l = top_length n xs in sym (outer_all d (top n xs) (omega arith))
 
+pub top_least : (d n m : ℕ) (xs : List Slot) → (m < n → d ≤ m) → m ≤ d → m ≤ n → top m xs ≡ outer d (top n xs)
+top_least d n m xs w h k = ⊎_elim (λ e. rw e (top_whole d n xs (omega arith))) (λ l. whole (omega (arith, w l)) l) (eq-or-lt_of_le k)
+  where
+    whole : m ≡ d → m < n → top m xs ≡ outer d (top n xs)
+    whole e l = rw e (top_outer d n xs (omega arith))
+
 -- a frame's name among the first n
 pub name_at : (s : Bytes) (n i : ℕ) (xs : List Slot) → i < n → Named s (top n xs) → OnText s (get_or xs i no_slot).name 0
 unfolding top Named
@@ -72,17 +78,17 @@ module _ (s k : Bytes) (xs : List Slot) (i : ℕ) (h : 0 < i) where
   suc_pred : i ≡ suc (i - 1)
   suc_pred = omega arith
 
-  step : bound_in s k (top i xs) ≡ cond (same_bytes k (text_at s (get_or xs (i - 1) no_slot).name)) (At (frame_in (get_or xs (i - 1) no_slot)).operand) (bound_in s k (top (i - 1) xs))
+  step : bound_in s k (top i xs) ≡ cond (same_bytes k (text_at s (get_or xs (i - 1) no_slot).name)) (Some (frame_in (get_or xs (i - 1) no_slot)).operand) (bound_in s k (top (i - 1) xs))
   unfolding top bound_in
   step = ap (λ (n : ℕ). bound_in s k (top n xs)) suc_pred
 
-  pub bound_here : true ≡ same_bytes k (text_at s (get_or xs (i - 1) no_slot).name) → bound_in s k (top i xs) ≡ At (frame_in (get_or xs (i - 1) no_slot)).operand
+  pub bound_here : true ≡ same_bytes k (text_at s (get_or xs (i - 1) no_slot).name) → bound_in s k (top i xs) ≡ Some (frame_in (get_or xs (i - 1) no_slot)).operand
   bound_here e = step ∙ rw (← e)
 
   pub bound_on : false ≡ same_bytes k (text_at s (get_or xs (i - 1) no_slot).name) → bound_in s k (top i xs) ≡ bound_in s k (top (i - 1) xs)
   bound_on e = step ∙ rw (← e)
 
-pub bound_none : (s k : Bytes) (xs : List Slot) (i : ℕ) → i ≤ 0 → bound_in s k (top i xs) ≡ Nothing
+pub bound_none : (s k : Bytes) (xs : List Slot) (i : ℕ) → i ≤ 0 → bound_in s k (top i xs) ≡ None
 unfolding top bound_in
 bound_none s k xs zero h = refl
 bound_none s k xs (suc i) h = absurd (omega arith)

@@ -2,7 +2,7 @@
 -- Assumes nothing.
 use mathlib.Core.Path.{◌≡◌, refl, sym, ap, subst}
 use mathlib.Core.List.{List, [], ◌∷◌}
-use mathlib.Core.Option.{Option, none, some}
+use Rattle.std.specs.Prelude.{Option, None, Some}
 use mathlib.Core.Bool.{Bool, true, false}
 use Prim.Native.Nat.{ℕ, zero, suc, ◌≤◌, ◌<◌}
 use native.Mathlib.Omega.{arith}
@@ -94,19 +94,19 @@ same_inv f (ok (present a)) e = (a, refl, cc)
 same_inv f (ok (missing ns)) e = absurd (impossible (cc))
 same_inv f (refused r) e = absurd (impossible (cc))
 
-pub observed_inv : (e : Bytes) {w : Value} (x : Result (Option Value)) → (x >>= λ g. ok (observed e g)) ≡ ok (present w) → x ≡ ok (some w)
+pub observed_inv : (e : Bytes) {w : Value} (x : Result (Option Value)) → (x >>= λ g. ok (observed e g)) ≡ ok (present w) → x ≡ ok (Some w)
 observed_inv e (refused r) h = absurd (impossible (cc))
-observed_inv e (ok none) h = absurd (impossible (cc))
-observed_inv e {w} (ok (some v)) h = go (is_null v) refl
+observed_inv e (ok None) h = absurd (impossible (cc))
+observed_inv e {w} (ok (Some v)) h = go (is_null v) refl
   where
-    go : (b : Bool) → is_null v ≡ b → ok (some v) ≡ ok (some w)
+    go : (b : Bool) → is_null v ≡ b → ok (Some v) ≡ ok (Some w)
     go true q = let z = rw (q, observed) at h in absurd (impossible (cc))
     go false q = let z = rw (q, observed) at h in cc
 
 -- Two answers that agree: neither or each there, and what is there related.
 pub data Maybe {A B : Type 0} (R : A → B → Type 0) : Option A → Option B → Type 0 where
-  neither : Maybe R none none
-  each : {a : A} {b : B} → R a b → Maybe R (some a) (some b)
+  neither : Maybe R None None
+  each : {a : A} {b : B} → R a b → Maybe R (Some a) (Some b)
 
 pub data Found {A B : Type 0} (R : A → B → Type 0) : Result (Option A) → Result (Option B) → Type 0 where
   not_found : {r : Refusal} → Found R (refused r) (refused r)
@@ -228,8 +228,8 @@ module _ {C : Type 0} (sheet : Sheet C) where
     step_stands {env = env} {b = b} {v = v} k s h l itself = go (member_step k v)
       where
         go : (x : Option Value) → Maybe (Stands env b) (map_some given x) x
-        go none = neither
-        go (some w) = each itself
+        go None = neither
+        go (Some w) = each itself
     step_stands k s h l (in_array c e) = neither
     step_stands {fs} {env} {b} k s h l (in_object {d = d} {ms = ms} {ns = ns} c e) = go (member_found k e)
       where
@@ -245,8 +245,8 @@ module _ {C : Type 0} (sheet : Sheet C) where
       where
         go : ((p : Operand) (w : Value) → Stands env b p w → Maybe (Stands env b) (walk_from sheet (touch sheet n) fs ks p)
             (walk kernel ks w)) → {x : Option Operand} {y : Option Value} → Maybe (Stands env b) x y →
-            Maybe (Stands env b) (elim x [ none ↦ none | some p ↦ walk_from sheet (touch sheet n) fs ks p ])
-            (elim y [ none ↦ none | some w ↦ walk kernel ks w ])
+            Maybe (Stands env b) (elim x [ None ↦ None | Some p ↦ walk_from sheet (touch sheet n) fs ks p ])
+            (elim y [ None ↦ None | Some w ↦ walk kernel ks w ])
         go below neither = neither
         go below (each q) = below _ _ q
 
@@ -257,8 +257,8 @@ module _ {C : Type 0} (sheet : Sheet C) where
       where
         free : (x : Result (Option Value)) → Found (Stands env (length env)) (x >>= λ g. ok (map_some given g)) x
         free (refused r) = not_found
-        free (ok none) = finding neither
-        free (ok (some v)) = finding (each itself)
+        free (ok None) = finding neither
+        free (ok (Some v)) = finding (each itself)
 
         bound : {o : Operand} {v : Value} (path : List Bytes) → Bound env o v → Found (Stands env (length env)) (ok (walk_from sheet (touch sheet n) fs path o)) (ok (walk kernel path v))
         bound path k = finding (raise (walk_stands path s (omega arith) (omega arith) k.stands))
@@ -274,11 +274,11 @@ module _ {C : Type 0} (sheet : Sheet C) where
             decide : {p : Option Operand} {q : Option Value} → Maybe (Bound env) p q →
                 Found (Stands env (length env))
                 (elim p [
-                  | some o ↦ ok (walk_from sheet (touch sheet n) fs path o)
-                  | none ↦
+                  | Some o ↦ ok (walk_from sheet (touch sheet n) fs path o)
+                  | None ↦
                       (unbound kernel sheet e name path >>= λ g. ok (map_some given g))
                 ])
-                (elim q [ some v ↦ ok (walk kernel path v) | none ↦ unbound kernel sheet e name path ])
+                (elim q [ Some v ↦ ok (walk kernel path v) | None ↦ unbound kernel sheet e name path ])
             decide neither = free (unbound kernel sheet e name path)
             decide (each k) = bound path k
 
@@ -313,7 +313,7 @@ module _ {C : Type 0} (sheet : Sheet C) where
   unfolding read_part resolve_text or_null
   touch_text n touches {fs} {env} t {w} s h e = go (read_text t) refl
     where
-      found : {p : Result (Option Operand)} {q : Result (Option Value)} → Found (Stands env (length env)) p q → q ≡ ok (some w) → Stands env (length env) (or_null p) w
+      found : {p : Result (Option Operand)} {q : Result (Option Value)} → Found (Stands env (length env)) p q → q ≡ ok (Some w) → Stands env (length env) (or_null p) w
       found not_found z = absurd (impossible (cc))
       found (finding neither) z = absurd (impossible (cc))
       found (finding (each {a = a} {b = b} st)) z = let y : b ≡ w = cc in subst (λ (r : Value). Stands env (length env) a r) y st
@@ -358,7 +358,7 @@ module _ {C : Type 0} (sheet : Sheet C) where
   unfolding operand_text resolve_text observe
   agree_text {fs} {env} t s = go (read_text t) refl
     where
-      null_missing : (x : Bytes) (v : Value) (b : Bool) → is_null v ≡ b → Agree (Stands env (length env)) (ok (observe x (some (given v)))) (ok (observed x (some v)))
+      null_missing : (x : Bytes) (v : Value) (b : Bool) → is_null v ≡ b → Agree (Stands env (length env)) (ok (observe x (Some (given v)))) (ok (observed x (Some v)))
       null_missing x v true e = rw (e, observe, observed) lacking
       null_missing x v false e = rw (e, observe, observed) (standing itself)
 

@@ -2,7 +2,7 @@
 -- Assumes nothing.
 use mathlib.Core.Bool.{Bool, false, true}
 use mathlib.Core.List.{List, [], ◌∷◌}
-use mathlib.Core.Option.{Option, none, some}
+use Rattle.std.specs.Prelude.{Option, None, Some, Ok, Err}
 use mathlib.Core.Path.{refl, subst, sym, ◌≡◌}
 use Prim.Native.Nat.{suc, zero, ℕ}
 use native.Mathlib.Omega.{arith}
@@ -24,19 +24,17 @@ use Rattle.paths.specs.Rooted.{
   RootTold,
   base_gives,
   base_members,
-  object_operand,
   or_unknown,
   root_gives,
   root_names,
   root_of,
   root_value,
-  text_looked,
 }
 use Rattle.semantics.specs.Semantics.{kernel}
-use Rattle.paths.specs.Stored.{Fits, meant}
-use Rattle.paths.specs.declared.operand.Bound.TheVariants as bounds
+use Rattle.paths.specs.Stored.{Fits, meant, plain_at}
 use Rattle.paths.specs.declared.operand.Kind.TheVariants as kinds
-use Rattle.paths.specs.declared.operand.Looked.TheVariants as lookeds
+use Rattle.paths.specs.declared.operand.Operand.{Operand}
+use Rattle.paths.specs.declared.operand.LookupError.TheVariants as lookups
 use Rattle.paths.specs.declared.roots.Root.{Root}
 use Rattle.paths.specs.declared.roots.Root.TheVariants as root
 use Rattle.paths.specs.declared.roots.Roots.{Roots}
@@ -46,8 +44,8 @@ use Rattle.paths.proofs.Trees.{operand_at}
 -- the definition's tables, by roots
 module _ (sheet : Sheet Condition) (e k : Bytes) where
   abbrev or_refused : Option (Result (Option Value)) → Result (Option Value)
-  or_refused none = refused (unknown_expression (36 ∷ e))
-  or_refused (some r) = r
+  or_refused None = refused (unknown_expression (36 ∷ e))
+  or_refused (Some r) = r
 
   -- the entries from some root on
   record Entries (xs : List (Bytes × Root)) (ys : List (Bytes × Result (Option Value))) : Type 0 where
@@ -105,101 +103,107 @@ module _ (sheet : Sheet Condition) (k : Bytes) where
 
 -- what a node that holds a member of the sheet gives
 module _ {s : Bytes} {t : List ℕ} (e : Bytes) (n : ℕ) where
-  pub looked_text : {b : Bytes} → IsText s t n b → LookedAs s t e (text_looked n) (ok (some (given (text b))))
+  pub looked_text : {b : Bytes} → IsText s t n b → LookedAs s t e (Ok (Some (plain_at n kinds.Text))) (ok (Some (given (text b))))
   unfolding looked_of LookedFits meant Fits
   looked_text h = record { means = rw h.is; fits = operand_at h.row.node (omega arith) h.row }
 
-  pub looked_number : {b : Bytes} → IsNumber s t n b → LookedAs s t e (lookeds.At (record { node = n; depth = 0; kind = kinds.Number })) (ok (some (given (number b))))
+  pub looked_number : {b : Bytes} → IsNumber s t n b → LookedAs s t e (Ok (Some (plain_at n kinds.Number))) (ok (Some (given (number b))))
   unfolding looked_of LookedFits meant Fits
   looked_number h = record { means = rw h.is; fits = operand_at h.row.node (omega arith) h.row }
 
-  pub looked_object : {ms : Members} → IsObject s t n ms → LookedAs s t e (lookeds.At (object_operand n)) (ok (some (given (object ms))))
+  pub looked_object : {ms : Members} → IsObject s t n ms → LookedAs s t e (Ok (Some (plain_at n kinds.Object))) (ok (Some (given (object ms))))
   unfolding looked_of LookedFits meant Fits
   looked_object h = record { means = rw h.is; fits = operand_at h.row.node (omega arith) h.row }
 
-pub bound_object : {s : Bytes} {t : List ℕ} (n : ℕ) {ms : Members} → IsObject s t n ms → BoundAs s t (bounds.At (object_operand n)) (some (given (object ms)))
+pub bound_object : {s : Bytes} {t : List ℕ} (n : ℕ) {ms : Members} → IsObject s t n ms → BoundAs s t (Some (plain_at n kinds.Object)) (Some (given (object ms)))
 unfolding bound_of BoundFits meant Fits
 bound_object n h = record { means = rw h.is; fits = operand_at h.row.node (omega arith) h.row }
 
-no_text : (s : Bytes) (t : List ℕ) (n : ℕ) {o : Option Bytes} → n ≡ 0 → MayBeText s t n o → o ≡ none
+no_text : (s : Bytes) (t : List ℕ) {r : Option ℕ} {o : Option Bytes} → r ≡ None → MayBeText s t r o → o ≡ None
 unfolding MayBeText
-no_text s t zero q h = h
-no_text s t (suc n) q h = absurd (omega arith)
+no_text s t {o = o} q h = subst (λ (r : Option ℕ). MayBeText s t r o) q h
 
-some_text : (s : Bytes) (t : List ℕ) (n : ℕ) {o : Option Bytes} → (n ≡ 0 → ⊥) → MayBeText s t n o → (b : Bytes) × (o ≡ some b) × IsText s t n b
+some_text : (s : Bytes) (t : List ℕ) (n : ℕ) {r : Option ℕ} {o : Option Bytes} → r ≡ Some n → MayBeText s t r o → (b : Bytes) × (o ≡ Some b) × IsText s t n b
 unfolding MayBeText
-some_text s t zero q h = absurd (q refl)
-some_text s t (suc n) q h = h
+some_text s t n {o = o} q h = subst (λ (r : Option ℕ). MayBeText s t r o) q h
 
 -- the answers of the code, root by root
 module _ (rs : Roots) {x : Root} where
-  pub told_unknown : x ≡ root.Unknown → RootTold rs x lookeds.Unknown
+  pub told_unknown : x ≡ root.Unknown → RootTold rs x (Err lookups.Unknown)
   unfolding root_gives looked_of LookedFits
   told_unknown q sheet s t e h = record { means = rw q; fits = tt }
 
-  pub told_no_id : x ≡ root.Id → rs.id ≡ 0 → RootTold rs x lookeds.NoId
+  pub told_no_id : x ≡ root.Id → rs.id ≡ None → RootTold rs x (Err lookups.NoId)
   unfolding root_gives looked_of LookedFits
-  told_no_id q z sheet s t e h = record { means = rw (q, no_text s t rs.id z h.id); fits = tt }
+  told_no_id q z sheet s t e h = record { means = rw (q, no_text s t z h.id); fits = tt }
 
-  pub told_id : x ≡ root.Id → (rs.id ≡ 0 → ⊥) → RootTold rs x (text_looked rs.id)
+  pub told_id : x ≡ root.Id → (n : ℕ) → rs.id ≡ Some n → RootTold rs x (Ok (Some (plain_at n kinds.Text)))
   unfolding root_gives map_some
-  told_id q z sheet s t e h = let b = some_text s t rs.id z h.id in rw (q, b.1) (looked_text e rs.id b.2)
+  told_id q n z sheet s t e h = let b = some_text s t n z h.id in rw (q, b.1) (looked_text e n b.2)
 
-  pub told_entity : x ≡ root.Entity → RootTold rs x (text_looked rs.entity)
+  pub told_entity : x ≡ root.Entity → RootTold rs x (Ok (Some (plain_at rs.entity kinds.Text)))
   unfolding root_gives map_some
   told_entity q sheet s t e h = rw q (looked_text e rs.entity h.entity)
 
-  pub told_version : x ≡ root.Version → RootTold rs x (lookeds.At (record { node = rs.version; depth = 0; kind = kinds.Number }))
+  pub told_version : x ≡ root.Version → RootTold rs x (Ok (Some (plain_at rs.version kinds.Number)))
   unfolding root_gives map_some
   told_version q sheet s t e h = rw q (looked_number e rs.version h.version)
 
-  pub told_no_from : x ≡ root.FromState → rs.from ≡ 0 → RootTold rs x lookeds.Nothing
+  told_no_from : x ≡ root.FromState → rs.from ≡ None → RootTold rs x (Ok None)
   unfolding root_gives map_some looked_of LookedFits
-  told_no_from q z sheet s t e h = record { means = rw (q, no_text s t rs.from z h.from_state); fits = tt }
+  told_no_from q z sheet s t e h = record { means = rw (q, no_text s t z h.from_state); fits = tt }
 
-  pub told_from : x ≡ root.FromState → (rs.from ≡ 0 → ⊥) → RootTold rs x (text_looked rs.from)
+  told_some_from : x ≡ root.FromState → (n : ℕ) → rs.from ≡ Some n → RootTold rs x (Ok (Some (plain_at n kinds.Text)))
   unfolding root_gives map_some
-  told_from q z sheet s t e h = let b = some_text s t rs.from z h.from_state in rw (q, b.1) (looked_text e rs.from b.2)
+  told_some_from q n z sheet s t e h = let b = some_text s t n z h.from_state in rw (q, b.1) (looked_text e n b.2)
 
-  pub told_to : x ≡ root.ToState → RootTold rs x (text_looked rs.to)
+  pub told_from : x ≡ root.FromState → {r : Option Operand} → (rs.from ≡ None → r ≡ None) → ((n : ℕ) → rs.from ≡ Some n → r ≡ Some (plain_at n kinds.Text)) →
+      RootTold rs x (Ok r)
+  told_from q {r} f g = go rs.from refl
+    where
+      go : (o : Option ℕ) → rs.from ≡ o → RootTold rs x (Ok r)
+      go None z = rw (f z) (told_no_from q z)
+      go (Some n) z = rw (g n z) (told_some_from q n z)
+
+  pub told_to : x ≡ root.ToState → RootTold rs x (Ok (Some (plain_at rs.to kinds.Text)))
   unfolding root_gives map_some
   told_to q sheet s t e h = rw q (looked_text e rs.to h.to_state)
 
-  pub told_args : x ≡ root.Args → RootTold rs x (lookeds.At (object_operand rs.args))
+  pub told_args : x ≡ root.Args → RootTold rs x (Ok (Some (plain_at rs.args kinds.Object)))
   unfolding root_gives map_some
   told_args q sheet s t e h = rw q (looked_object e rs.args h.args)
 
-  pub told_fields : x ≡ root.Fields → RootTold rs x (lookeds.At (object_operand rs.fields))
+  pub told_fields : x ≡ root.Fields → RootTold rs x (Ok (Some (plain_at rs.fields kinds.Object)))
   unfolding root_gives map_some
   told_fields q sheet s t e h = rw q (looked_object e rs.fields h.fields)
 
-  pub told_old : x ≡ root.OldFields → RootTold rs x (lookeds.At (object_operand rs.old))
+  pub told_old : x ≡ root.OldFields → RootTold rs x (Ok (Some (plain_at rs.old kinds.Object)))
   unfolding root_gives map_some
   told_old q sheet s t e h = rw q (looked_object e rs.old h.old_fields)
 
-  pub base_args : x ≡ root.Args → BaseTold rs x (bounds.At (object_operand rs.args))
+  pub base_args : x ≡ root.Args → BaseTold rs x (Some (plain_at rs.args kinds.Object))
   unfolding base_gives map_some
   base_args q sheet s t h = rw q (bound_object rs.args h.args)
 
-  pub base_fields : x ≡ root.Fields → BaseTold rs x (bounds.At (object_operand rs.fields))
+  pub base_fields : x ≡ root.Fields → BaseTold rs x (Some (plain_at rs.fields kinds.Object))
   unfolding base_gives map_some
   base_fields q sheet s t h = rw q (bound_object rs.fields h.fields)
 
-  pub base_old : x ≡ root.OldFields → BaseTold rs x (bounds.At (object_operand rs.old))
+  pub base_old : x ≡ root.OldFields → BaseTold rs x (Some (plain_at rs.old kinds.Object))
   unfolding base_gives map_some
   base_old q sheet s t h = rw q (bound_object rs.old h.old_fields)
 
-pub base_none : (rs : Roots) (x : Root) → base_members no_sheet x ≡ none → BaseTold rs x bounds.Nothing
+pub base_none : (rs : Roots) (x : Root) → (x ≡ root.Args → ⊥) → (x ≡ root.Fields → ⊥) → (x ≡ root.OldFields → ⊥) → BaseTold rs x None
 unfolding base_gives bound_of BoundFits map_some
-base_none rs x q sheet s t h = record { means = go x q; fits = tt }
+base_none rs x a f o sheet s t h = record { means = go x a f o; fits = tt }
   where
-    go : (y : Root) → base_members no_sheet y ≡ none → none ≡ base_gives sheet y
-    go root.Unknown z = refl
-    go root.Id z = refl
-    go root.Entity z = refl
-    go root.Version z = refl
-    go root.FromState z = refl
-    go root.ToState z = refl
-    go root.Args z = absurd (impossible (cc))
-    go root.Fields z = absurd (impossible (cc))
-    go root.OldFields z = absurd (impossible (cc))
+    go : (y : Root) → (y ≡ root.Args → ⊥) → (y ≡ root.Fields → ⊥) → (y ≡ root.OldFields → ⊥) → None ≡ base_gives sheet y
+    go root.Unknown a f o = refl
+    go root.Id a f o = refl
+    go root.Entity a f o = refl
+    go root.Version a f o = refl
+    go root.FromState a f o = refl
+    go root.ToState a f o = refl
+    go root.Args a f o = absurd (a refl)
+    go root.Fields a f o = absurd (f refl)
+    go root.OldFields a f o = absurd (o refl)

@@ -2,7 +2,7 @@
 -- Assumes nothing.
 use mathlib.Core.Bool.{Bool, false, true}
 use mathlib.Core.List.{List, [], ◌++◌, ◌∷◌}
-use mathlib.Core.Option.{Option, none, some}
+use Rattle.std.specs.Prelude.{Option, None, Some}
 use mathlib.Core.Path.{ap, refl, subst, sym, ◌∙◌, ◌≡◌}
 use Prim.Native.Nat.{suc, zero, ℕ, ◌+◌, ◌/◌, ◌<◌, ◌≤◌}
 use native.Mathlib.Omega.{arith}
@@ -16,7 +16,7 @@ use Rattle.json_text.specs.Bytes.{Bytes}
 use Rattle.json_text.specs.Cursor.{OnText, tails}
 use Rattle.json_text.specs.Escapes as escapes
 use Rattle.json_text.specs.Fits.{Text}
-use Rattle.json_text.specs.Refusal.{Refusal, ok, refused}
+use Rattle.json_text.specs.Refusal.{Refusal, not_json, ok, refused}
 use Rattle.json_text.specs.Scan.{Read}
 use Rattle.json_text.specs.Spans.{text_at}
 use Rattle.json_text.specs.Strings.{backslash, char, other, quote}
@@ -25,13 +25,11 @@ use Rattle.semantics.specs.Expression.{parts, push}
 use Rattle.semantics.specs.Operand.{after_dollar, escaped, expression, plain, read_text}
 use Rattle.paths.specs.Path.{further, part}
 use Rattle.paths.specs.Told.{Behind, High, RestTold, UnitIs, UnitTold, WrittenTold}
-use Rattle.paths.specs.declared.path.Rest.{Rest}
-use Rattle.paths.specs.declared.path.Rest.TheVariants as rests
 use Rattle.paths.specs.declared.written.Written as writtens
 use Rattle.paths.specs.declared.written.Written.TheVariants as writing
-use Rattle.paths.specs.declared.written.Unit as units
-use Rattle.paths.specs.declared.written.Unit.TheVariants as unit
 use Rattle.strings.specs.declared.escape.Scalar.{Scalar}
+use Rattle.strings.proofs.Leaves.{escape_was, escape_was_bad}
+use Rattle.strings.specs.Answers.{EscapedTold}
 use Rattle.paths.proofs.Stands.{impossible}
 
 on_text_lem : (s : Bytes) (at e : ℕ) → Text s at e → OnText s at 0
@@ -135,6 +133,14 @@ module _ (s : Bytes) (at : ℕ) (o : OnText s at 0) where
           let y : p' ≡ p = omega (arith, ap length (ap (λ (y : Read ℕ). y.rest) r), length-drop p s, length-drop p' s, t.order, t.upto) in
           spelled v p (cc (k, x, y)) (subst (λ (z : ℕ). Text s z o.stop) y t) (omega arith)
 
+  pub unit_escaped : get_or s at 0 ≡ 92 → {r : Option Scalar} → EscapedTold s (at + 1) (escapes.escaped (drop (at + 1) s)) r → UnitTold s at r
+  unfolding UnitTold
+  unit_escaped q {r} h = go r refl
+    where
+      go : (x : Option Scalar) → r ≡ x → UnitTold s at x
+      go None e = unit_bad not_json q (escape_was_bad h e)
+      go (Some x) e = let w = escape_was x h e in unit_escape x.unit x.next q w.0 w.3
+
 -- a `$` at the start
 module _ {s : Bytes} {at u next : ℕ} (x : UnitIs s at u next) where
   first_is : (c : ℕ) → c < 128 → (x.first ≡ c) → u ≡ c
@@ -170,7 +176,7 @@ high_further [] t h = refl
 high_further (c ∷ hs) t h = let n : (c ≡ 46 → ⊥) = (λ e. omega (arith, h.0)) in rw (ne_eqb c 46 n, further) (high_further hs t h.1)
 
 module _ {s : Bytes} {at u next : ℕ} (x : UnitIs s at u next) where
-  pub dot_here : u ≡ 46 → further (text_at s at) ≡ some (text_at s next)
+  pub dot_here : u ≡ 46 → further (text_at s at) ≡ Some (text_at s next)
   unfolding further
   dot_here e = rw (one_byte x 46 (omega arith) e)
 
@@ -184,8 +190,8 @@ module _ {s : Bytes} {at u next : ℕ} (x : UnitIs s at u next) where
 
 -- a path's parts, by its first dot
 abbrev pub parts_after : Option Bytes → List Bytes
-parts_after none = []
-parts_after (some r) = parts r
+parts_after None = []
+parts_after (Some r) = parts r
 
 pub parts_by : (e : Bytes) → parts e ≡ part e ∷ parts_after (further e)
 unfolding parts part further
@@ -197,22 +203,27 @@ parts_by (c ∷ s) = go (eqb c 46) refl (parts_by s)
     go false q below = rw (q, parts, part, further) (ap (push c) below)
 
 -- what an answer of the code said
-pub unit_was : {s : Bytes} {at : ℕ} {r : units.Unit} (x : Scalar) → UnitTold s at r → r ≡ unit.Is x → UnitIs s at x.unit x.next
+pub unit_was : {s : Bytes} {at : ℕ} {r : Option Scalar} (x : Scalar) → UnitTold s at r → r ≡ Some x → UnitIs s at x.unit x.next
 unfolding UnitTold
 unit_was {s} {at} x h e = subst (UnitTold s at) e h
 
-pub unit_ended : (s : Bytes) (at : ℕ) {r : units.Unit} → UnitTold s at r → r ≡ unit.End → text_at s at ≡ []
+pub unit_ended : (s : Bytes) (at : ℕ) {r : Option Scalar} → UnitTold s at r → r ≡ None → text_at s at ≡ []
 unfolding UnitTold
 unit_ended s at h e = subst (UnitTold s at) e h
 
-pub rest_was : {path : Bytes} {r : Rest} (p : ℕ) → RestTold path r → r ≡ rests.At p →
-    (further (text_at path 0) ≡ some (text_at path p)) × OnText path p 0 × (0 < p) × (p ≤ length path)
+pub rest_was : {path : Bytes} {r : Option ℕ} (p : ℕ) → RestTold path r → r ≡ Some p →
+    (further (text_at path 0) ≡ Some (text_at path p)) × OnText path p 0 × (0 < p) × (p ≤ length path)
 unfolding RestTold
 rest_was {path} p h e = subst (RestTold path) e h
 
-pub rest_none : (path : Bytes) {r : Rest} → RestTold path r → r ≡ rests.Nothing → further (text_at path 0) ≡ none
+pub rest_none : (path : Bytes) {r : Option ℕ} → RestTold path r → r ≡ None → further (text_at path 0) ≡ None
 unfolding RestTold
 rest_none path h e = subst (RestTold path) e h
+
+-- no dot up to the end
+pub rest_stops : (path : Bytes) (at : ℕ) → further (text_at path 0) ≡ further (text_at path at) → text_at path at ≡ [] → RestTold path None
+unfolding RestTold further
+rest_stops path at q e = q ∙ rw e
 
 -- of a text that starts at a
 module _ (s : Bytes) {a b : ℕ} {r : writtens.Written} (h : WrittenTold s a r) (q : a ≡ b) where

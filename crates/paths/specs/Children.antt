@@ -1,14 +1,13 @@
 -- The children of a node as a list of nodes: an array's elements by place, the names of an object's members by their links.
 -- Assumes nothing.
-use Rattle.std.specs.Prelude.{Bool, false, true, List, [], ◌∷◌, ◌≡◌, suc, zero, ℕ, ◌+◌, ◌-◌, ◌<◌, ◌≤◌, ltb}
+use Rattle.paths.specs.declared.children.Next.{Next}
+use Rattle.std.specs.Prelude.{Bool, false, true, List, [], ◌∷◌, ◌≡◌, suc, zero, ℕ, ◌+◌, ◌-◌, ◌<◌, ◌≤◌, ltb, Option, Some, None}
 use Rattle.json_text.specs.Bytes.{Bytes}
 use Rattle.json_text.specs.Cursor.{OnText}
 use Rattle.json_text.specs.Held.{HasNode}
 use Rattle.json_text.specs.Limits.{max_nodes}
 use Rattle.json_text.specs.Links.{link_at}
 use Rattle.json_text.specs.Table.{after_at, start_at}
-use Rattle.paths.specs.declared.children.Child.{Child}
-use Rattle.paths.specs.declared.children.Child.TheVariants as child
 use Rattle.paths.specs.declared.children.Children.{Children}
 
 -- the first child of a node, where it has one, and the child after another
@@ -33,11 +32,11 @@ abbrev pub begun : List ℕ → ℕ → Bool → Children
 begun t n named = record { named = named; end = after_at t n; at = first_at t named n; left = after_at t n - (n + 1) }
 
 -- one step of it
-unfoldable pub next_by : List ℕ → Bool → ℕ → ℕ → ℕ → Child
-next_by t named e k zero = child.End
-next_by t named e k (suc m) = elim (ltb k e) [ true ↦ child.Is (record { node = k; rest = record { named = named; end = e; at = onward t named k; left = m } }) | false ↦ child.End ]
+unfoldable pub next_by : List ℕ → Bool → ℕ → ℕ → ℕ → Option Next
+next_by t named e k zero = None
+next_by t named e k (suc m) = elim (ltb k e) [ true ↦ Some (record { node = k; rest = record { named = named; end = e; at = onward t named k; left = m } }) | false ↦ None ]
 
-abbrev pub next_of : List ℕ → Children → Child
+abbrev pub next_of : List ℕ → Children → Option Next
 next_of t c = next_by t c.named c.end c.at c.left
 
 -- a name's node, and the value behind it

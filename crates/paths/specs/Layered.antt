@@ -17,18 +17,26 @@ use Rattle.paths.specs.Stored.{less_one, tree}
 use Rattle.paths.specs.declared.operand.Kind.{Kind}
 use Rattle.paths.specs.declared.operand.Kind.TheVariants as kinds
 use Rattle.paths.specs.declared.operand.Operand.{Operand}
+use Rattle.strings.specs.declared.rows.Kind.{Kind as Class}
+use Rattle.strings.specs.declared.rows.Kind.TheVariants as classes
 
-abbrev pub class_of : Kind → ℕ
-class_of kinds.Null = 0
-class_of kinds.False = 1
-class_of kinds.True = 2
-class_of kinds.Number = 3
-class_of kinds.Text = 4
-class_of kinds.Less = 4
-class_of kinds.Array = 5
-class_of kinds.Object = 6
-class_of kinds.Listed = 5
-class_of kinds.Named = 6
+-- what the kinds have in common: the kind of row that such a value is written as
+abbrev pub class_of : Kind → Class
+class_of kinds.Null = classes.Null
+class_of kinds.False = classes.False
+class_of kinds.True = classes.True
+class_of kinds.Number = classes.Number
+class_of kinds.Text = classes.Text
+class_of kinds.Less = classes.Text
+class_of kinds.Array = classes.Array
+class_of kinds.Object = classes.Object
+class_of kinds.Listed = classes.Array
+class_of kinds.Named = classes.Object
+
+-- a class whose values have no parts
+pub record Flat (c : Class) : Type 0 where
+  pub no_array : c ≡ classes.Array → ⊥
+  pub no_object : c ≡ classes.Object → ⊥
 
 -- the bytes of a text's operand
 unfoldable pub words_of : Bytes → List ℕ → ℕ → Kind → Bytes

@@ -1,7 +1,7 @@
 -- Evaluation without copies: an operand is a value as it stands, or a written array or object with the number of frames that it is read under.
 -- Assumes nothing.
 use mathlib.Core.List.{List, [], ◌∷◌}
-use Rattle.std.proofs.Math.Option.{Option, none, some}
+use Rattle.std.specs.Prelude.{Option, None, Some}
 use Rattle.std.specs.Prelude.{true, false, leb, length}
 use Prim.Native.Nat.{ℕ, zero, suc}
 use Rattle.semantics.specs.Expression.{parts, unbound}
@@ -27,20 +27,20 @@ outer d [] = []
 outer d (x ∷ xs) = elim (leb (suc (length xs)) d) [ true ↦ x ∷ xs | false ↦ outer d xs ]
 
 unfoldable pub map_some : {A B : Type 0} → (A → B) → Option A → Option B
-map_some f none = none
-map_some f (some a) = some (f a)
+map_some f None = None
+map_some f (Some a) = Some (f a)
 
 unfoldable pub or_null : Result (Option Operand) → Operand
 or_null (refused r) = given null
-or_null (ok none) = given null
-or_null (ok (some o)) = o
+or_null (ok None) = given null
+or_null (ok (Some o)) = o
 
 -- an operand that is null is missing
 unfoldable pub observe : Bytes → Option Operand → Resolved Operand
-observe e none = missing ((36 ∷ e) ∷ [])
-observe e (some (given v)) = elim (is_null v) [ true ↦ missing ((36 ∷ e) ∷ []) | false ↦ present (given v) ]
-observe e (some (listed d vs)) = present (listed d vs)
-observe e (some (named d ms)) = present (named d ms)
+observe e None = missing ((36 ∷ e) ∷ [])
+observe e (Some (given v)) = elim (is_null v) [ true ↦ missing ((36 ∷ e) ∷ []) | false ↦ present (given v) ]
+observe e (Some (listed d vs)) = present (listed d vs)
+observe e (Some (named d ms)) = present (named d ms)
 
 module _ {C : Type 0} (sheet : Sheet C) where
   -- Expressions, over how a written part is read under frames.
@@ -48,13 +48,13 @@ module _ {C : Type 0} (sheet : Sheet C) where
     unfoldable pub step_from : Frames → Bytes → Operand → Option Operand
     unfolding map_some find outer
     step_from fs k (given v) = map_some given (member_step k v)
-    step_from fs k (listed d vs) = none
+    step_from fs k (listed d vs) = None
     step_from fs k (named d ms) = map_some (part (outer d fs)) (find k (entries ms))
 
     unfoldable pub walk_from : Frames → List Bytes → Operand → Option Operand
     unfolding step_from
-    walk_from fs [] o = some o
-    walk_from fs (k ∷ ks) o = elim (step_from fs k o) [ none ↦ none | some p ↦ walk_from fs ks p ]
+    walk_from fs [] o = Some o
+    walk_from fs (k ∷ ks) o = elim (step_from fs k o) [ None ↦ None | Some p ↦ walk_from fs ks p ]
 
     -- a binder first, then the sheet
     unfoldable pub look_parts : Frames → Bytes → List Bytes → Result (Option Operand)
@@ -63,9 +63,9 @@ module _ {C : Type 0} (sheet : Sheet C) where
     look_parts fs e (name ∷ path) =
         elim
         (find name fs) [
-          | some o ↦
+          | Some o ↦
               ok (walk_from fs path o)
-          | none ↦
+          | None ↦
               (do
                 g ← unbound kernel sheet e name path
                 ok (map_some given g))

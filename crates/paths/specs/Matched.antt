@@ -1,19 +1,16 @@
--- Two operands under a pair form: parts walked together, numbers, texts, keys.
+-- Two operands under a pair form: parts walked together, numbers, keys.
 -- Assumes nothing.
 use Rattle.std.specs.Prelude.{Bool, false, true, List, [], ◌∷◌, ◌≡◌}
 use Prim.Native.Nat.{Ordering, ℕ}
-use Rattle.json_text.specs.Bytes.{Bytes, begins}
+use Rattle.json_text.specs.Bytes.{Bytes}
 use Rattle.json_text.specs.Spans.{text_at}
 use Rattle.json_text.specs.Table.{start_at}
 use Rattle.members.specs.Condition.{Condition}
 use Rattle.members.specs.Sheet.{Sheet}
-use Rattle.semantics.specs.Forms.{ends, is_part}
 use Rattle.paths.specs.Layered.{shape_of}
 use Rattle.paths.specs.Lazy as lazy
-use Rattle.paths.specs.Shape.{two_numbers, two_texts}
+use Rattle.paths.specs.Shape.{two_numbers}
 use Rattle.paths.specs.Stored.{HasKind}
-use Rattle.paths.specs.declared.operand.Where.{Where}
-use Rattle.paths.specs.declared.operand.Where.TheVariants as wheres
 use Rattle.paths.specs.declared.operand.Operand.{Operand}
 
 abbrev pub holder_code : Bool → ℕ
@@ -34,19 +31,6 @@ unfolding text_at
 names_of s t [] = []
 names_of s t (k ∷ ks) = text_at s (start_at t k) ∷ names_of s t ks
 
-abbrev pub in_order : Bool → Bool → Bool → Ordering → Bool
-in_order less eq greater Ordering.lt = less
-in_order less eq greater Ordering.eq = eq
-in_order less eq greater Ordering.gt = greater
-
--- two numbers, two texts, or else false
+-- two numbers, or else false
 abbrev pub NumbersTold : Bytes → List ℕ → Operand → Operand → (Ordering → Bool) → Bool → Type 0
 NumbersTold s t a b p r = (sheet : Sheet Condition) (fs : lazy.Frames) → r ≡ two_numbers p (shape_of sheet s t fs a) (shape_of sheet s t fs b)
-
-abbrev pub found : Where → Bytes → Bytes → Bool
-found wheres.Start text part = begins part text
-found wheres.Anywhere text part = is_part part text
-found wheres.End text part = ends part text
-
-abbrev pub TextsTold : Bytes → List ℕ → Operand → Operand → Where → Bool → Type 0
-TextsTold s t a b w r = (sheet : Sheet Condition) (fs : lazy.Frames) → r ≡ two_texts (found w) (shape_of sheet s t fs a) (shape_of sheet s t fs b)

@@ -1,7 +1,7 @@
 -- A path by its first dot: the part before it, and the text behind it.
 -- Assumes nothing.
 use Rattle.std.specs.Prelude.{false, true, [], ◌∷◌, eqb}
-use Rattle.std.proofs.Math.Option.{Option, none, some}
+use Rattle.std.specs.Prelude.{Option, None, Some}
 use Rattle.json_text.specs.Bytes.{Bytes}
 
 unfoldable pub part : Bytes → Bytes
@@ -9,5 +9,5 @@ part [] = []
 part (c ∷ s) = elim (eqb c 46) [ true ↦ [] | false ↦ c ∷ part s ]
 
 unfoldable pub further : Bytes → Option Bytes
-further [] = none
-further (c ∷ s) = elim (eqb c 46) [ true ↦ some s | false ↦ further s ]
+further [] = None
+further (c ∷ s) = elim (eqb c 46) [ true ↦ Some s | false ↦ further s ]

@@ -1,7 +1,6 @@
 -- The sheet's members by their nodes, and what the expressions give that no binder takes.
 -- Assumes nothing.
-use Rattle.std.specs.Prelude.{List, [], ◌∷◌, ◌≡◌, suc, zero, ℕ}
-use Rattle.std.proofs.Math.Option.{Option, none, some}
+use Rattle.std.specs.Prelude.{List, [], ◌∷◌, ◌≡◌, ℕ, Option, None, Some, Result as Fallible}
 use Rattle.std.proofs.Math.Seq.{slice}
 use Rattle.json_text.specs.Bytes.{Bytes, ascii, find}
 use Rattle.json_text.specs.Json.{Members, Value, number, object, text}
@@ -15,10 +14,7 @@ use Rattle.paths.specs.Lazy as lazy
 use Rattle.paths.specs.Lazy.{given, map_some}
 use Rattle.paths.specs.Reached.{BoundAs, LookedAs}
 use Rattle.paths.specs.Stored.{HasKind, fields_of}
-use Rattle.paths.specs.declared.operand.Bound.{Bound}
-use Rattle.paths.specs.declared.operand.Kind.TheVariants as kinds
-use Rattle.paths.specs.declared.operand.Looked.{Looked}
-use Rattle.paths.specs.declared.operand.Looked.TheVariants as lookeds
+use Rattle.paths.specs.declared.operand.LookupError.{LookupError}
 use Rattle.paths.specs.declared.operand.Operand.{Operand}
 use Rattle.paths.specs.declared.roots.Root.{Root}
 use Rattle.paths.specs.declared.roots.Root.TheVariants as root
@@ -37,10 +33,10 @@ pub record IsObject (s : Bytes) (t : List ℕ) (n : ℕ) (ms : Members) : Type 0
   pub row : HasKind s t n 6
   pub is : fields_of s t n ≡ ms
 
--- a text that may be missing, its node being 0 then
-unfoldable pub MayBeText : Bytes → List ℕ → ℕ → Option Bytes → Type 0
-MayBeText s t zero o = o ≡ none
-MayBeText s t (suc n) o = (b : Bytes) × (o ≡ some b) × IsText s t (suc n) b
+-- a text that may be missing
+unfoldable pub MayBeText : Bytes → List ℕ → Option ℕ → Option Bytes → Type 0
+MayBeText s t None o = o ≡ None
+MayBeText s t (Some n) o = (b : Bytes) × (o ≡ Some b) × IsText s t n b
 
 -- the nodes hold the sheet's members
 pub record Rooted (sheet : Sheet Condition) (s : Bytes) (t : List ℕ) (r : Roots) : Type 0 where
@@ -68,8 +64,8 @@ root_names =
     []
 
 abbrev pub or_unknown : Option Root → Root
-or_unknown none = root.Unknown
-or_unknown (some r) = r
+or_unknown None = root.Unknown
+or_unknown (Some r) = r
 
 unfoldable pub root_of : Bytes → Root
 unfolding find
@@ -79,13 +75,13 @@ root_of k = or_unknown (find k root_names)
 abbrev pub root_value : Sheet Condition → Bytes → Root → Result (Option Value)
 root_value sheet e root.Unknown = refused (unknown_expression (36 ∷ e))
 root_value sheet e root.Id = id_of sheet.id
-root_value sheet e root.Entity = ok (some (text sheet.entity))
-root_value sheet e root.Version = ok (some (number sheet.version))
+root_value sheet e root.Entity = ok (Some (text sheet.entity))
+root_value sheet e root.Version = ok (Some (number sheet.version))
 root_value sheet e root.FromState = ok (if_any sheet.from_state)
-root_value sheet e root.ToState = ok (some (text sheet.to_state))
-root_value sheet e root.Args = ok (some (object sheet.args))
-root_value sheet e root.Fields = ok (some (object sheet.fields))
-root_value sheet e root.OldFields = ok (some (object sheet.old_fields))
+root_value sheet e root.ToState = ok (Some (text sheet.to_state))
+root_value sheet e root.Args = ok (Some (object sheet.args))
+root_value sheet e root.Fields = ok (Some (object sheet.fields))
+root_value sheet e root.OldFields = ok (Some (object sheet.old_fields))
 
 unfoldable pub root_gives : Sheet Condition → Bytes → Root → Result (Option lazy.Operand)
 unfolding map_some
@@ -93,28 +89,22 @@ root_gives sheet e r = root_value sheet e r >>= λ g. ok (map_some given g)
 
 -- what a path may start from
 abbrev pub base_members : Sheet Condition → Root → Option Members
-base_members sheet root.Unknown = none
-base_members sheet root.Id = none
-base_members sheet root.Entity = none
-base_members sheet root.Version = none
-base_members sheet root.FromState = none
-base_members sheet root.ToState = none
-base_members sheet root.Args = some sheet.args
-base_members sheet root.Fields = some sheet.fields
-base_members sheet root.OldFields = some sheet.old_fields
+base_members sheet root.Unknown = None
+base_members sheet root.Id = None
+base_members sheet root.Entity = None
+base_members sheet root.Version = None
+base_members sheet root.FromState = None
+base_members sheet root.ToState = None
+base_members sheet root.Args = Some sheet.args
+base_members sheet root.Fields = Some sheet.fields
+base_members sheet root.OldFields = Some sheet.old_fields
 
 unfoldable pub base_gives : Sheet Condition → Root → Option lazy.Operand
 unfolding map_some
 base_gives sheet r = map_some (λ ms. given (object ms)) (base_members sheet r)
 
-abbrev pub text_looked : ℕ → Looked
-text_looked n = lookeds.At (record { node = n; depth = 0; kind = kinds.Text })
-
-abbrev pub object_operand : ℕ → Operand
-object_operand n = record { node = n; depth = 0; kind = kinds.Object }
-
-abbrev pub RootTold : Roots → Root → Looked → Type 0
+abbrev pub RootTold : Roots → Root → Fallible (Option Operand) LookupError → Type 0
 RootTold rs x r = (sheet : Sheet Condition) (s : Bytes) (t : List ℕ) (e : Bytes) → Rooted sheet s t rs → LookedAs s t e r (root_gives sheet e x)
 
-abbrev pub BaseTold : Roots → Root → Bound → Type 0
+abbrev pub BaseTold : Roots → Root → Option Operand → Type 0
 BaseTold rs x b = (sheet : Sheet Condition) (s : Bytes) (t : List ℕ) → Rooted sheet s t rs → BoundAs s t b (base_gives sheet x)

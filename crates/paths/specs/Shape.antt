@@ -1,7 +1,7 @@
 -- One layer of an operand, and the pair forms by the layers of two.
 -- Assumes nothing.
 use mathlib.Core.List.{List, [], ◌∷◌}
-use Rattle.std.proofs.Math.Option.{Option, none, some}
+use Rattle.std.specs.Prelude.{Option, None, Some}
 use Rattle.std.specs.Prelude.{Bool, ◌&&◌, ◌||◌}
 use Rattle.std.proofs.Math.Bool.{true, false, not}
 use Prim.Native.Nat.{Ordering}
@@ -31,44 +31,44 @@ as_nothing (items xs) = false
 as_nothing (fields xs) = false
 
 abbrev pub as_truth : {A : Type 0} → Shape A → Option Bool
-as_truth nothing = none
-as_truth (truth b) = some b
-as_truth (digits s) = none
-as_truth (words s) = none
-as_truth (items xs) = none
-as_truth (fields xs) = none
+as_truth nothing = None
+as_truth (truth b) = Some b
+as_truth (digits s) = None
+as_truth (words s) = None
+as_truth (items xs) = None
+as_truth (fields xs) = None
 
 abbrev pub as_digits : {A : Type 0} → Shape A → Option Bytes
-as_digits nothing = none
-as_digits (truth b) = none
-as_digits (digits s) = some s
-as_digits (words s) = none
-as_digits (items xs) = none
-as_digits (fields xs) = none
+as_digits nothing = None
+as_digits (truth b) = None
+as_digits (digits s) = Some s
+as_digits (words s) = None
+as_digits (items xs) = None
+as_digits (fields xs) = None
 
 abbrev pub as_words : {A : Type 0} → Shape A → Option Bytes
-as_words nothing = none
-as_words (truth b) = none
-as_words (digits s) = none
-as_words (words s) = some s
-as_words (items xs) = none
-as_words (fields xs) = none
+as_words nothing = None
+as_words (truth b) = None
+as_words (digits s) = None
+as_words (words s) = Some s
+as_words (items xs) = None
+as_words (fields xs) = None
 
 abbrev pub as_items : {A : Type 0} → Shape A → Option (List A)
-as_items nothing = none
-as_items (truth b) = none
-as_items (digits s) = none
-as_items (words s) = none
-as_items (items xs) = some xs
-as_items (fields xs) = none
+as_items nothing = None
+as_items (truth b) = None
+as_items (digits s) = None
+as_items (words s) = None
+as_items (items xs) = Some xs
+as_items (fields xs) = None
 
 abbrev pub as_fields : {A : Type 0} → Shape A → Option (List (Bytes × A))
-as_fields nothing = none
-as_fields (truth b) = none
-as_fields (digits s) = none
-as_fields (words s) = none
-as_fields (items xs) = none
-as_fields (fields xs) = some xs
+as_fields nothing = None
+as_fields (truth b) = None
+as_fields (digits s) = None
+as_fields (words s) = None
+as_fields (items xs) = None
+as_fields (fields xs) = Some xs
 
 -- the parts of an array, and of an object by ascending key, each through a function
 unfoldable pub parts_in : (Value → Operand) → Values → List Operand
@@ -99,10 +99,10 @@ keys_of (x ∷ xs) = x.0 ∷ keys_of xs
 
 -- two numbers, two texts, or else false
 abbrev pub two_numbers : {A : Type 0} → (Ordering → Bool) → Shape A → Shape A → Bool
-two_numbers p s t = elim (as_digits s) [ none ↦ false | some a ↦ elim (as_digits t) [ none ↦ false | some b ↦ p (number_order a b) ] ]
+two_numbers p s t = elim (as_digits s) [ None ↦ false | Some a ↦ elim (as_digits t) [ None ↦ false | Some b ↦ p (number_order a b) ] ]
 
 abbrev pub two_texts : {A : Type 0} → (Bytes → Bytes → Bool) → Shape A → Shape A → Bool
-two_texts p s t = elim (as_words s) [ none ↦ false | some a ↦ elim (as_words t) [ none ↦ false | some b ↦ p a b ] ]
+two_texts p s t = elim (as_words s) [ None ↦ false | Some a ↦ elim (as_words t) [ None ↦ false | Some b ↦ p a b ] ]
 
 module _ (alike : Operand → Operand → Bool) where
   unfoldable pub alike_in : List Operand → List Operand → Bool
@@ -121,11 +121,11 @@ module _ (alike : Operand → Operand → Bool) where
   unfoldable pub alike_shapes : Shape Operand → Shape Operand → Bool
   unfolding alike_in alike_of number_order
   alike_shapes nothing t = as_nothing t
-  alike_shapes (truth b) t = elim (as_truth t) [ none ↦ false | some c ↦ elim b [ true ↦ c | false ↦ not c ] ]
-  alike_shapes (digits s) t = elim (as_digits t) [ none ↦ false | some r ↦ kernel.same_number s r ]
-  alike_shapes (words s) t = elim (as_words t) [ none ↦ false | some r ↦ same_bytes s r ]
-  alike_shapes (items xs) t = elim (as_items t) [ none ↦ false | some ys ↦ alike_in xs ys ]
-  alike_shapes (fields xs) t = elim (as_fields t) [ none ↦ false | some ys ↦ alike_of xs ys ]
+  alike_shapes (truth b) t = elim (as_truth t) [ None ↦ false | Some c ↦ elim b [ true ↦ c | false ↦ not c ] ]
+  alike_shapes (digits s) t = elim (as_digits t) [ None ↦ false | Some r ↦ kernel.same_number s r ]
+  alike_shapes (words s) t = elim (as_words t) [ None ↦ false | Some r ↦ same_bytes s r ]
+  alike_shapes (items xs) t = elim (as_items t) [ None ↦ false | Some ys ↦ alike_in xs ys ]
+  alike_shapes (fields xs) t = elim (as_fields t) [ None ↦ false | Some ys ↦ alike_of xs ys ]
 
   -- whether one of them equals the operand
   unfoldable pub one_alike : Operand → List Operand → Bool
@@ -137,9 +137,9 @@ module _ (alike : Operand → Operand → Bool) where
   contained_in nothing p t = false
   contained_in (truth b) p t = false
   contained_in (digits s) p t = false
-  contained_in (words s) p t = elim (as_words t) [ none ↦ false | some b ↦ is_part b s ]
+  contained_in (words s) p t = elim (as_words t) [ None ↦ false | Some b ↦ is_part b s ]
   contained_in (items xs) p t = one_alike p xs
-  contained_in (fields xs) p t = elim (as_words t) [ none ↦ false | some k ↦ is_one_of k (keys_of xs) ]
+  contained_in (fields xs) p t = elim (as_words t) [ None ↦ false | Some k ↦ is_one_of k (keys_of xs) ]
 
   unfoldable pub holds_shapes : Form → Operand → Shape Operand → Operand → Shape Operand → Bool
   unfolding contained_in one_alike keys_of is_one_of begins ends is_part number_order
@@ -149,16 +149,16 @@ module _ (alike : Operand → Operand → Bool) where
   holds_shapes gte o s p t = two_numbers (λ r. is_greater r || is_same r) s t
   holds_shapes lt o s p t = two_numbers is_less s t
   holds_shapes lte o s p t = two_numbers (λ r. is_less r || is_same r) s t
-  holds_shapes is_in o s p t = elim (as_items t) [ none ↦ false | some ys ↦ one_alike o ys ]
+  holds_shapes is_in o s p t = elim (as_items t) [ None ↦ false | Some ys ↦ one_alike o ys ]
   holds_shapes contains o s p t = contained_in s p t
   holds_shapes starts_with o s p t = two_texts (λ a b. begins b a) s t
   holds_shapes ends_with o s p t = two_texts (λ a b. ends b a) s t
 
 -- the elements of an array, the values of an object's members by ascending key
 abbrev pub collected : Shape Operand → Option (List Operand)
-collected nothing = none
-collected (truth b) = none
-collected (digits s) = none
-collected (words s) = none
-collected (items xs) = some xs
-collected (fields xs) = some (seconds xs)
+collected nothing = None
+collected (truth b) = None
+collected (digits s) = None
+collected (words s) = None
+collected (items xs) = Some xs
+collected (fields xs) = Some (seconds xs)

@@ -1,14 +1,13 @@
 -- The frames in force, as a list, the innermost first; and what a name finds among them.
 -- Assumes nothing.
-use Rattle.std.specs.Prelude.{cond, List, [], ◌∷◌, suc, zero, ℕ, ◌<◌, get_or}
+use Rattle.paths.specs.declared.operand.Operand.{Operand}
+use Rattle.std.specs.Prelude.{cond, List, [], ◌∷◌, suc, zero, ℕ, ◌<◌, get_or, Option, Some, None}
 use Rattle.json_text.specs.Bytes.{Bytes, same_bytes}
 use Rattle.json_text.specs.Cursor.{OnText}
 use Rattle.json_text.specs.Spans.{text_at}
 use Rattle.paths.specs.declared.frames.Frame.{Frame}
 use Rattle.paths.specs.declared.frames.Frames.{Frames}
 use Rattle.paths.specs.declared.frames.Slot.{Slot}
-use Rattle.paths.specs.declared.operand.Bound.{Bound}
-use Rattle.paths.specs.declared.operand.Bound.TheVariants.{At, Nothing}
 use Rattle.paths.specs.declared.operand.Kind.TheVariants.{Null}
 
 -- what a slot can hold
@@ -38,7 +37,7 @@ unfoldable pub Named : Bytes → List Frame → Type 0
 Named s [] = Unit {0}
 Named s (f ∷ fs) = OnText s f.name 0 × Named s fs
 
-unfoldable pub bound_in : Bytes → Bytes → List Frame → Bound
+unfoldable pub bound_in : Bytes → Bytes → List Frame → Option Operand
 unfolding same_bytes text_at
-bound_in s k [] = Nothing
-bound_in s k (f ∷ fs) = cond (same_bytes k (text_at s f.name)) (At f.operand) (bound_in s k fs)
+bound_in s k [] = None
+bound_in s k (f ∷ fs) = cond (same_bytes k (text_at s f.name)) (Some f.operand) (bound_in s k fs)

@@ -64,6 +64,10 @@ meant s t n d kinds.Object = given (object (fields_of s t n))
 meant s t n d kinds.Listed = listed d (items_of s t n)
 meant s t n d kinds.Named = named d (fields_of s t n)
 
+-- an operand that is read under no frames
+abbrev pub plain_at : ℕ → Kind → Operand
+plain_at n k = record { node = n; depth = 0; kind = k }
+
 abbrev pub operand_of : Bytes → List ℕ → Operand → lazy.Operand
 operand_of s t o = meant s t o.node o.depth o.kind
 

@@ -1,16 +1,14 @@
 -- What each answer of the code stands for.
 -- Assumes nothing.
-use Rattle.std.specs.Prelude.{[], ◌++◌, ◌∷◌, ◌≡◌, ℕ, ◌<◌, ◌≤◌, length}
-use Rattle.std.proofs.Math.Option.{none, some}
+use Rattle.std.specs.Prelude.{[], ◌++◌, ◌∷◌, ◌≡◌, ℕ, ◌<◌, ◌≤◌, length, Option, None, Some}
 use Rattle.json_text.specs.Bytes.{Bytes}
-use Rattle.json_text.specs.Cursor.{OnText}
+use Rattle.json_text.specs.Cursor.{OnText, before, weight}
 use Rattle.json_text.specs.Spans.{text_at}
 use Rattle.semantics.specs.Operand.{escaped, expression, plain, read_text}
-use Rattle.paths.specs.Path.{further}
-use Rattle.paths.specs.declared.path.Rest.{Rest}
-use Rattle.paths.specs.declared.path.Rest.TheVariants as rests
-use Rattle.paths.specs.declared.written.Unit as units
-use Rattle.paths.specs.declared.written.Unit.TheVariants as unit
+use Rattle.paths.specs.Path.{further, part}
+use Rattle.strings.specs.declared.escape.Scalar.{Scalar}
+use Rattle.strings.specs.declared.text.Cursor.{Cursor}
+use Rattle.strings.specs.declared.text.Taken.{Taken}
 use Rattle.paths.specs.declared.written.Written as writtens
 use Rattle.paths.specs.declared.written.Written.TheVariants as written
 
@@ -30,9 +28,9 @@ pub record UnitIs (s : Bytes) (at u next : ℕ) : Type 0 where
   pub past : at < next
   pub upto : next ≤ length s
 
-unfoldable pub UnitTold : Bytes → ℕ → units.Unit → Type 0
-UnitTold s at unit.End = text_at s at ≡ []
-UnitTold s at (unit.Is x) = UnitIs s at x.unit x.next
+unfoldable pub UnitTold : Bytes → ℕ → Option Scalar → Type 0
+UnitTold s at None = text_at s at ≡ []
+UnitTold s at (Some x) = UnitIs s at x.unit x.next
 
 -- the text behind the `$`
 pub record Behind (s : Bytes) (at next : ℕ) : Type 0 where
@@ -45,7 +43,18 @@ WrittenTold s at written.Plain = read_text (text_at s at) ≡ plain
 WrittenTold s at (written.Escaped p) = (read_text (text_at s at) ≡ escaped (text_at s p)) × Behind s at p
 WrittenTold s at (written.Expression p) = (read_text (text_at s at) ≡ expression (text_at s p)) × Behind s at p
 
+-- a byte of a path's first part taken
+pub record PartTook (path : Bytes) (c : Cursor) (x : Taken) : Type 0 where
+  pub byte : part (before path c.at c.unit c.left) ≡ x.byte ∷ part (before path x.rest.at x.rest.unit x.rest.left)
+  pub on_text : OnText path x.rest.at x.rest.left
+  pub falls : weight path x.rest.at x.rest.left < weight path c.at c.left
+
+-- a byte of it taken, or its end
+unfoldable pub PartStepped : Bytes → Cursor → Option Taken → Type 0
+PartStepped path c None = part (before path c.at c.unit c.left) ≡ []
+PartStepped path c (Some x) = PartTook path c x
+
 -- the text behind the first dot of a path
-unfoldable pub RestTold : Bytes → Rest → Type 0
-RestTold path rests.Nothing = further (text_at path 0) ≡ none
-RestTold path (rests.At p) = (further (text_at path 0) ≡ some (text_at path p)) × OnText path p 0 × (0 < p) × (p ≤ length path)
+unfoldable pub RestTold : Bytes → Option ℕ → Type 0
+RestTold path None = further (text_at path 0) ≡ None
+RestTold path (Some p) = (further (text_at path 0) ≡ Some (text_at path p)) × OnText path p 0 × (0 < p) × (p ≤ length path)

@@ -7,22 +7,18 @@ ghost use Rattle.paths.specs.Stored.{Room, table};
 // Where a walk is: the next child, where there is one below the end, and how many more there are at most.
 #[derive(Clone, Copy)]
 pub struct Children {
+    // a flag and no const parameter: a value's kind tells which, and each caller goes the same way for both
     pub named: bool,
     pub end: usize,
     pub at: usize,
     pub left: usize,
 }
 
+// A child, and the walk behind it.
 #[derive(Clone, Copy)]
 pub struct Next {
     pub node: usize,
     pub rest: Children,
-}
-
-#[derive(Clone, Copy)]
-pub enum Child {
-    End,
-    Is(Next),
 }
 
 // The first child of a node, and the child after another: names by their links.
@@ -31,9 +27,10 @@ fn first_at(work: &[u32], node: usize, named: bool) -> usize
     ensures { result ≡ first_at (table work.now) named node }
 {
     if named {
-        return crate::rows::link_at(work, node);
+        crate::rows::link_at(work, node)
+    } else {
+        node + 1
     }
-    node + 1
 }
 
 fn onward(work: &[u32], child: usize, named: bool) -> usize
@@ -41,9 +38,10 @@ fn onward(work: &[u32], child: usize, named: bool) -> usize
     ensures { result ≡ onward (table work.now) named child }
 {
     if named {
-        return crate::rows::link_at(work, child);
+        crate::rows::link_at(work, child)
+    } else {
+        crate::rows::after_at(work, child)
     }
-    crate::rows::after_at(work, child)
 }
 
 impl Children {
@@ -53,34 +51,27 @@ impl Children {
     {
         let end = crate::rows::after_at(work, node);
         Children {
-            named: named,
-            end: end,
+            named,
+            end,
             at: first_at(work, node, named),
             left: end - (node + 1),
         }
     }
 
-    pub fn next(self, work: &[u32]) -> Child
+    // The next child and the walk behind it. No Iterator: that would borrow the table, which is marked between the steps of a walk.
+    pub fn next(self, work: &[u32]) -> Option<Next>
         requires { Room work.now 0 × (self.end ≤ 4096) }
         ensures { result ≡ next_of (table work.now) self }
     {
-        let named = self.named;
-        let end = self.end;
-        let at = self.at;
-        let left = self.left;
-        if left == 0 {
-            return Child::End;
+        if self.left == 0 || self.end <= self.at {
+            return None;
         }
-        if end <= at {
-            return Child::End;
-        }
-        Child::Is(Next {
-            node: at,
+        Some(Next {
+            node: self.at,
             rest: Children {
-                named: named,
-                end: end,
-                at: onward(work, at, named),
-                left: left - 1,
+                at: onward(work, self.at, self.named),
+                left: self.left - 1,
+                ..self
             },
         })
     }

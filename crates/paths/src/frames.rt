@@ -4,9 +4,10 @@ ghost use Rattle.json_text.specs.Cursor.{OnText};
 ghost use Rattle.json_text.specs.Spans.{text_at};
 ghost use Rattle.paths.specs.Lazy.{outer};
 ghost use Rattle.paths.specs.Path.{part};
-ghost use Rattle.paths.specs.Stack.{Named, Small, bound_in, held};
+ghost use Rattle.paths.specs.Stack.{Named, Small, bound_in, frame_in, held};
 
-use crate::operand::{Bound, Kind, Operand};
+use crate::operand::{Kind, Operand};
+use crate::path::part_is;
 
 // A binder in force: the place of its name in the sheet, and what it stands for.
 #[derive(Clone, Copy)]
@@ -24,6 +25,33 @@ pub struct Slot {
     pub kind: Kind,
 }
 
+impl Slot {
+    // No From: it asks that the frame is small, which a trait's method can't ask; `operand` is its way back.
+    fn of(frame: Frame) -> Slot
+        requires { Small frame }
+        ensures { frame_in result ≡ frame }
+    {
+        Slot {
+            name: frame.name as u16,
+            node: frame.operand.node as u16,
+            depth: frame.operand.depth as u16,
+            kind: frame.operand.kind,
+        }
+    }
+
+    fn operand(self) -> Operand
+        ensures { result ≡ (frame_in self).operand }
+    {
+        Operand {
+            node: self.node as usize,
+            depth: self.depth as usize,
+            kind: self.kind,
+        }
+    }
+}
+
+// The binders in force, the innermost last.
+// The paper's form: frames in an array by value, with how many are in force.
 #[derive(Clone, Copy)]
 pub struct Frames {
     pub slots: [Slot; 32],
@@ -40,9 +68,8 @@ impl Frames {
             depth: 0,
             kind: Kind::Null,
         };
-        let slots = [slot; 32];
         Frames {
-            slots: slots,
+            slots: [slot; 32],
             depth: 0,
         }
     }
@@ -51,19 +78,11 @@ impl Frames {
         requires { (self.depth < 32) × Small frame }
         ensures { (result.depth ≡ self.depth + 1) × (held result ≡ frame ∷ held self) }
     {
-        let at = self.depth;
-        let operand = frame.operand;
-        let kind = operand.kind;
         let mut slots = self.slots;
-        slots[at] = Slot {
-            name: frame.name as u16,
-            node: operand.node as u16,
-            depth: operand.depth as u16,
-            kind: kind,
-        };
+        slots[self.depth] = Slot::of(frame);
         Frames {
-            slots: slots,
-            depth: at + 1,
+            slots,
+            depth: self.depth + 1,
         }
     }
 
@@ -72,38 +91,23 @@ impl Frames {
         requires { self.depth ≤ 32 }
         ensures { (result.depth ≤ depth) × (result.depth ≤ self.depth) × (held result ≡ outer depth (held self)) }
     {
-        let slots = self.slots;
-        if depth < self.depth {
-            return Frames {
-                slots: slots,
-                depth: depth,
-            };
-        }
         Frames {
-            slots: slots,
-            depth: self.depth,
+            depth: self.depth.min(depth),
+            ..self
         }
     }
 
     // What the innermost frame stands for whose name is the first part of a path.
-    pub fn find(self, s: &[u8], path: &[u8]) -> Bound
+    pub fn find(self, s: &[u8], path: &[u8]) -> Option<Operand>
         requires { (self.depth ≤ 32) × Named s.now (held self) × OnText path.now 0 0 }
         ensures { result ≡ bound_in s.now (part (text_at path.now 0)) (held self) }
     {
-        let slots = self.slots;
-        let mut i = self.depth;
-        while 0 < i {
-            i -= 1;
-            let f = slots[i];
-            if crate::path::part_is(path, s, f.name as usize) {
-                let kind = f.kind;
-                return Bound::At(Operand {
-                    node: f.node as usize,
-                    depth: f.depth as usize,
-                    kind: kind,
-                });
+        for i in (0..self.depth).rev() {
+            let slot = self.slots[i];
+            if part_is(path, s, slot.name as usize) {
+                return Some(slot.operand());
             }
         }
-        Bound::Nothing
+        None
     }
 }

@@ -8,4 +8,5 @@ pub mod operand;
 pub mod path;
 pub mod roots;
 pub mod rows;
+pub mod scope;
 pub mod written;

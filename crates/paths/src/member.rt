@@ -7,28 +7,21 @@ ghost use Rattle.paths.specs.Path.{part};
 ghost use Rattle.paths.specs.Reached.{MemberTold};
 ghost use Rattle.paths.specs.Stored.{HasKind, Room, table};
 
-// The value behind a name, if that is the part, else what was found before.
-fn chosen(s: &[u8], path: &[u8], name: usize, value: usize, found: usize) -> usize
-    requires { OnText path.now 0 0 × OnText s.now name 0 }
-    ensures { result ≡ cond (same_bytes (part (text_at path.now 0)) (text_at s.now name)) value found }
-{
-    if crate::path::part_is(path, s, name) {
-        return value;
-    }
-    found
-}
-
-// The value's node, 0 where there is none. Names are not repeated; sorting would keep the last of a name, and so does this.
-pub fn member_of(s: &[u8], work: &[u32], node: usize, path: &[u8]) -> usize
+// The value's node, if there is one. Names are not repeated; sorting would keep the last of a name, and so does this.
+// Not one function with members' `named`: the last of a name is kept here, and a part of a path is compared.
+pub fn member_of(s: &[u8], work: &[u32], node: usize, path: &[u8]) -> Option<usize>
     requires { Room work.now node × HasKind s.now (table work.now) node 6 × OnText path.now 0 0 }
     ensures { MemberTold s.now (table work.now) (part (text_at path.now 0)) node result }
 {
     let end = crate::rows::after_at(work, node);
-    let mut found = 0;
+    let mut found = None;
     let mut k = node + 1;
+    // from row to row, as each row says which is next: no range counts these
     while k < end {
         let name = crate::rows::start_at(work, k);
-        found = chosen(s, path, name, k + 1, found);
+        if crate::path::part_is(path, s, name) {
+            found = Some(k + 1);
+        }
         k = crate::rows::after_at(work, k + 1);
     }
     found

@@ -1,10 +1,15 @@
 // A resolved operand: a value of the sheet, or a written array or object with the number of frames that it is read under.
 ghost use Rattle.std.specs.Prelude.{◌≡◌};
-ghost use Rattle.paths.specs.Reached.{NullTold, ValueTold, found_as, value_kind, written_kind};
+ghost use Rattle.paths.specs.Reached.{NullTold, ValueTold, error_at, value_kind, written_kind};
 ghost use Rattle.paths.specs.declared.operand.Kind.TheVariants.{Null};
-ghost use Rattle.paths.specs.Stored.{Room, table};
+ghost use Rattle.paths.specs.Layered.{class_of};
+ghost use Rattle.paths.specs.Stored.{Room, plain_at, table};
+ghost use Rattle.strings.specs.Answers.{code_of};
+
+use strings::rows::Kind as RowKind;
 
 // Which kind of value it is. Less is a text less its first `$`; Listed and Named are a written array and object.
+// Not the rows' kinds: a text less its `$`, a written array and a written object are kinds of their own. The paper names the form.
 #[derive(Clone, Copy)]
 pub enum Kind {
     Null,
@@ -19,6 +24,23 @@ pub enum Kind {
     Named,
 }
 
+impl Kind {
+    // What the kinds have in common: the kind of row that such a value is written as.
+    pub fn class(self) -> RowKind
+        ensures { result ≡ class_of self }
+    {
+        match self {
+            Kind::Null => RowKind::Null,
+            Kind::False => RowKind::False,
+            Kind::True => RowKind::True,
+            Kind::Number => RowKind::Number,
+            Kind::Text | Kind::Less => RowKind::Text,
+            Kind::Array | Kind::Listed => RowKind::Array,
+            Kind::Object | Kind::Named => RowKind::Object,
+        }
+    }
+}
+
 #[derive(Clone, Copy)]
 pub struct Operand {
     pub node: usize,
@@ -26,57 +48,51 @@ pub struct Operand {
     pub kind: Kind,
 }
 
-#[derive(Clone, Copy)]
-pub enum Bound {
-    At(Operand),
-    Nothing,
+impl Operand {
+    // An operand that is read under no frames.
+    pub fn at(node: usize, kind: Kind) -> Operand
+        ensures { result ≡ plain_at node kind }
+    {
+        Operand {
+            node,
+            depth: 0,
+            kind,
+        }
+    }
 }
 
-// What an expression gives: an operand, nothing, or the refusal 13 or 14.
-#[derive(Clone, Copy)]
-pub enum Looked {
-    At(Operand),
-    Nothing,
+// Why an expression names nothing of the sheet: the refusals 13 and 14.
+#[derive(Clone, Copy, PartialEq, Eq)]
+pub enum LookupError {
     Unknown,
     NoId,
 }
 
-// The kind of a row of that code, as a value of the sheet.
-pub fn value_kind(code: usize) -> Kind
-    ensures { result ≡ value_kind code }
+// The kind of a row, as that of a value of the sheet.
+// Two functions and no From: a row's kind is one kind as a value of the sheet and another as a written value.
+pub fn value_kind(kind: RowKind) -> Kind
+    ensures { result ≡ value_kind (code_of kind) }
 {
-    if code == 0 {
-        return Kind::Null;
+    match kind {
+        RowKind::Null => Kind::Null,
+        RowKind::True => Kind::True,
+        RowKind::False => Kind::False,
+        RowKind::Number => Kind::Number,
+        RowKind::Text => Kind::Text,
+        RowKind::Array => Kind::Array,
+        RowKind::Object | RowKind::Free => Kind::Object,
     }
-    if code == 1 {
-        return Kind::True;
-    }
-    if code == 2 {
-        return Kind::False;
-    }
-    if code == 3 {
-        return Kind::Number;
-    }
-    if code == 4 {
-        return Kind::Text;
-    }
-    if code == 5 {
-        return Kind::Array;
-    }
-    Kind::Object
 }
 
-// And as a written value, but for a text.
-pub fn written_kind(code: usize) -> Kind
-    ensures { result ≡ written_kind code }
+// And as that of a written value, but for a text.
+pub fn written_kind(kind: RowKind) -> Kind
+    ensures { result ≡ written_kind (code_of kind) }
 {
-    if code == 5 {
-        return Kind::Listed;
+    match kind {
+        RowKind::Array => Kind::Listed,
+        RowKind::Object => Kind::Named,
+        _ => value_kind(kind),
     }
-    if code == 6 {
-        return Kind::Named;
-    }
-    value_kind(code)
 }
 
 // The value at a node.
@@ -84,64 +100,41 @@ pub fn value_at(work: &[u32], node: usize) -> Operand
     requires { Room work.now node }
     ensures { ValueTold (table work.now) node result }
 {
-    Operand {
-        node: node,
-        depth: 0,
-        kind: value_kind(crate::rows::kind_at(work, node)),
-    }
-}
-
-pub fn as_looked(found: Bound) -> Looked
-    ensures { result ≡ found_as found }
-{
-    match found {
-        Bound::At(o) => Looked::At(o),
-        Bound::Nothing => Looked::Nothing,
-    }
+    Operand::at(node, value_kind(crate::rows::kind_at(work, node)))
 }
 
 // What was found, or null.
-pub fn or_null(found: Looked) -> Operand
+// A match: `found.ok().flatten().unwrap_or_else(nothing)` says the same in three steps.
+pub fn or_null(found: Result<Option<Operand>, LookupError>) -> Operand
     ensures { NullTold found result }
 {
     match found {
-        Looked::At(o) => o,
-        Looked::Nothing => nothing(),
-        Looked::Unknown => nothing(),
-        Looked::NoId => nothing(),
+        Ok(Some(o)) => o,
+        _ => nothing(),
     }
 }
 
 pub fn nothing() -> Operand
-    ensures { result ≡ record { node = 0; depth = 0; kind = Null } }
+    ensures { result ≡ plain_at 0 Null }
 {
-    Operand {
-        node: 0,
-        depth: 0,
-        kind: Kind::Null,
-    }
+    Operand::at(0, Kind::Null)
 }
 
-// What an operand is: present, missing, or the refusal 13 with the expression's node, or 14.
-#[derive(Clone, Copy)]
-pub enum Resolved {
-    Present(Operand),
-    Missing,
-    Unknown(usize),
+// Why an operand or a condition gives nothing: the refusal 13 with the expression's node, or 14.
+#[derive(Clone, Copy, PartialEq, Eq)]
+pub enum EvalError {
+    UnknownExpression(usize),
     NoId,
 }
 
-// A part as its whole sees it: whether it is present, or a refusal.
-#[derive(Clone, Copy)]
-pub enum Part {
-    Seen(bool),
-    Refused(Resolved),
-}
-
-// How two texts are compared.
-#[derive(Clone, Copy)]
-pub enum Where {
-    Start,
-    Anywhere,
-    End,
+impl LookupError {
+    // The same of the expression at a node.
+    pub fn at(self, node: usize) -> EvalError
+        ensures { result ≡ error_at self node }
+    {
+        match self {
+            LookupError::Unknown => EvalError::UnknownExpression(node),
+            LookupError::NoId => EvalError::NoId,
+        }
+    }
 }

@@ -3,17 +3,20 @@ ghost use Rattle.std.specs.Prelude.{◌≡◌};
 ghost use Rattle.json_text.specs.Cursor.{OnText};
 ghost use Rattle.json_text.specs.Spans.{text_at};
 ghost use Rattle.paths.specs.Path.{part};
-ghost use Rattle.paths.specs.Rooted.{BaseTold, RootTold, object_operand, root_of, text_looked};
+ghost use Rattle.paths.specs.Rooted.{BaseTold, RootTold, root_of};
+ghost use Rattle.paths.specs.Stored.{plain_at};
+ghost use Rattle.paths.specs.declared.operand.Kind.TheVariants.{Object, Text};
 
-use crate::operand::{Bound, Kind, Looked, Operand};
+use crate::operand::{Kind, LookupError, Operand};
+use crate::path::part_is_word;
 
-// The nodes of the sheet's members, 0 for one that is missing: node 0 is the sheet itself.
+// The nodes of the sheet's members that expressions start from.
 #[derive(Clone, Copy)]
 pub struct Roots {
-    pub id: usize,
+    pub id: Option<usize>,
     pub entity: usize,
     pub version: usize,
-    pub from: usize,
+    pub from: Option<usize>,
     pub to: usize,
     pub args: usize,
     pub fields: usize,
@@ -39,100 +42,62 @@ pub fn root_named(path: &[u8]) -> Root
     requires { OnText path.now 0 0 }
     ensures { result ≡ root_of (part (text_at path.now 0)) }
 {
-    if crate::path::part_is_word(path, b"id") {
-        return Root::Id;
-    }
-    if crate::path::part_is_word(path, b"entity") {
-        return Root::Entity;
-    }
-    if crate::path::part_is_word(path, b"version") {
-        return Root::Version;
-    }
-    if crate::path::part_is_word(path, b"from_state") {
-        return Root::FromState;
-    }
-    if crate::path::part_is_word(path, b"to_state") {
-        return Root::ToState;
-    }
-    if crate::path::part_is_word(path, b"state") {
-        return Root::ToState;
-    }
-    if crate::path::part_is_word(path, b"args") {
-        return Root::Args;
-    }
-    if crate::path::part_is_word(path, b"fields") {
-        return Root::Fields;
-    }
-    if crate::path::part_is_word(path, b"old_fields") {
-        return Root::OldFields;
+    let names: [(&[u8], Root); 9] = [
+        (b"id", Root::Id),
+        (b"entity", Root::Entity),
+        (b"version", Root::Version),
+        (b"from_state", Root::FromState),
+        (b"to_state", Root::ToState),
+        (b"state", Root::ToState),
+        (b"args", Root::Args),
+        (b"fields", Root::Fields),
+        (b"old_fields", Root::OldFields),
+    ];
+    for (word, root) in names {
+        if part_is_word(path, word) {
+            return root;
+        }
     }
     Root::Unknown
 }
 
-fn text_at(node: usize) -> Looked
-    ensures { result ≡ text_looked node }
+fn text_at(node: usize) -> Operand
+    ensures { result ≡ plain_at node Text }
 {
-    Looked::At(Operand {
-        node: node,
-        depth: 0,
-        kind: Kind::Text,
-    })
+    Operand::at(node, Kind::Text)
 }
 
 fn object_at(node: usize) -> Operand
-    ensures { result ≡ object_operand node }
+    ensures { result ≡ plain_at node Object }
 {
-    Operand {
-        node: node,
-        depth: 0,
-        kind: Kind::Object,
-    }
+    Operand::at(node, Kind::Object)
 }
 
 // What a whole expression gives.
-pub fn root_at(roots: Roots, root: Root) -> Looked
+pub fn root_at(roots: Roots, root: Root) -> Result<Option<Operand>, LookupError>
     ensures { RootTold roots root result }
 {
     match root {
-        Root::Unknown => Looked::Unknown,
-        Root::Id => {
-            if roots.id == 0 {
-                return Looked::NoId;
-            }
-            text_at(roots.id)
-        }
-        Root::Entity => text_at(roots.entity),
-        Root::Version => Looked::At(Operand {
-            node: roots.version,
-            depth: 0,
-            kind: Kind::Number,
-        }),
-        Root::FromState => {
-            if roots.from == 0 {
-                return Looked::Nothing;
-            }
-            text_at(roots.from)
-        }
-        Root::ToState => text_at(roots.to),
-        Root::Args => Looked::At(object_at(roots.args)),
-        Root::Fields => Looked::At(object_at(roots.fields)),
-        Root::OldFields => Looked::At(object_at(roots.old)),
+        Root::Unknown => Err(LookupError::Unknown),
+        Root::Id => Ok(Some(text_at(roots.id.ok_or(LookupError::NoId)?))),
+        Root::Entity => Ok(Some(text_at(roots.entity))),
+        Root::Version => Ok(Some(Operand::at(roots.version, Kind::Number))),
+        Root::FromState => Ok(roots.from.map(text_at)),
+        Root::ToState => Ok(Some(text_at(roots.to))),
+        Root::Args => Ok(Some(object_at(roots.args))),
+        Root::Fields => Ok(Some(object_at(roots.fields))),
+        Root::OldFields => Ok(Some(object_at(roots.old))),
     }
 }
 
 // What a path may start from.
-pub fn base_at(roots: Roots, root: Root) -> Bound
+pub fn base_at(roots: Roots, root: Root) -> Option<Operand>
     ensures { BaseTold roots root result }
 {
     match root {
-        Root::Unknown => Bound::Nothing,
-        Root::Id => Bound::Nothing,
-        Root::Entity => Bound::Nothing,
-        Root::Version => Bound::Nothing,
-        Root::FromState => Bound::Nothing,
-        Root::ToState => Bound::Nothing,
-        Root::Args => Bound::At(object_at(roots.args)),
-        Root::Fields => Bound::At(object_at(roots.fields)),
-        Root::OldFields => Bound::At(object_at(roots.old)),
+        Root::Args => Some(object_at(roots.args)),
+        Root::Fields => Some(object_at(roots.fields)),
+        Root::OldFields => Some(object_at(roots.old)),
+        _ => None,
     }
 }

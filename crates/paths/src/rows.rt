@@ -1,15 +1,17 @@
-// Words of a node's row, and its link. Marking changes none of them.
+// Words of a node's row, and its link. Marking changes none of them, and so the contracts speak of the table without its marks: callers need no law of it.
 ghost use Rattle.std.specs.Prelude.{◌≡◌};
 ghost use Rattle.json_text.specs.Links.{link_at};
 ghost use Rattle.json_text.specs.Table.{after_at, end_at, kind_at, start_at};
 ghost use Rattle.paths.specs.Stored.{Room, table};
+ghost use Rattle.strings.specs.Answers.{code_of};
 
-pub fn kind_at(work: &[u32], node: usize) -> usize
+use strings::rows::Kind;
+
+pub fn kind_at(work: &[u32], node: usize) -> Kind
     requires { Room work.now node }
-    ensures { result ≡ kind_at (table work.now) node }
+    ensures { code_of result ≡ kind_at (table work.now) node }
 {
-    let w = work[3 * node];
-    (w % 8) as usize
+    strings::rows::kind_at(work, node)
 }
 
 pub fn start_at(work: &[u32], node: usize) -> usize
@@ -23,7 +25,7 @@ pub fn end_at(work: &[u32], node: usize) -> usize
     requires { Room work.now node }
     ensures { result ≡ end_at (table work.now) node }
 {
-    work[3 * node + 1] as usize
+    strings::rows::end_at(work, node)
 }
 
 pub fn after_at(work: &[u32], node: usize) -> usize

@@ -2,14 +2,7 @@
 ghost use Rattle.json_text.specs.Cursor.{OnText};
 ghost use Rattle.paths.specs.Told.{UnitTold, WrittenTold};
 
-use strings::escape::{Escaped, Scalar};
-
-// What stands at a place of a text: a byte as it is, or what an escape stands for.
-#[derive(Clone, Copy)]
-pub enum Unit {
-    End,
-    Is(Scalar),
-}
+use strings::escape::Scalar;
 
 // With the place of the text behind the `$`.
 #[derive(Clone, Copy)]
@@ -19,23 +12,18 @@ pub enum Written {
     Expression(usize),
 }
 
-pub fn unit_at(s: &[u8], at: usize) -> Unit
+// The unit at a place, an escape being one, and the place behind it; none at the closing quote.
+pub fn unit_at(s: &[u8], at: usize) -> Option<Scalar>
     requires { OnText s.now at 0 }
     ensures { UnitTold s.now at result }
 {
-    let b = s[at];
-    if b == b'"' {
-        return Unit::End;
-    }
-    if b != b'\\' {
-        return Unit::Is(Scalar {
+    match s[at] {
+        b'"' => None,
+        b'\\' => strings::escape::escape(s, at + 1),
+        b => Some(Scalar {
             unit: b as u32,
             next: at + 1,
-        });
-    }
-    match strings::escape::escape(s, at + 1) {
-        Escaped::Bad => Unit::End,
-        Escaped::Is(x) => Unit::Is(x),
+        }),
     }
 }
 
@@ -43,22 +31,12 @@ pub fn classify(s: &[u8], at: usize) -> Written
     requires { OnText s.now at 0 }
     ensures { WrittenTold s.now at result }
 {
+    let dollar = b'$' as u32;
     match unit_at(s, at) {
-        Unit::End => Written::Plain,
-        Unit::Is(x) => {
-            if x.unit != 36 {
-                return Written::Plain;
-            }
-            let next = x.next;
-            match unit_at(s, next) {
-                Unit::End => Written::Expression(next),
-                Unit::Is(y) => {
-                    if y.unit == 36 {
-                        return Written::Escaped(next);
-                    }
-                    Written::Expression(next)
-                }
-            }
-        }
+        Some(x) if x.unit == dollar => match unit_at(s, x.next) {
+            Some(y) if y.unit == dollar => Written::Escaped(x.next),
+            _ => Written::Expression(x.next),
+        },
+        _ => Written::Plain,
     }
 }

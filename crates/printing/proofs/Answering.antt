@@ -8,23 +8,15 @@ use native.Mathlib.Omega.{arith}
 use lib.Dec.{eqb}
 use lib.ListN.{drop, length, length-append, length-drop, take}
 use lib.Seq.{drop-drop, length-take-le, take-append-add, take-append-le, take-append_seam}
-use Rattle.arguments.specs.declared.asked.Call.TheVariants as calls
+use Rattle.calling.specs.declared.Call.TheVariants as calls
 use Rattle.json_text.specs.Bytes.{Bytes}
 use Rattle.printing.proofs.Feeding.{stands_as_it_is, stands_line, stands_then}
 use Rattle.printing.proofs.Printing.{shown_fits}
+use Rattle.printing.proofs.Splitting.{line_within}
 use Rattle.printing.specs.Lines.{each, last_line, line_length}
 use Rattle.printing.specs.Printed.{answer_to, intake}
 use Rattle.printing.specs.Progress.{Advanced, StandsFor}
 use Rattle.writer.specs.Laid.{Shown}
-
-line_within : (s : Bytes) → line_length s ≤ length s
-unfolding line_length
-line_within [] = omega arith
-line_within (c ∷ s) = go (line_within s) (eqb c 10) refl
-  where
-    go : line_length s ≤ length s → (b : Bool) → eqb c 10 ≡ b → line_length (c ∷ s) ≤ suc (length s)
-    go below true q = rw q (omega arith)
-    go below false q = rw q (omega (arith, below))
 
 -- what is left at the end
 pub no_last : (l : Bytes) {o : Bytes} → length l ≡ 0 → Shown (each (last_line l)) o o 0

@@ -6,13 +6,23 @@ use mathlib.Core.Path.{ap, refl, ◌∙◌, ◌≡◌}
 use Prim.Native.Nat.{suc, zero, ℕ, ◌+◌, ◌<◌, ◌≤◌}
 use native.Mathlib.Omega.{arith}
 use lib.Dec.{eqb}
-use lib.ListN.{drop, drop_of_length-le, get_or, length, length-append, take}
-use borrow.Author.Tests.{eq-eqb, ne_eqb}
+use lib.ListN.{drop, length, length-append, take}
+use borrow.Author.Tests.{ltb-false}
+use Rattle.std.proofs.Common.{None, Option, Some, nat_lt, sym}
+use Rattle.std.specs.List.{position, position_or_len}
 use Rattle.json_text.specs.Bytes.{Bytes}
-use Rattle.members.proofs.Words.{here}
 use Rattle.printing.proofs.Overlong.{long_intake}
 use Rattle.printing.specs.Lines.{each, last_line, line_length, lines_from}
 use Rattle.printing.specs.Progress.{Unended}
+
+pub line_within : (s : Bytes) → line_length s ≤ length s
+unfolding line_length
+line_within [] = omega arith
+line_within (c ∷ s) = go (line_within s) (eqb c 10) refl
+  where
+    go : line_length s ≤ length s → (b : Bool) → eqb c 10 ≡ b → line_length (c ∷ s) ≤ suc (length s)
+    go below true q = rw q (omega arith)
+    go below false q = rw q (omega (arith, below))
 
 pub first_line : (l s rest : Bytes) → line_length s < length s → lines_from l (s ++ rest) ≡ (l ++ take (line_length s) s) ∷ lines_from [] (drop (suc (line_length s)) s ++ rest)
 unfolding lines_from line_length
@@ -68,24 +78,30 @@ unended_part (suc n) (c ∷ s) h = go (λ g. unended_part n s g) (eqb c 10) refl
     go below true q = let g : 0 ≡ suc (length s) = rw q at h in absurd (omega (arith, g))
     go below false q = let g : suc (line_length s) ≡ suc (length s) = rw q at h in rw q (ap suc (below (omega (arith, g))))
 
--- byte by byte, as the code finds the LF
-pub record Passed (s : Bytes) (from at : ℕ) : Type 0 where
-  pub upto : at ≤ length s
-  pub length_from : from + line_length (drop from s) ≡ at + line_length (drop at s)
+-- where std's search finds an LF, or finds none
+abbrev pub is_lf : ℕ → Bool
+is_lf c = eqb c 10
 
-module _ {s : Bytes} {from at : ℕ} (p : Passed s from at) where
-  pub ends_here : at < length s → get_or s at 0 ≡ 10 → at ≡ from + line_length (drop from s)
-  unfolding line_length
-  ends_here h e =
-      let z : line_length (drop at s) ≡ 0 = rw (here s at h, eq-eqb (get_or s at 0) 10 e) in
-      omega (arith, p.length_from, z)
+line_position : (s : Bytes) → line_length s ≡ position_or_len is_lf s
+unfolding line_length
+line_position [] = refl
+line_position (c ∷ s) = go (eqb c 10) refl (line_position s)
+  where
+    go : (b : Bool) → eqb c 10 ≡ b → line_length s ≡ position_or_len is_lf s → line_length (c ∷ s) ≡ position_or_len is_lf (c ∷ s)
+    go true q e = rw q refl
+    go false q e = rw q (omega (arith, e))
 
-  pub passes : at < length s → (get_or s at 0 ≡ 10 → ⊥) → Passed s from (at + 1)
-  unfolding line_length
-  passes h e =
-      let z : line_length (drop at s) ≡ suc (line_length (drop (at + 1) s)) = rw (here s at h, ne_eqb (get_or s at 0) 10 e) in
-      record { upto = omega arith; length_from = omega (arith, p.length_from, z) }
+module _ (s : Bytes) {r : Option ℕ} (e : r ≡ position is_lf s) where
+  pub found_at : {n : ℕ} → r ≡ Some n → n ≡ line_length s
+  found_at {n} k = go (nat_lt (position_or_len is_lf s) (length s)) refl
+    where
+      go : (x : Bool) → nat_lt (position_or_len is_lf s) (length s) ≡ x → n ≡ line_length s
+      go true h = let j : n ≡ position_or_len is_lf s = cc (rw h at e) in j ∙ sym (line_position s)
+      go false h = let j = sym k ∙ rw h at e in absurd (cc)
 
-  pub never_ends : length s ≤ at → at ≡ from + line_length (drop from s)
-  unfolding line_length
-  never_ends h = let z : line_length (drop at s) ≡ 0 = rw (drop_of_length-le s {i = at} h) in omega (arith, p.length_from, z)
+  pub found_nowhere : r ≡ None → length s ≡ line_length s
+  found_nowhere k = go (nat_lt (position_or_len is_lf s) (length s)) refl
+    where
+      go : (x : Bool) → nat_lt (position_or_len is_lf s) (length s) ≡ x → length s ≡ line_length s
+      go true h = let j = sym k ∙ rw h at e in absurd (cc)
+      go false h = let n : length s ≤ position_or_len is_lf s = ltb-false _ _ h in omega (arith, n, line_within s, line_position s)

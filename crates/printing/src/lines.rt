@@ -1,13 +1,14 @@
 // The answers to the lines of an input, as many as there is room for. A line that lies whole in the input is decided where it lies.
-ghost use Rattle.std.specs.Prelude.{◌≡◌, ◌+◌, ◌≤◌, min, drop, length};
+ghost use Rattle.std.specs.Prelude.{◌≡◌, ◌+◌, ◌≤◌, drop, length};
 ghost use Rattle.writer.specs.Laid.{Shown};
 ghost use Rattle.printing.specs.Lines.{each, last_line, line_length};
 ghost use Rattle.printing.specs.Progress.{Advanced, Kept};
 
 use crate::call::answer;
-use arguments::asked::Call;
+use calling::Call;
 
-// How far the input was answered, how many bytes the answers have, and whether no whole line is left.
+// How far the input was answered, how many bytes the answers have, and whether no whole line is left. A flag and no Option: how far and how many is
+// said in both cases.
 #[derive(Clone, Copy)]
 pub struct Progress {
     pub used: usize,
@@ -20,14 +21,10 @@ fn line_end(text: &[u8], from: usize) -> usize
     requires { from ≤ length text.now }
     ensures { result ≡ from + line_length (drop from text.now) }
 {
-    let mut at = from;
-    while at < text.len() {
-        if text[at] == b'\n' {
-            return at;
-        }
-        at += 1;
+    match text[from..].iter().position(|c| *c == b'\n') {
+        Some(n) => from + n,
+        None => text.len(),
     }
-    at
 }
 
 // Answers the lines that have their LF in the input, while the output has room for any answer.
@@ -37,12 +34,13 @@ pub fn answer_lines(input: &[u8], work: &mut [u32], out: &mut [u8]) -> Progress
 {
     let mut used = 0;
     let mut put = 0;
+    // each turn goes on by its line and by its answer: no range counts these
     while 65536 <= out.len() - put {
         let stop = line_end(input, used);
         if stop == input.len() {
             return Progress {
-                used: used,
-                put: put,
+                used,
+                put,
                 done: true,
             };
         }
@@ -51,8 +49,8 @@ pub fn answer_lines(input: &[u8], work: &mut [u32], out: &mut [u8]) -> Progress
         used = stop + 1;
     }
     Progress {
-        used: used,
-        put: put,
+        used,
+        put,
         done: false,
     }
 }
@@ -62,16 +60,10 @@ pub fn answer_last(line: &[u8], work: &mut [u32], out: &mut [u8]) -> usize
     requires { (length work.old ≡ 16384) × (length out.old ≡ 65536) }
     ensures { Shown (each (last_line line.now)) out.old out.new result }
 {
-    if line.len() == 0 {
+    if line.is_empty() {
         return 0;
     }
     answer(Call::Decide, line, work, out)
-}
-
-fn least(a: usize, b: usize) -> usize
-    ensures { result ≡ min a b }
-{
-    if a < b { a } else { b }
 }
 
 // Moves the bytes from a place up to an end to the start, as many of them as tell an overlong line, and answers how many that are.
@@ -79,11 +71,7 @@ pub fn keep(input: &mut [u8], from: usize, end: usize) -> usize
     requires { (from ≤ end) × (end ≤ length input.old) }
     ensures { Kept input.old from end input.new result }
 {
-    let n = least(end - from, 32769);
-    let mut i = 0;
-    while i < n {
-        input[i] = input[from + i];
-        i += 1;
-    }
+    let n = (end - from).min(32769);
+    input.copy_within(from..from + n, 0);
     n
 }

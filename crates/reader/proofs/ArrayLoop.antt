@@ -1,5 +1,7 @@
 -- An array's loop over the table: what holds at each separator, and a law for each turn.
 -- Assumes nothing.
+use Rattle.std.specs.Prelude.{Result as Fallible}
+use Rattle.std.specs.Prelude.{Ok, Err}
 use mathlib.Core.Bool.{Bool}
 use mathlib.Core.List.{List}
 use mathlib.Core.Path.{ap, refl, subst, sym, ◌∙◌, ◌≡◌}
@@ -23,8 +25,6 @@ use Rattle.json_text.specs.Reader.{Parsed}
 use Rattle.json_text.specs.Refusal.{Result, not_json, ok, refused}
 use Rattle.json_text.specs.Spans.{Node, Nodes, arr, no_node, node, size_in}
 use Rattle.json_text.specs.Table.{rows_in}
-use Rattle.strings.specs.declared.answer.Parsed.{Parsed as Answer}
-use Rattle.strings.specs.declared.answer.Parsed.TheVariants as parseds
 use Rattle.strings.specs.declared.answer.Place.{Place}
 use Rattle.strings.specs.declared.answer.Refusal.{Refusal as Why}
 use Rattle.strings.specs.declared.answer.Refusal.TheVariants as whys
@@ -33,13 +33,11 @@ use Rattle.leaves.specs.declared.bracket.Sep.TheVariants as seps
 
 -- what falls with each turn of a loop over separators
 unfoldable pub reach : Bytes → Sep → ℕ
-reach s seps.Neither = 0
 reach s (seps.Shut e) = 0
 reach s (seps.On h) = suc (length s - h)
 
-pub reach_falls : (s : Bytes) (at close here : ℕ) (sep : Sep) → here < at → at ≤ length s → Continues s at close sep → reach s sep < reach s (seps.On here)
+pub reach_falls : (s : Bytes) (at close here : ℕ) (sep : Sep) → here < at → at ≤ length s → Continues s at close (Ok sep) → reach s sep < reach s (seps.On here)
 unfolding reach Continues
-reach_falls s at close here seps.Neither h k c = omega arith
 reach_falls s at close here (seps.Shut e) h k c = omega arith
 reach_falls s at close here (seps.On p) h k c = omega (arith, c.2, c.3)
 
@@ -51,25 +49,24 @@ module _ (s : Bytes) (left at n₀ : ℕ) where
   abbrev whole : Result (Placed Node)
   whole = arr_at s (λ m a. read_at left s m a) n₀ at
 
-  unfoldable pub ArrayNext : Nodes → ℕ → Sep → Type 0
-  ArrayNext ts n seps.Neither = whole ≡ refused not_json
-  ArrayNext ts n (seps.Shut e) = (whole ≡ ok (record { tree = arr at e ts; place = e; count = n })) × (e ≤ length s)
-  ArrayNext ts n (seps.On here) = Reading s (λ m a. read_at left s m a) at whole ts here n × (at < here) × (here ≤ length s)
+  unfoldable pub ArrayNext : Nodes → ℕ → Fallible Sep Why → Type 0
+  ArrayNext ts n (Err q) = (q ≡ whys.NotJson) × (whole ≡ refused not_json)
+  ArrayNext ts n (Ok (seps.Shut e)) = (whole ≡ ok (record { tree = arr at e ts; place = e; count = n })) × (e ≤ length s)
+  ArrayNext ts n (Ok (seps.On here)) = Reading s (λ m a. read_at left s m a) at whole ts here n × (at < here) × (here ≤ length s)
 
   -- the elements read so far, their rows, and what the separator decides
-  pub record ArrayState (w₀ w : List ℕ) (n : ℕ) (sep : Sep) : Type 0 where
+  pub record ArrayState (w₀ w : List ℕ) (n : ℕ) (sep : Fallible Sep Why) : Type 0 where
     pub ts : Nodes
     pub words : w ≡ sets w₀ (3 * (n₀ + 1)) (rows_in ts (n₀ + 1))
     pub count : n ≡ n₀ + 1 + size_in ts
     pub below : n ≤ max_nodes
     pub next : ArrayNext ts n sep
 
-  pub array_starts : (w : List ℕ) (sep : Sep) → at < length s → n₀ < max_nodes → Opens s at 93 sep → ArrayState w w (n₀ + 1) sep
+  pub array_starts : (w : List ℕ) (sep : Sep) → at < length s → n₀ < max_nodes → Opens s at 93 sep → ArrayState w w (n₀ + 1) (Ok sep)
   unfolding ArrayNext Opens rows_in size_in
   array_starts w sep inside room o = record { ts = no_node; words = refl; count = omega arith; below = omega arith; next = go sep o }
     where
-      go : (sep : Sep) → Opens s at 93 sep → ArrayNext no_node (n₀ + 1) sep
-      go seps.Neither o = absurd o
+      go : (sep : Sep) → Opens s at 93 sep → ArrayNext no_node (n₀ + 1) (Ok sep)
       go (seps.Shut e) o = (
         array_shut s (λ m a. read_at left s m a) n₀ at room o.0 ∙
             ap {B = Result (Placed Node)} (λ (k : ℕ). ok (record { tree = arr at k no_node; place = k; count = n₀ + 1 })) (sym o.1),
@@ -83,25 +80,25 @@ module _ (s : Bytes) (left at n₀ : ℕ) where
       )
 
   module _ {w₀ w : List ℕ} {n : ℕ} where
-    pub array_long : {sep : Sep} → ArrayState w₀ w n sep → length w ≡ length w₀
+    pub array_long : {sep : Fallible Sep Why} → ArrayState w₀ w n sep → length w ≡ length w₀
     array_long l = ap length l.words ∙ length-sets w₀ (3 * (n₀ + 1)) (rows_in l.ts (n₀ + 1))
 
-    array_still : {sep : Sep} → ArrayState w₀ w n sep → drop 12288 w ≡ drop 12288 w₀
+    array_still : {sep : Fallible Sep Why} → ArrayState w₀ w n sep → drop 12288 w ≡ drop 12288 w₀
     array_still l = past_rows w₀ w (rows_in l.ts (n₀ + 1)) (3 * (n₀ + 1)) l.words (omega (arith, length_rows_in l.ts (n₀ + 1), l.count, l.below))
 
-    pub array_neither : ArrayState w₀ w n seps.Neither → ParsedTold whole w₀ w n₀ (parseds.Bad whys.NotJson)
+    pub array_neither : {q : Why} → ArrayState w₀ w n (Err q) → ParsedTold whole w₀ w n₀ (Err q)
     unfolding ArrayNext
-    array_neither l = told_bad whole w₀ w n₀ whys.NotJson l.next (array_still l)
+    array_neither l = rw l.next.0 (told_bad whole w₀ w n₀ whys.NotJson l.next.1 (array_still l))
 
-    pub array_end : {e : ℕ} → ArrayState w₀ w n (seps.Shut e) → e ≤ length s
+    pub array_end : {e : ℕ} → ArrayState w₀ w n (Ok (seps.Shut e)) → e ≤ length s
     unfolding ArrayNext
     array_end l = l.next.1
 
-    pub array_laid : {w' : List ℕ} {e : ℕ} {r : Answer} → ArrayState w₀ w n (seps.Shut e) → RowLaid w w' n₀ 5 at e n e r → ParsedTold whole w₀ w' n₀ r
+    pub array_laid : {w' : List ℕ} {e : ℕ} {p : Place} → ArrayState w₀ w n (Ok (seps.Shut e)) → RowLaid w w' n₀ 5 at e n e p → ParsedTold whole w₀ w' n₀ (Ok p)
     unfolding ArrayNext ParsedTold
     array_laid {w'} {e} l r = rw r.answer (record { tree = arr at e l.ts; read = l.next.0; words = words_arr w₀ w w' n₀ n l.ts at e l.words r.words l.count })
 
-    module _ {here : ℕ} (l : ArrayState w₀ w n (seps.On here)) where
+    module _ {here : ℕ} (l : ArrayState w₀ w n (Ok (seps.On here))) where
       reading : Reading s (λ m a. read_at left s m a) at whole l.ts here n
       unfolding ArrayNext
       reading = l.next.0
@@ -110,14 +107,14 @@ module _ (s : Bytes) (left at n₀ : ℕ) where
       unfolding ArrayNext
       array_here = l.next.2
 
-      pub array_refused : (w' : List ℕ) (r : Why) → ParsedTold (read_at left s n here) w w' n (parseds.Bad r) → ParsedTold whole w₀ w' n₀ (parseds.Bad r)
+      pub array_refused : (w' : List ℕ) (r : Why) → ParsedTold (read_at left s n here) w w' n (Err r) → ParsedTold whole w₀ w' n₀ (Err r)
       unfolding ParsedTold
       array_refused w' r p = (item_refused reading (refusal_of r) p.0 past, p.1 ∙ array_still l)
         where
           past : length s ≤ here → refusal_of r ≡ not_json
           past h = cc (p.0, past_end left s n here h)
 
-      pub array_on : {w' : List ℕ} {p : Place} → Rows (read_at left s n here) w w' n p → (sep : Sep) → Continues s p.at 93 sep → ArrayState w₀ w' p.node sep
+      pub array_on : {w' : List ℕ} {p : Place} → Rows (read_at left s n here) w w' n p → (sep : Fallible Sep Why) → Continues s p.at 93 sep → ArrayState w₀ w' p.node sep
       unfolding ArrayNext Continues
       array_on {w'} {p} r sep c =
           record {
@@ -137,16 +134,16 @@ module _ (s : Bytes) (left at n₀ : ℕ) where
           inside : here < length s
           inside = omega (arith, f.1.past, f.1.upto)
 
-          go : (sep : Sep) → Continues s p.at 93 sep → ArrayNext (joined l.ts (node r.tree no_node)) p.node sep
-          go seps.Neither c = item_fails reading v r.read inside f.1.past c.0 c.1
-          go (seps.Shut e) c = (
+          go : (sep : Fallible Sep Why) → Continues s p.at 93 sep → ArrayNext (joined l.ts (node r.tree no_node)) p.node sep
+          go (Err q) c = (c.0, item_fails reading v r.read inside f.1.past c.1 c.2)
+          go (Ok (seps.Shut e)) c = (
             item_ends reading v r.read inside f.1.past c.0 ∙
                 ap {B = Result (Placed Node)}
                 (λ (k : ℕ). ok (record { tree = arr at k (joined l.ts (node r.tree no_node)); place = k; count = p.node }))
                 (sym c.1),
             c.2,
           )
-          go (seps.On h) c = (
+          go (Ok (seps.On h)) c = (
             subst (λ (k : ℕ). Reading s (λ m a. read_at left s m a) at whole (joined l.ts (node r.tree no_node)) k p.node)
                 (sym c.1) (item_on reading v r.read inside f.1.past c.0 (omega (arith, c.1, c.2, f.1.past))),
             omega (arith, c.2, f.1.past, l.next.1),
@@ -158,18 +155,15 @@ module _ (s : Bytes) (left at n₀ : ℕ) where
 
 -- at a turn of the loop, with the marks that the elements added
 pub record ArrayTurn (s : Bytes) (left at n₀ : ℕ) (w₀ w : List ℕ) (seen₀ seen : List Bool) (n : ℕ) (sep : Sep) : Type 0 where
-  pub state : ArrayState s left at n₀ w₀ w n sep
+  pub state : ArrayState s left at n₀ w₀ w n (Ok sep)
   pub grown : Grown seen₀ seen
   pub marks : length seen ≡ length seen₀
 
 pub array_turn : {s : Bytes} {left at n₀ : ℕ} {w₀ w : List ℕ} {seen₀ seen : List Bool} {n : ℕ} {sep : Sep} (sep' : Sep) →
-    ArrayTurn s left at n₀ w₀ w seen₀ seen n sep → sep ≡ sep' → ArrayState s left at n₀ w₀ w n sep'
-array_turn {s} {left} {at} {n₀} {w₀} {w} {n = n} sep' l e = subst (ArrayState s left at n₀ w₀ w n) e l.state
+    ArrayTurn s left at n₀ w₀ w seen₀ seen n sep → sep ≡ sep' → ArrayState s left at n₀ w₀ w n (Ok sep')
+array_turn {s} {left} {at} {n₀} {w₀} {w} {n = n} sep' l e = subst (λ (x : Sep). ArrayState s left at n₀ w₀ w n (Ok x)) e l.state
 
 -- what an answer that is known says
-pub was_bad : (x : Result (Placed Node)) (w w' : List ℕ) (n : ℕ) {r : Answer} (q : Why) → ParsedTold x w w' n r → r ≡ parseds.Bad q → ParsedTold x w w' n (parseds.Bad q)
-was_bad x w w' n q t e = subst (ParsedTold x w w' n) e t
-
-pub was_done : (x : Result (Placed Node)) (w w' : List ℕ) (n : ℕ) {r : Answer} (p : Place) → ParsedTold x w w' n r → r ≡ parseds.Done p → Rows x w w' n p
+pub was_done : {x : Result (Placed Node)} {w w' : List ℕ} {n : ℕ} {p : Place} → ParsedTold x w w' n (Ok p) → Rows x w w' n p
 unfolding ParsedTold
-was_done x w w' n p t e = subst (ParsedTold x w w' n) e t
+was_done t = t

@@ -1,5 +1,7 @@
 -- An object's loop over the table: what holds at each separator, and a law for each turn.
 -- Assumes nothing.
+use Rattle.std.specs.Prelude.{Result as Fallible}
+use Rattle.std.specs.Prelude.{Ok, Err}
 use mathlib.Core.Bool.{Bool, false, true}
 use mathlib.Core.List.{List, append_assoc, [], ◌++◌, ◌∷◌}
 use mathlib.Core.Path.{ap, refl, subst, sym, ◌∙◌, ◌≡◌}
@@ -32,13 +34,9 @@ use Rattle.json_text.specs.Reader.{Parsed, new_name, one_node}
 use Rattle.json_text.specs.Refusal.{Refusal, Result, not_json, ok, refused, ◌>>=◌}
 use Rattle.json_text.specs.Spans.{Fields, Node, deep, deep_of, erase_of, field, no_field, obj, size_of, text_at}
 use Rattle.json_text.specs.Table.{rows_of}
-use Rattle.strings.specs.declared.answer.Parsed.{Parsed as Answer}
-use Rattle.strings.specs.declared.answer.Parsed.TheVariants as parseds
 use Rattle.strings.specs.declared.answer.Place.{Place}
 use Rattle.strings.specs.declared.answer.Refusal.{Refusal as Why}
 use Rattle.strings.specs.declared.answer.Refusal.TheVariants as whys
-use Rattle.leaves.specs.declared.names.Named.{Named}
-use Rattle.leaves.specs.declared.names.Named.TheVariants as nameds
 use Rattle.leaves.specs.declared.names.Spelt.{Spelt}
 use Rattle.leaves.specs.declared.bracket.Sep.{Sep}
 use Rattle.leaves.specs.declared.bracket.Sep.TheVariants as seps
@@ -144,13 +142,13 @@ module _ (s : Bytes) (left at n₀ : ℕ) where
   abbrev whole : Result (Placed Node)
   whole = obj_at s (λ m a. read_at left s m a) n₀ at
 
-  unfoldable pub ObjectNext : Fields → ℕ → Sep → Type 0
-  ObjectNext fs n seps.Neither = whole ≡ refused not_json
-  ObjectNext fs n (seps.Shut e) = (whole ≡ ok (record { tree = obj at e fs; place = e; count = n })) × (e ≤ length s)
-  ObjectNext fs n (seps.On here) = Naming s (λ m a. read_at left s m a) at whole fs here n × (at < here) × (here ≤ length s)
+  unfoldable pub ObjectNext : Fields → ℕ → Fallible Sep Why → Type 0
+  ObjectNext fs n (Err q) = (q ≡ whys.NotJson) × (whole ≡ refused not_json)
+  ObjectNext fs n (Ok (seps.Shut e)) = (whole ≡ ok (record { tree = obj at e fs; place = e; count = n })) × (e ≤ length s)
+  ObjectNext fs n (Ok (seps.On here)) = Naming s (λ m a. read_at left s m a) at whole fs here n × (at < here) × (here ≤ length s)
 
   -- the members read so far, their rows and marks, and what the separator decides
-  pub record ObjectState (w₀ w : List ℕ) (seen : List Bool) (n : ℕ) (sep : Sep) : Type 0 where
+  pub record ObjectState (w₀ w : List ℕ) (seen : List Bool) (n : ℕ) (sep : Fallible Sep Why) : Type 0 where
     pub fs : Fields
     pub words : w ≡ sets w₀ (3 * (n₀ + 1)) (rows_of fs (n₀ + 1))
     pub count : n ≡ n₀ + 1 + size_of fs
@@ -160,7 +158,7 @@ module _ (s : Bytes) (left at n₀ : ℕ) where
     pub noted : Noted seen n₀ (keys (erase_of s fs))
     pub next : ObjectNext fs n sep
 
-  pub object_starts : (w : List ℕ) (seen : List Bool) (sep : Sep) → at < length s → n₀ < max_nodes → Opens s at 125 sep → ObjectState w w seen (n₀ + 1) sep
+  pub object_starts : (w : List ℕ) (seen : List Bool) (sep : Sep) → at < length s → n₀ < max_nodes → Opens s at 125 sep → ObjectState w w seen (n₀ + 1) (Ok sep)
   unfolding ObjectNext Opens rows_of size_of deep_of erase_of is_one_of
   object_starts w seen sep inside room o =
       record {
@@ -177,8 +175,7 @@ module _ (s : Bytes) (left at n₀ : ℕ) where
       none : {X : Type 0} → false ≡ true → X
       none q = let z : ◌≡◌ {A = ℕ} 0 1 = cc in absurd (omega arith)
 
-      go : (sep : Sep) → Opens s at 125 sep → ObjectNext no_field (n₀ + 1) sep
-      go seps.Neither o = absurd o
+      go : (sep : Sep) → Opens s at 125 sep → ObjectNext no_field (n₀ + 1) (Ok sep)
       go (seps.Shut e) o = (
         object_shut s (λ m a. read_at left s m a) n₀ at room o.0 ∙
             ap {B = Result (Placed Node)} (λ (k : ℕ). ok (record { tree = obj at k no_field; place = k; count = n₀ + 1 })) (sym o.1),
@@ -192,26 +189,26 @@ module _ (s : Bytes) (left at n₀ : ℕ) where
       )
 
   module _ {w₀ w : List ℕ} {seen : List Bool} {n : ℕ} where
-    pub object_long : {sep : Sep} → ObjectState w₀ w seen n sep → length w ≡ length w₀
+    pub object_long : {sep : Fallible Sep Why} → ObjectState w₀ w seen n sep → length w ≡ length w₀
     object_long l = ap length l.words ∙ length-sets w₀ (3 * (n₀ + 1)) (rows_of l.fs (n₀ + 1))
 
-    object_still : {sep : Sep} → ObjectState w₀ w seen n sep → drop 12288 w ≡ drop 12288 w₀
+    object_still : {sep : Fallible Sep Why} → ObjectState w₀ w seen n sep → drop 12288 w ≡ drop 12288 w₀
     object_still l = past_rows w₀ w (rows_of l.fs (n₀ + 1)) (3 * (n₀ + 1)) l.words (omega (arith, length_rows_of l.fs (n₀ + 1), l.count, l.below))
 
-    pub object_neither : ObjectState w₀ w seen n seps.Neither → ParsedTold whole w₀ w n₀ (parseds.Bad whys.NotJson)
+    pub object_neither : {q : Why} → ObjectState w₀ w seen n (Err q) → ParsedTold whole w₀ w n₀ (Err q)
     unfolding ObjectNext
-    object_neither l = told_bad whole w₀ w n₀ whys.NotJson l.next (object_still l)
+    object_neither l = rw l.next.0 (told_bad whole w₀ w n₀ whys.NotJson l.next.1 (object_still l))
 
-    pub object_end : {e : ℕ} → ObjectState w₀ w seen n (seps.Shut e) → e ≤ length s
+    pub object_end : {e : ℕ} → ObjectState w₀ w seen n (Ok (seps.Shut e)) → e ≤ length s
     unfolding ObjectNext
     object_end l = l.next.1
 
-    pub object_laid : {w' : List ℕ} {e : ℕ} {r : Answer} → ObjectState w₀ w seen n (seps.Shut e) → RowLaid w w' n₀ 6 at e n e r → ParsedTold whole w₀ w' n₀ r
+    pub object_laid : {w' : List ℕ} {e : ℕ} {p : Place} → ObjectState w₀ w seen n (Ok (seps.Shut e)) → RowLaid w w' n₀ 6 at e n e p → ParsedTold whole w₀ w' n₀ (Ok p)
     unfolding ObjectNext ParsedTold
     object_laid {w'} {e} l r = rw r.answer (record { tree = obj at e l.fs; read = l.next.0; words = words_obj w₀ w w' n₀ n l.fs at e l.words r.words l.count })
 
     -- the members stand in the table
-    module _ {sep : Sep} (l : ObjectState w₀ w seen n sep) (long : 12288 ≤ length w₀) (depth : left ≤ max_depth) where
+    module _ {sep : Fallible Sep Why} (l : ObjectState w₀ w seen n sep) (long : 12288 ≤ length w₀) (depth : left ≤ max_depth) where
       held : FieldsAt s w left (n₀ + 1) n l.fs
       held =
           record {
@@ -232,7 +229,7 @@ module _ (s : Bytes) (left at n₀ : ℕ) where
       pub object_noted : Noted seen n₀ (earlier s w n₀ n)
       object_noted k q = l.noted k (ap (is_one_of k) (sym object_earlier) ∙ q)
 
-    module _ {here : ℕ} (l : ObjectState w₀ w seen n (seps.On here)) (long : 12288 ≤ length w₀) (depth : left ≤ max_depth) where
+    module _ {here : ℕ} (l : ObjectState w₀ w seen n (Ok (seps.On here))) (long : 12288 ≤ length w₀) (depth : left ≤ max_depth) where
       naming : Naming s (λ m a. read_at left s m a) at whole l.fs here n
       unfolding ObjectNext
       naming = l.next.0
@@ -241,7 +238,7 @@ module _ (s : Bytes) (left at n₀ : ℕ) where
       unfolding ObjectNext
       object_here = l.next.2
 
-      pub object_name_bad : (w' : List ℕ) (r : Why) → name_at s (earlier s w n₀ n) n here ≡ refused (refusal_of r) → w' ≡ w → ParsedTold whole w₀ w' n₀ (parseds.Bad r)
+      pub object_name_bad : (w' : List ℕ) (r : Why) → name_at s (earlier s w n₀ n) n here ≡ refused (refusal_of r) → w' ≡ w → ParsedTold whole w₀ w' n₀ (Err r)
       unfolding closes_of fields_at
       object_name_bad w' r e q = told_bad whole w₀ w' n₀ r (naming.rest ∙ go naming.fuel naming.enough) (ap (drop 12288) q ∙ object_still l)
         where
@@ -274,8 +271,8 @@ module _ (s : Bytes) (left at n₀ : ℕ) where
         pub object_value_long : length w₁ ≡ length w₀
         object_value_long = ap length a.words ∙ length-sets w (3 * n) ((8 * (here + 1) + 4) ∷ k.stop ∷ (n + 1) ∷ []) ∙ object_long l
 
-        pub object_value_bad : (w₂ : List ℕ) (r : Why) → ParsedTold (read_at left s (n + 1) k.value) w₁ w₂ (n + 1) (parseds.Bad r) →
-            ParsedTold whole w₀ w₂ n₀ (parseds.Bad r)
+        pub object_value_bad : (w₂ : List ℕ) (r : Why) → ParsedTold (read_at left s (n + 1) k.value) w₁ w₂ (n + 1) (Err r) →
+            ParsedTold whole w₀ w₂ n₀ (Err r)
         unfolding ParsedTold
         object_value_bad w₂ r p = (
           value_refused naming facts.is_quote inside facts.room facts.end facts.is_text facts.is_new facts.is_colon
@@ -303,7 +300,7 @@ module _ (s : Bytes) (left at n₀ : ℕ) where
           abbrev more : Fields
           more = joined_of l.fs (field (here + 1) (facts.end - 1) r.tree no_field)
 
-          pub object_on : (seen₂ : List Bool) → Grown seen₁ seen₂ → (sep : Sep) → Continues s p.at 125 sep → ObjectState w₀ w₂ seen₂ p.node sep
+          pub object_on : (seen₂ : List Bool) → Grown seen₁ seen₂ → (sep : Fallible Sep Why) → Continues s p.at 125 sep → ObjectState w₀ w₂ seen₂ p.node sep
           unfolding ObjectNext Continues
           object_on seen₂ g sep c = record {
             fs = more;
@@ -318,16 +315,16 @@ module _ (s : Bytes) (left at n₀ : ℕ) where
             next = go sep c;
           }
             where
-              go : (sep : Sep) → Continues s p.at 125 sep → ObjectNext more p.node sep
-              go seps.Neither c = member_fails naming facts.is_quote inside facts.room facts.end facts.is_text facts.is_new facts.is_colon v is_v c.0 c.1
-              go (seps.Shut e) c = (
+              go : (sep : Fallible Sep Why) → Continues s p.at 125 sep → ObjectNext more p.node sep
+              go (Err q) c = (c.0, member_fails naming facts.is_quote inside facts.room facts.end facts.is_text facts.is_new facts.is_colon v is_v c.1 c.2)
+              go (Ok (seps.Shut e)) c = (
                 member_ends naming facts.is_quote inside facts.room facts.end facts.is_text facts.is_new facts.is_colon
                     v is_v c.0 ∙
                     ap {B = Result (Placed Node)} (λ (i : ℕ). ok (record { tree = obj at i more; place = i; count = p.node }))
                     (sym c.1),
                 c.2,
               )
-              go (seps.On h) c = (
+              go (Ok (seps.On h)) c = (
                 subst (λ (i : ℕ). Naming s (λ m a. read_at left s m a) at whole more i p.node) (sym c.1)
                     (member_on naming facts.is_quote inside facts.room facts.end facts.is_text facts.is_new facts.is_colon
                     v is_v c.0 (omega (arith, c.1, c.2, object_past.0))),
@@ -337,22 +334,21 @@ module _ (s : Bytes) (left at n₀ : ℕ) where
 
 -- at a turn of the loop, with the marks that the members added
 pub record ObjectTurn (s : Bytes) (left at n₀ : ℕ) (w₀ w : List ℕ) (seen₀ seen : List Bool) (n : ℕ) (sep : Sep) : Type 0 where
-  pub state : ObjectState s left at n₀ w₀ w seen n sep
+  pub state : ObjectState s left at n₀ w₀ w seen n (Ok sep)
   pub grown : Grown seen₀ seen
   pub marks : length seen ≡ length seen₀
 
 pub object_turn : {s : Bytes} {left at n₀ : ℕ} {w₀ w : List ℕ} {seen₀ seen : List Bool} {n : ℕ} {sep : Sep} (sep' : Sep) →
-    ObjectTurn s left at n₀ w₀ w seen₀ seen n sep → sep ≡ sep' → ObjectState s left at n₀ w₀ w seen n sep'
-object_turn {s} {left} {at} {n₀} {w₀} {w} {seen₀} {seen} {n} sep' l e = subst (ObjectState s left at n₀ w₀ w seen n) e l.state
+    ObjectTurn s left at n₀ w₀ w seen₀ seen n sep → sep ≡ sep' → ObjectState s left at n₀ w₀ w seen n (Ok sep')
+object_turn {s} {left} {at} {n₀} {w₀} {w} {seen₀} {seen} {n} sep' l e = subst (λ (x : Sep). ObjectState s left at n₀ w₀ w seen n (Ok x)) e l.state
 
 -- what an answer that is known says
-pub name_was_bad :
-    (s : Bytes) (w w' : List ℕ) (seen seen' : List Bool) (object at n : ℕ) {r : Named} (q : Why) → NameTold s w w' seen seen' object at n r →
-    r ≡ nameds.Bad q → (name_at s (earlier s w object n) n at ≡ refused (refusal_of q)) × (w' ≡ w) × (seen' ≡ seen)
+pub name_was_bad : (s : Bytes) (w w' : List ℕ) (seen seen' : List Bool) (object at n : ℕ) (q : Why) → NameTold s w w' seen seen' object at n (Err q) →
+    (name_at s (earlier s w object n) n at ≡ refused (refusal_of q)) × (w' ≡ w) × (seen' ≡ seen)
 unfolding NameTold
-name_was_bad s w w' seen seen' object at n q t e = subst (NameTold s w w' seen seen' object at n) e t
+name_was_bad s w w' seen seen' object at n q t = t
 
-pub name_was : (s : Bytes) (w w' : List ℕ) (seen seen' : List Bool) (object at n : ℕ) {r : Named} (k : Spelt) →
-    NameTold s w w' seen seen' object at n r → r ≡ nameds.Is k → NameLaid s w w' seen seen' object at n k
+pub name_was : (s : Bytes) (w w' : List ℕ) (seen seen' : List Bool) (object at n : ℕ) (k : Spelt) →
+    NameTold s w w' seen seen' object at n (Ok k) → NameLaid s w w' seen seen' object at n k
 unfolding NameTold
-name_was s w w' seen seen' object at n k t e = subst (NameTold s w w' seen seen' object at n) e t
+name_was s w w' seen seen' object at n k t = t

@@ -1,5 +1,6 @@
 -- The whole sheet: what the tree's reading answers is what `json` says.
 -- Assumes nothing.
+use Rattle.std.specs.Prelude.{Ok, Err}
 use mathlib.Core.Bool.{Bool, false, true}
 use mathlib.Core.List.{List}
 use mathlib.Core.Path.{ap, refl, sym, ◌∙◌, ◌≡◌}
@@ -50,9 +51,7 @@ use Rattle.json_text.specs.Spans.{
 }
 use Rattle.json_text.specs.Table.{rows, value_at}
 use Rattle.json_text.specs.Utf8.{scalar, utf8}
-use Rattle.strings.specs.declared.answer.Parsed.TheVariants as parseds
 use Rattle.strings.specs.declared.answer.Place.{Place}
-use Rattle.strings.specs.declared.answer.Read.TheVariants as reads
 use Rattle.strings.specs.declared.answer.Refusal.{Refusal as Why}
 use Rattle.strings.specs.declared.answer.Refusal.TheVariants as whys
 use borrow.Author.Tests.{eq-eqb, le-leb, lt-leb, ne_eqb}
@@ -117,7 +116,7 @@ module _ (s : Bytes) where
       spanned_is p k e q z = spanned_read ∙ bind_ok _ e ∙ rw (eq-eqb (skip_at s p.place) (length s) (sym q ∙ z), whole_at)
 
 -- ---- what is told
-pub too_small : (s : Bytes) (w : List ℕ) → length w < 16384 → ReadTold s w w (reads.Refused whys.WorkTooSmall)
+pub too_small : (s : Bytes) (w : List ℕ) → length w < 16384 → ReadTold s w w (Err whys.WorkTooSmall)
 unfolding reading read_of HoldsOf
 too_small s w h = record { answers = rw (lt-leb 16384 (length w) h, reading); holds = tt; small = λ k. refl; past = refl }
 
@@ -127,13 +126,13 @@ module _ (s : Bytes) (w : List ℕ) (enough : 16384 ≤ length w) where
   is_json = rw (le-leb 16384 (length w) enough, reading)
 
   module _ (w' : List ℕ) (past : drop 12288 w' ≡ drop 12288 w) where
-    pub told_refused : (r : Why) → spanned s ≡ refused (refusal_of r) → ReadTold s w w' (reads.Refused r)
+    pub told_refused : (r : Why) → spanned s ≡ refused (refusal_of r) → ReadTold s w w' (Err r)
     unfolding read_of HoldsOf erased
     told_refused r e = record { answers = is_json ∙ json_erased s ∙ ap (erased s) e; holds = tt; small = λ h. absurd (omega arith); past = past }
 
     pub told_table :
         (p : Place) (at k : ℕ) → length s ≤ max_bytes → utf8 scalar s ≡ true → at ≡ skip_at s 0 → Rows (read_at max_depth s 0 at) w w' 0 p →
-        k ≡ skip_at s p.at → k ≡ length s → ReadTold s w w' (reads.Table p.node)
+        k ≡ skip_at s p.at → k ≡ length s → ReadTold s w w' (Ok p.node)
     unfolding read_of HoldsOf
     told_table p at k bytes u is_at r q z =
         let v : Placed Node = record { tree = r.tree; place = p.at; count = p.node } in
@@ -167,7 +166,7 @@ still_laid s w w' at p h r =
     let f = read_facts max_depth s 0 at (record { tree = r.tree; place = p.at; count = p.node }) h r.read in
     past_rows w w' (rows r.tree 0) 0 r.words (omega (arith, length_rows r.tree 0, f.1.counted, f.1.most))
 
-pub refused_is : (x : Result (Placed Node)) (w w' : List ℕ) (n : ℕ) (r : Why) → ParsedTold x w w' n (parseds.Bad r) →
+pub refused_is : (x : Result (Placed Node)) (w w' : List ℕ) (n : ℕ) (r : Why) → ParsedTold x w w' n (Err r) →
     (x ≡ refused (refusal_of r)) × (drop 12288 w' ≡ drop 12288 w)
 unfolding ParsedTold
 refused_is x w w' n r t = t

@@ -3,32 +3,28 @@
 
 ghost use Rattle.strings.specs.Reads.{ReadTold};
 
-use strings::answer::{Parsed, Read, Refusal};
+use strings::answer::Refusal;
 
 mod tree;
 
 // The sheet's tree in the table, or the first refusal of 1 to 8. UTF-8 is judged first, then one pass reads, without a step back. Besides the
 // lent table it takes stack: the marks of names, 32,749 bytes, and two calls for each of at most 64 brackets.
-pub fn read(sheet: &[u8], work: &mut [u32]) -> Read
+pub fn read(sheet: &[u8], work: &mut [u32]) -> Result<usize, Refusal>
     ensures { ReadTold sheet.now work.old work.new result }
 {
     if work.len() < 16384 {
-        return Read::Refused(Refusal::WorkTooSmall);
+        return Err(Refusal::WorkTooSmall);
     }
     if 32768 < sheet.len() {
-        return Read::Refused(Refusal::TooLong);
+        return Err(Refusal::TooLong);
     }
     if !strings::utf8::utf8(sheet) {
-        return Read::Refused(Refusal::NotUtf8);
+        return Err(Refusal::NotUtf8);
     }
     let at = tokens::scan::skip(sheet, 0);
-    match crate::tree::root(sheet, work, at) {
-        Parsed::Bad(n) => Read::Refused(n),
-        Parsed::Done(p) => {
-            if tokens::scan::skip(sheet, p.at) == sheet.len() {
-                return Read::Table(p.node);
-            }
-            Read::Refused(Refusal::NotJson)
-        }
+    let tree = tree::root(sheet, work, at)?;
+    if tokens::scan::skip(sheet, tree.at) != sheet.len() {
+        return Err(Refusal::NotJson);
     }
+    Ok(tree.node)
 }

@@ -3,11 +3,14 @@ ghost use Rattle.std.specs.Prelude.{◌<◌, length};
 ghost use Rattle.json_text.specs.Placing.{arr_at, obj_at, read_at};
 ghost use Rattle.leaves.specs.Laid.{ParsedTold, Ready, Told, TreeReady};
 
-use leaves::bracket::Sep;
-use leaves::names::Named;
-use strings::answer::{Parsed, Refusal};
+use leaves::bracket::{Sep, following, opening};
+use leaves::leaf::{lay, leaf};
+use leaves::names::name;
+use strings::answer::{Place, Refusal};
+use strings::rows::Kind;
 
-// The value at a place, in which `left` brackets may be open at once.
+// The value at a place, in which `left` brackets may be open at once. Sheet, table and marks are lent one by one: for methods of a struct that
+// holds the three references the checker makes no proof, since one is lent again while the call lasts.
 #[cycle(array_object_value)]
 pub fn value(
     s: &[u8],
@@ -16,25 +19,22 @@ pub fn value(
     at: usize,
     node: usize,
     left: usize,
-) -> Parsed
+) -> Result<Place, Refusal>
     requires { TreeReady s.now work.old seen.old at node left }
     ensures { Told (read_at left s.now node at) work.old work.new seen.old seen.new node result }
 {
     if left == 0 {
-        return leaves::leaf::leaf(s, work, at, node);
+        return leaf(s, work, at, node);
     }
-    let c = tokens::scan::byte_at(s, at);
-    if c == b'[' {
-        return array(s, work, seen, at, node, left - 1);
+    match tokens::scan::byte_at(s, at) {
+        b'[' => array(s, work, seen, at, node, left - 1),
+        b'{' => object(s, work, seen, at, node, left - 1),
+        _ => leaf(s, work, at, node),
     }
-    if c == b'{' {
-        return object(s, work, seen, at, node, left - 1);
-    }
-    leaves::leaf::leaf(s, work, at, node)
 }
 
 // The sheet's value, with no mark of a name set.
-pub fn root(s: &[u8], work: &mut [u32], at: usize) -> Parsed
+pub fn root(s: &[u8], work: &mut [u32], at: usize) -> Result<Place, Refusal>
     requires { Ready s.now work.old at 0 }
     ensures { ParsedTold (read_at 64 s.now 0 at) work.old work.new 0 result }
 {
@@ -51,31 +51,29 @@ fn array(
     at: usize,
     node: usize,
     left: usize,
-) -> Parsed
+) -> Result<Place, Refusal>
     requires { TreeReady s.now work.old seen.old at node left × (at < length s.now) }
     ensures { Told (arr_at s.now (read_at left s.now) node at) work.old work.new seen.old seen.new node result }
 {
     if 4096 <= node {
-        return Parsed::Bad(Refusal::TooManyNodes);
+        return Err(Refusal::TooManyNodes);
     }
     let mut count = node + 1;
-    let mut sep = leaves::bracket::opening(s, at, b']');
+    let mut sep = opening(s, at, b']');
     loop {
         match sep {
-            Sep::Neither => return Parsed::Bad(Refusal::NotJson),
-            Sep::Shut(end) => return leaves::leaf::lay(work, node, 5, at, end, count, end),
-            Sep::On(here) => match value(s, work, seen, here, count, left) {
-                Parsed::Bad(n) => return Parsed::Bad(n),
-                Parsed::Done(p) => {
-                    sep = leaves::bracket::following(s, p.at, b']');
-                    count = p.node;
-                }
-            },
+            Sep::Shut(end) => return Ok(lay(work, node, Kind::Array, at, end, count, end)),
+            Sep::On(here) => {
+                let element = value(s, work, seen, here, count, left)?;
+                sep = following(s, element.at, b']')?;
+                count = element.node;
+            }
         }
     }
 }
 
-// An object from its bracket on, each member's value with `left` brackets.
+// An object from its bracket on, each member's value with `left` brackets. Not one function with `array`: that would ask at each turn
+// whether a name comes first, and its invariant would be the two of today, by cases.
 #[cycle(array_object_value)]
 fn object(
     s: &[u8],
@@ -84,29 +82,24 @@ fn object(
     at: usize,
     node: usize,
     left: usize,
-) -> Parsed
+) -> Result<Place, Refusal>
     requires { TreeReady s.now work.old seen.old at node left × (at < length s.now) }
     ensures { Told (obj_at s.now (read_at left s.now) node at) work.old work.new seen.old seen.new node result }
 {
     if 4096 <= node {
-        return Parsed::Bad(Refusal::TooManyNodes);
+        return Err(Refusal::TooManyNodes);
     }
     let mut count = node + 1;
-    let mut sep = leaves::bracket::opening(s, at, b'}');
+    let mut sep = opening(s, at, b'}');
     loop {
         match sep {
-            Sep::Neither => return Parsed::Bad(Refusal::NotJson),
-            Sep::Shut(end) => return leaves::leaf::lay(work, node, 6, at, end, count, end),
-            Sep::On(here) => match leaves::names::name(s, work, seen, node, here, count) {
-                Named::Bad(n) => return Parsed::Bad(n),
-                Named::Is(k) => match value(s, work, seen, k.value, count + 1, left) {
-                    Parsed::Bad(n) => return Parsed::Bad(n),
-                    Parsed::Done(p) => {
-                        sep = leaves::bracket::following(s, p.at, b'}');
-                        count = p.node;
-                    }
-                },
-            },
+            Sep::Shut(end) => return Ok(lay(work, node, Kind::Object, at, end, count, end)),
+            Sep::On(here) => {
+                let spelt = name(s, work, seen, node, here, count)?;
+                let member = value(s, work, seen, spelt.value, count + 1, left)?;
+                sep = following(s, member.at, b'}')?;
+                count = member.node;
+            }
         }
     }
 }

@@ -1,116 +1,48 @@
 // Stored lists on standard input: one record a line, its fields with a tab between. A list is read part by part.
 #![tactic(auto)]
 
-ghost use Rattle.std.specs.Prelude.{◌≡◌, ◌+◌, ◌≤◌, min, length};
+ghost use Rattle.std.specs.Prelude.{◌≤◌, ◌<◌, length};
 
+use std::fmt::Display;
 use std::io::Read;
 
-// The place of the first such byte from `from` on, or the end.
-pub fn find(text: &[u8], from: usize, byte: u8) -> usize
-    requires { from ≤ length text.now }
-    ensures { (from ≤ result) × (result ≤ length text.now) }
-{
-    let mut at = from;
-    while at < text.len() {
-        if text[at] == byte {
-            return at;
-        }
-        at += 1;
-    }
-    at
-}
-
-// The place behind the byte at `at`, or the end.
-pub fn behind(text: &[u8], at: usize) -> usize
-    requires { at ≤ length text.now }
-    ensures { result ≡ min (at + 1) (length text.now) }
-{
-    if at < text.len() {
-        return at + 1;
-    }
-    at
-}
-
-// Where a record's field starts: behind so many tabs.
-pub fn start(text: &[u8], fields: usize) -> usize
-    ensures { result ≤ length text.now }
-{
-    let mut at = 0;
-    let mut left = fields;
-    while 0 < left {
-        at = behind(text, find(text, at, b'\t'));
-        left -= 1;
-    }
-    at
-}
-
-// Where the field ends that starts there.
-pub fn end(text: &[u8], from: usize) -> usize
-    requires { from ≤ length text.now }
-    ensures { (from ≤ result) × (result ≤ length text.now) }
-{
-    find(text, from, b'\t')
+// A record's field by its place, 0 the first one; what a record has not is empty.
+pub fn field(record: &[u8], place: usize) -> &[u8] {
+    record.split(|c| *c == b'\t').nth(place).unwrap_or(&[])
 }
 
 // A decimal digit's value, 0 for any other byte.
+// 0 and no Option: the lists are this repository's own, and `decimal` takes any bytes.
 fn digit(c: u8) -> usize
     ensures { result ≤ 9 }
 {
-    if c < 48 {
-        return 0;
+    if c.is_ascii_digit() {
+        usize::from(c - b'0')
+    } else {
+        0
     }
-    if 57 < c {
-        return 0;
-    }
-    (c - 48) as usize
 }
 
 // The number that decimal digits spell, up to 99,999,999,999.
 pub fn decimal(text: &[u8]) -> usize {
-    let mut n: usize = 0;
-    let mut i = 0;
-    while i < text.len() {
-        n = (n * 10 + digit(text[i])) % 100000000000;
-        i += 1;
+    let mut n = 0;
+    for c in text {
+        n = (n * 10 + digit(*c)) % 100_000_000_000;
     }
     n
 }
 
 // The number in a record's field.
-pub fn number(text: &[u8], field: usize) -> usize {
-    let from = start(text, field);
-    let stop = end(text, from);
-    decimal(&text[from..stop])
-}
-
-// Whether two texts are equal byte for byte.
-pub fn same(a: &[u8], b: &[u8]) -> bool {
-    if a.len() != b.len() {
-        return false;
-    }
-    let mut i = 0;
-    while i < a.len() {
-        if a[i] != b[i] {
-            return false;
-        }
-        i += 1;
-    }
-    true
+pub fn number(record: &[u8], place: usize) -> usize {
+    decimal(field(record, place))
 }
 
 // Whether so many bytes at the start of an output are a line and LF.
 pub fn is_line(out: &[u8], size: usize, line: &[u8]) -> bool {
-    let n = line.len();
-    if out.len() <= n {
-        return false;
+    match out.get(..size) {
+        Some([text @ .., b'\n']) => text == line,
+        _ => false,
     }
-    if size != n + 1 {
-        return false;
-    }
-    if out[n] != b'\n' {
-        return false;
-    }
-    same(&out[..n], line)
 }
 
 // The place behind the last line feed before `end`: the records up to there are whole.
@@ -118,31 +50,14 @@ pub fn whole(text: &[u8], end: usize) -> usize
     requires { end ≤ length text.now }
     ensures { result ≤ end }
 {
-    let mut n = end;
-    while 0 < n {
-        if text[n - 1] == b'\n' {
-            return n;
-        }
-        n -= 1;
-    }
-    0
-}
-
-// Moves the bytes from `from` up to `end` to the start, and answers how many there are.
-fn keep(list: &mut [u8], from: usize, end: usize) -> usize
-    requires { (from ≤ end) × (end ≤ length list.old) }
-    ensures { result ≤ length list.new }
-{
-    let n = end - from;
-    let mut i = 0;
-    while i < n {
-        list[i] = list[from + i];
-        i += 1;
-    }
-    n
+    text[..end]
+        .iter()
+        .rposition(|c| *c == b'\n')
+        .map_or(0, |at| at + 1)
 }
 
 // Reads until the buffer is full, the input ends or a read fails, and answers how many bytes stand at its start.
+// Not std's `read_exact`, for which an early end is an error, nor intake's `read_all`: a read that fails only ends the list here.
 pub fn read_full<R: Read>(input: &mut R, buf: &mut [u8]) -> usize
     ensures { result ≤ length buf.new }
 {
@@ -162,7 +77,68 @@ pub fn more<R: Read>(input: &mut R, list: &mut [u8], used: usize, end: usize) ->
     requires { (used ≤ end) × (end ≤ length list.old) }
     ensures { result ≤ length list.new }
 {
-    let n = keep(list, used, end);
-    let got = read_full(input, &mut list[n..]);
-    n + got
+    list.copy_within(used..end, 0);
+    let n = end - used;
+    n + read_full(input, &mut list[n..])
+}
+
+// How many records ran, and how many of them differ.
+#[derive(Clone, Copy)]
+pub struct Tally {
+    pub ran: u64,
+    pub differ: u64,
+}
+
+// A record's check counted; of the first 20 that differ it is said where they stand in the list, and what differs. A write that fails is passed over.
+fn counted<E: Display + Drop>(rt: &impl Print, before: Tally, checked: Result<(), E>) -> Tally {
+    let ran = before.ran.wrapping_add(1);
+    let mut differ = before.differ;
+    if let Err(what) = checked {
+        if differ < 20 {
+            let _ = println!(rt; "record {ran}{what}");
+        }
+        differ = differ.wrapping_add(1);
+    }
+    Tally { ran, differ }
+}
+
+// Checks the records of a text, each of which a line feed ends.
+fn check_all<E: Display + Drop, F: Fn(&[u8]) -> Result<(), E>>(
+    rt: &impl Print,
+    text: &[u8],
+    before: Tally,
+    check: &F,
+) -> Tally
+    requires { F.IsAlwaysCallable check.now }
+{
+    let mut all = before;
+    let Some(records) = text.strip_suffix(b"\n") else {
+        return all;
+    };
+    for record in records.split(|c| *c == b'\n') {
+        all = counted(rt, all, check(record));
+    }
+    all
+}
+
+// Checks the records of the list on an input, in parts as long as the buffer.
+pub fn check_list<R: Read, E: Display + Drop, F: Fn(&[u8]) -> Result<(), E>>(
+    rt: &impl Print,
+    input: &mut R,
+    list: &mut [u8],
+    check: &F,
+) -> Tally
+    requires { F.IsAlwaysCallable check.now }
+{
+    let mut all = Tally { ran: 0, differ: 0 };
+    let mut n = more(input, list, 0, 0);
+    for _ in 0..1000 {
+        let used = whole(list, n);
+        all = check_all(rt, &list[..used], all, check);
+        n = more(input, list, used, n);
+        if n == 0 {
+            break;
+        }
+    }
+    all
 }

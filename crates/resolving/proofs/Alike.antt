@@ -24,7 +24,9 @@ use Rattle.paths.specs.Shape.{alike_in, alike_of, alike_shapes}
 use Rattle.paths.specs.Stored.{OperandAt, Room, operand_of, table}
 use Rattle.paths.specs.declared.children.Children.{Children}
 use Rattle.paths.specs.declared.operand.Operand.{Operand}
-use Rattle.resolving.proofs.Layered.{alike_layers, apart, array_is, array_kind, class_is, class_small, object_is, object_kind}
+use Rattle.strings.specs.declared.rows.Kind.{Kind as Class}
+use Rattle.strings.specs.declared.rows.Kind.TheVariants as classes
+use Rattle.resolving.proofs.Layered.{alike_layers, apart, array_is, array_kind, class_is, object_is, object_kind}
 use Rattle.paths.proofs.Ordered.{node_below}
 use Rattle.paths.proofs.Stands.{impossible}
 use Rattle.paths.proofs.Trees.{begun_kids, each_kid, past_node}
@@ -143,6 +145,11 @@ module _ (s : Bytes) (t : List ℕ) (f : lazy.Operand → lazy.Operand → Bool)
   nodes_of (i ∷ is) [] = refl
   nodes_of (i ∷ is) (j ∷ js) = ap (λ (x : Bool). same_bytes (text_at s (start_at t i)) (text_at s (start_at t j)) && (f (g (i + 1)) (h (j + 1)) && x)) (nodes_of is js)
 
+-- the class of a whole: with names, or without
+abbrev pub holder_class : Bool → Class
+holder_class true = classes.Object
+holder_class false = classes.Array
+
 -- equality, by the classes of two operands
 module _ (sheet : Sheet Condition) (s : Bytes) (t : List ℕ) (fs : lazy.Frames) (a b : Operand) (left : ℕ) where
   abbrev answer : Bool
@@ -162,71 +169,57 @@ module _ (sheet : Sheet Condition) (s : Bytes) (t : List ℕ) (fs : lazy.Frames)
     pub equal_leaves : {r : Bool} → LeavesAlike s t r a b → r ≡ alike sheet left fs (operand_of s t a) (operand_of s t b)
     equal_leaves l = l sheet inner fs ∙ sym opened
 
-    module _ {ca cb : ℕ} (is_a : ca ≡ class_of a.kind) (is_b : cb ≡ class_of b.kind) where
-      pub equal_apart : (ca ≡ cb → ⊥) → false ≡ alike sheet left fs (operand_of s t a) (operand_of s t b)
-      equal_apart h =
-          sym
-          (opened ∙
-          apart inner (shape_of sheet s t fs a) (shape_of sheet s t fs b)
-          (λ e. h
-          (is_a ∙
-          sym (class_is sheet s t fs a.node a.depth a.kind) ∙
-          e ∙
-          class_is sheet s t fs b.node b.depth b.kind ∙
-          sym is_b)))
+    pub equal_apart : {ca cb : Class} → ca ≡ class_of a.kind → cb ≡ class_of b.kind → (ca ≡ cb → ⊥) →
+        false ≡ alike sheet left fs (operand_of s t a) (operand_of s t b)
+    equal_apart is_a is_b h =
+        sym
+        (opened ∙
+        apart inner (shape_of sheet s t fs a) (shape_of sheet s t fs b)
+        (λ e. h
+        (is_a ∙
+        sym (class_is sheet s t fs a.node a.depth a.kind) ∙
+        e ∙
+        class_is sheet s t fs b.node b.depth b.kind ∙
+        sym is_b)))
 
-      module _ (same : ca ≡ cb) (big : ca < 5 → ⊥) where
-        is_array : eqb ca 6 ≡ false → ca ≡ 5
-        is_array q = let k = class_small a.kind in let n = eqb-false ca 6 q in omega arith
+    module _ (named : Bool) (is_a : class_of a.kind ≡ holder_class named) (is_b : class_of b.kind ≡ holder_class named) where
+      pub equal_paired : OperandAt s t a → OperandAt s t b → Paired s t named a b
+      equal_paired h k = go named is_a is_b
+        where
+          go : (x : Bool) → class_of a.kind ≡ holder_class x → class_of b.kind ≡ holder_class x → Paired s t x a b
+          go true e f =
+              record { first = object_kind s t a.node a.kind h.fits e; second = object_kind s t b.node b.kind k.fits f }
+          go false e f =
+              record { first = array_kind s t a.node a.kind h.fits e; second = array_kind s t b.node b.kind k.fits f }
 
-        pub equal_paired : OperandAt s t a → OperandAt s t b → Paired s t (eqb ca 6) a b
-        equal_paired h k = go (eqb ca 6) refl
-          where
-            go : (x : Bool) → eqb ca 6 ≡ x → Paired s t x a b
-            go true q =
-                let e = eqb-true ca 6 q in
-                record {
-                  first = object_kind s t a.node a.kind h.fits (sym is_a ∙ e);
-                  second = object_kind s t b.node b.kind k.fits (sym is_b ∙ sym same ∙ e);
-                }
-            go false q =
-                let e = is_array q in
-                record {
-                  first = array_kind s t a.node a.kind h.fits (sym is_a ∙ e);
-                  second = array_kind s t b.node b.kind k.fits (sym is_b ∙ sym same ∙ e);
-                }
-
-        pub equal_whole : {r : Bool} →
-            r ≡
-            alike_nodes s t (alike sheet (left - 1) fs) (eqb ca 6) (part_at sheet s t fs a) (part_at sheet s t fs b)
-            (kids s t a.node (eqb ca 6)) (kids s t b.node (eqb ca 6)) → r ≡ alike sheet left fs (operand_of s t a) (operand_of s t b)
-        unfolding alike_shapes
-        equal_whole {r} h = go (eqb ca 6) refl h
-          where
-            go : (x : Bool) → eqb ca 6 ≡ x → r ≡ alike_nodes s t inner x (part_at sheet s t fs a) (part_at sheet s t fs b) (kids s t a.node x) (kids s t b.node x) → r ≡ answer
-            go true q k =
-                let e = eqb-true ca 6 q in
-                k ∙
-                sym
-                (nodes_of s t inner (part_at sheet s t fs a) (part_at sheet s t fs b) (kids s t a.node true)
-                (kids s t b.node true)) ∙
-                sym
-                (opened ∙
-                rw (
-                  object_is sheet s t fs a.node a.depth a.kind (sym is_a ∙ e),
-                  object_is sheet s t fs b.node
-                      b.depth b.kind (sym is_b ∙ sym same ∙ e),
-                ))
-            go false q k =
-                let e = is_array q in
-                k ∙
-                sym
-                (nodes_in s t inner (part_at sheet s t fs a) (part_at sheet s t fs b) (kids s t a.node false)
-                (kids s t b.node false)) ∙
-                sym
-                (opened ∙
-                rw (
-                  array_is sheet s t fs a.node a.depth a.kind (sym is_a ∙ e),
-                  array_is sheet s t fs b.node b.depth
-                      b.kind (sym is_b ∙ sym same ∙ e),
-                ))
+      pub equal_whole : {r : Bool} →
+          r ≡
+          alike_nodes s t (alike sheet (left - 1) fs) named (part_at sheet s t fs a) (part_at sheet s t fs b)
+          (kids s t a.node named) (kids s t b.node named) → r ≡ alike sheet left fs (operand_of s t a) (operand_of s t b)
+      unfolding alike_shapes
+      equal_whole {r} h = go named is_a is_b h
+        where
+          go : (x : Bool) → class_of a.kind ≡ holder_class x → class_of b.kind ≡ holder_class x →
+              r ≡ alike_nodes s t inner x (part_at sheet s t fs a) (part_at sheet s t fs b) (kids s t a.node x) (kids s t b.node x) → r ≡ answer
+          go true e f k =
+              k ∙
+              sym
+              (nodes_of s t inner (part_at sheet s t fs a) (part_at sheet s t fs b) (kids s t a.node true)
+              (kids s t b.node true)) ∙
+              sym
+              (opened ∙
+              rw (
+                object_is sheet s t fs a.node a.depth a.kind e,
+                object_is sheet s t fs b.node b.depth b.kind f,
+              ))
+          go false e f k =
+              k ∙
+              sym
+              (nodes_in s t inner (part_at sheet s t fs a) (part_at sheet s t fs b) (kids s t a.node false)
+              (kids s t b.node false)) ∙
+              sym
+              (opened ∙
+              rw (
+                array_is sheet s t fs a.node a.depth a.kind e,
+                array_is sheet s t fs b.node b.depth b.kind f,
+              ))

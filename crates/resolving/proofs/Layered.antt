@@ -2,6 +2,7 @@
 -- Assumes nothing.
 use mathlib.Core.Bool.{Bool, false, true}
 use mathlib.Core.List.{List, [], ◌++◌, ◌∷◌}
+use mathlib.Core.Logic.{inl, inr, ◌⊎◌}
 use mathlib.Core.Path.{ap, refl, subst, sym, ◌∙◌, ◌≡◌}
 use Prim.Native.Nat.{Ordering, suc, zero, ℕ, ◌+◌, ◌-◌, ◌<◌, ◌≤◌}
 use native.Mathlib.Numerals.{add-one}
@@ -25,17 +26,26 @@ use Rattle.json_text.specs.Table.{end_at, start_at}
 use Rattle.members.specs.Condition.{Condition}
 use Rattle.members.specs.Sheet.{Sheet}
 use Rattle.paths.specs.Comparing.{alike, shape}
-use Rattle.paths.specs.Layered.{LeavesAlike, TextPlace, class_of, digits_of, each_name, each_node, kids, part_at, part_by, shape_by, shape_of, words_of}
+use Rattle.paths.specs.Layered.{Flat, LeavesAlike, TextPlace, class_of, digits_of, each_name, each_node, kids, part_at, part_by, shape_by, shape_of, words_of}
 use Rattle.paths.specs.Lazy as lazy
 use Rattle.paths.specs.Lazy.{given, outer, part_of, touch}
 use Rattle.semantics.specs.Semantics.{is_same}
 use Rattle.paths.specs.Shape as layers
 use Rattle.paths.specs.Shape.{Shape, alike_shapes, digits, fields, items, nothing, parts_in, parts_of, truth, words}
 use Rattle.paths.specs.Stored.{Fits, HasKind, Means, OperandAt, less_one, meant, operand_of, tree}
-use Rattle.paths.specs.Told.{UnitIs}
+use Rattle.paths.specs.Told.{UnitIs, UnitTold}
+use Rattle.paths.proofs.Units.{unit_ended, unit_was}
+use Rattle.strings.specs.declared.escape.Scalar.{Scalar}
+use Rattle.std.specs.Prelude.{Option, None, Some}
+use Rattle.std.specs.Ordering.{is_eq}
+use Rattle.std.specs.declared.cmp.Ordering.{Ordering as Ordered}
+use Rattle.std.specs.declared.cmp.Ordering.TheVariants as orders
+use Rattle.json_text.specs.Orders.{order_of}
 use Rattle.paths.specs.declared.operand.Kind.{Kind}
 use Rattle.paths.specs.declared.operand.Kind.TheVariants as kinds
 use Rattle.paths.specs.declared.operand.Operand.{Operand}
+use Rattle.strings.specs.declared.rows.Kind.{Kind as Class}
+use Rattle.strings.specs.declared.rows.Kind.TheVariants as classes
 use Rattle.paths.proofs.Stands.{impossible}
 use Rattle.paths.proofs.Trees.{fields_are, from_names, from_nodes, items_are, number_row, text_row}
 
@@ -75,14 +85,14 @@ module _ (sheet : Sheet Condition) (s : Bytes) (t : List ℕ) where
   alike_layers m fs a b = rw (shape_kind fs a.node a.depth a.kind, shape_kind fs b.node b.depth b.kind)
 
 -- layers of different classes
-abbrev pub shape_class : Shape lazy.Operand → ℕ
-shape_class nothing = 0
-shape_class (truth false) = 1
-shape_class (truth true) = 2
-shape_class (digits x) = 3
-shape_class (words x) = 4
-shape_class (items x) = 5
-shape_class (fields x) = 6
+abbrev pub shape_class : Shape lazy.Operand → Class
+shape_class nothing = classes.Null
+shape_class (truth false) = classes.False
+shape_class (truth true) = classes.True
+shape_class (digits x) = classes.Number
+shape_class (words x) = classes.Text
+shape_class (items x) = classes.Array
+shape_class (fields x) = classes.Object
 
 pub apart : (f : lazy.Operand → lazy.Operand → Bool) (p q : Shape lazy.Operand) → (shape_class p ≡ shape_class q → ⊥) → alike_shapes f p q ≡ false
 unfolding alike_shapes
@@ -150,129 +160,117 @@ module _ (sheet : Sheet Condition) (s : Bytes) (t : List ℕ) (fs : lazy.Frames)
   class_is kinds.Listed = refl
   class_is kinds.Named = refl
 
-  pub array_is : (x : Kind) → class_of x ≡ 5 → shape_by sheet s t fs n d x ≡ items (each_node (part_by sheet s t fs d x) (kids s t n false))
+  pub array_is : (x : Kind) → class_of x ≡ classes.Array → shape_by sheet s t fs n d x ≡ items (each_node (part_by sheet s t fs d x) (kids s t n false))
   unfolding shape_by
-  array_is kinds.Null e = absurd (omega arith)
-  array_is kinds.False e = absurd (omega arith)
-  array_is kinds.True e = absurd (omega arith)
-  array_is kinds.Number e = absurd (omega arith)
-  array_is kinds.Text e = absurd (omega arith)
-  array_is kinds.Less e = absurd (omega arith)
+  array_is kinds.Null e = absurd (impossible (cc))
+  array_is kinds.False e = absurd (impossible (cc))
+  array_is kinds.True e = absurd (impossible (cc))
+  array_is kinds.Number e = absurd (impossible (cc))
+  array_is kinds.Text e = absurd (impossible (cc))
+  array_is kinds.Less e = absurd (impossible (cc))
   array_is kinds.Array e = refl
-  array_is kinds.Object e = absurd (omega arith)
+  array_is kinds.Object e = absurd (impossible (cc))
   array_is kinds.Listed e = refl
-  array_is kinds.Named e = absurd (omega arith)
+  array_is kinds.Named e = absurd (impossible (cc))
 
-  pub object_is : (x : Kind) → class_of x ≡ 6 → shape_by sheet s t fs n d x ≡ fields (each_name s t (part_by sheet s t fs d x) (kids s t n true))
+  pub object_is : (x : Kind) → class_of x ≡ classes.Object → shape_by sheet s t fs n d x ≡ fields (each_name s t (part_by sheet s t fs d x) (kids s t n true))
   unfolding shape_by
-  object_is kinds.Null e = absurd (omega arith)
-  object_is kinds.False e = absurd (omega arith)
-  object_is kinds.True e = absurd (omega arith)
-  object_is kinds.Number e = absurd (omega arith)
-  object_is kinds.Text e = absurd (omega arith)
-  object_is kinds.Less e = absurd (omega arith)
-  object_is kinds.Array e = absurd (omega arith)
+  object_is kinds.Null e = absurd (impossible (cc))
+  object_is kinds.False e = absurd (impossible (cc))
+  object_is kinds.True e = absurd (impossible (cc))
+  object_is kinds.Number e = absurd (impossible (cc))
+  object_is kinds.Text e = absurd (impossible (cc))
+  object_is kinds.Less e = absurd (impossible (cc))
+  object_is kinds.Array e = absurd (impossible (cc))
   object_is kinds.Object e = refl
-  object_is kinds.Listed e = absurd (omega arith)
+  object_is kinds.Listed e = absurd (impossible (cc))
   object_is kinds.Named e = refl
 
-  pub text_is : (x : Kind) → class_of x ≡ 4 → shape_by sheet s t fs n d x ≡ words (words_of s t n x)
+  pub text_is : (x : Kind) → class_of x ≡ classes.Text → shape_by sheet s t fs n d x ≡ words (words_of s t n x)
   unfolding shape_by
-  text_is kinds.Null e = absurd (omega arith)
-  text_is kinds.False e = absurd (omega arith)
-  text_is kinds.True e = absurd (omega arith)
-  text_is kinds.Number e = absurd (omega arith)
+  text_is kinds.Null e = absurd (impossible (cc))
+  text_is kinds.False e = absurd (impossible (cc))
+  text_is kinds.True e = absurd (impossible (cc))
+  text_is kinds.Number e = absurd (impossible (cc))
   text_is kinds.Text e = refl
   text_is kinds.Less e = refl
-  text_is kinds.Array e = absurd (omega arith)
-  text_is kinds.Object e = absurd (omega arith)
-  text_is kinds.Listed e = absurd (omega arith)
-  text_is kinds.Named e = absurd (omega arith)
+  text_is kinds.Array e = absurd (impossible (cc))
+  text_is kinds.Object e = absurd (impossible (cc))
+  text_is kinds.Listed e = absurd (impossible (cc))
+  text_is kinds.Named e = absurd (impossible (cc))
 
-  pub number_is : (x : Kind) → class_of x ≡ 3 → shape_by sheet s t fs n d x ≡ digits (digits_of s t n)
+  pub number_is : (x : Kind) → class_of x ≡ classes.Number → shape_by sheet s t fs n d x ≡ digits (digits_of s t n)
   unfolding shape_by
-  number_is kinds.Null e = absurd (omega arith)
-  number_is kinds.False e = absurd (omega arith)
-  number_is kinds.True e = absurd (omega arith)
+  number_is kinds.Null e = absurd (impossible (cc))
+  number_is kinds.False e = absurd (impossible (cc))
+  number_is kinds.True e = absurd (impossible (cc))
   number_is kinds.Number e = refl
-  number_is kinds.Text e = absurd (omega arith)
-  number_is kinds.Less e = absurd (omega arith)
-  number_is kinds.Array e = absurd (omega arith)
-  number_is kinds.Object e = absurd (omega arith)
-  number_is kinds.Listed e = absurd (omega arith)
-  number_is kinds.Named e = absurd (omega arith)
-
-pub class_small : (x : Kind) → class_of x ≤ 6
-class_small kinds.Null = omega arith
-class_small kinds.False = omega arith
-class_small kinds.True = omega arith
-class_small kinds.Number = omega arith
-class_small kinds.Text = omega arith
-class_small kinds.Less = omega arith
-class_small kinds.Array = omega arith
-class_small kinds.Object = omega arith
-class_small kinds.Listed = omega arith
-class_small kinds.Named = omega arith
+  number_is kinds.Text e = absurd (impossible (cc))
+  number_is kinds.Less e = absurd (impossible (cc))
+  number_is kinds.Array e = absurd (impossible (cc))
+  number_is kinds.Object e = absurd (impossible (cc))
+  number_is kinds.Listed e = absurd (impossible (cc))
+  number_is kinds.Named e = absurd (impossible (cc))
 
 head_eq : {a b : ℕ} {l m : Bytes} → a ∷ l ≡ b ∷ m → a ≡ b
 head_eq e = cc
 
 -- rows by class
 module _ (s : Bytes) (t : List ℕ) (n : ℕ) where
-  pub number_kind : (x : Kind) → Fits s t n x → class_of x ≡ 3 → HasKind s t n 3
+  pub number_kind : (x : Kind) → Fits s t n x → class_of x ≡ classes.Number → HasKind s t n 3
   unfolding Fits
-  number_kind kinds.Null h e = absurd (omega arith)
-  number_kind kinds.False h e = absurd (omega arith)
-  number_kind kinds.True h e = absurd (omega arith)
+  number_kind kinds.Null h e = absurd (impossible (cc))
+  number_kind kinds.False h e = absurd (impossible (cc))
+  number_kind kinds.True h e = absurd (impossible (cc))
   number_kind kinds.Number h e = h
-  number_kind kinds.Text h e = absurd (omega arith)
-  number_kind kinds.Less h e = absurd (omega arith)
-  number_kind kinds.Array h e = absurd (omega arith)
-  number_kind kinds.Object h e = absurd (omega arith)
-  number_kind kinds.Listed h e = absurd (omega arith)
-  number_kind kinds.Named h e = absurd (omega arith)
+  number_kind kinds.Text h e = absurd (impossible (cc))
+  number_kind kinds.Less h e = absurd (impossible (cc))
+  number_kind kinds.Array h e = absurd (impossible (cc))
+  number_kind kinds.Object h e = absurd (impossible (cc))
+  number_kind kinds.Listed h e = absurd (impossible (cc))
+  number_kind kinds.Named h e = absurd (impossible (cc))
 
-  text_kind : (x : Kind) → Fits s t n x → class_of x ≡ 4 → HasKind s t n 4
+  text_kind : (x : Kind) → Fits s t n x → class_of x ≡ classes.Text → HasKind s t n 4
   unfolding Fits
-  text_kind kinds.Null h e = absurd (omega arith)
-  text_kind kinds.False h e = absurd (omega arith)
-  text_kind kinds.True h e = absurd (omega arith)
-  text_kind kinds.Number h e = absurd (omega arith)
+  text_kind kinds.Null h e = absurd (impossible (cc))
+  text_kind kinds.False h e = absurd (impossible (cc))
+  text_kind kinds.True h e = absurd (impossible (cc))
+  text_kind kinds.Number h e = absurd (impossible (cc))
   text_kind kinds.Text h e = h
   text_kind kinds.Less h e = h.0
-  text_kind kinds.Array h e = absurd (omega arith)
-  text_kind kinds.Object h e = absurd (omega arith)
-  text_kind kinds.Listed h e = absurd (omega arith)
-  text_kind kinds.Named h e = absurd (omega arith)
+  text_kind kinds.Array h e = absurd (impossible (cc))
+  text_kind kinds.Object h e = absurd (impossible (cc))
+  text_kind kinds.Listed h e = absurd (impossible (cc))
+  text_kind kinds.Named h e = absurd (impossible (cc))
 
-  pub array_kind : (x : Kind) → Fits s t n x → class_of x ≡ 5 → HasKind s t n 5
+  pub array_kind : (x : Kind) → Fits s t n x → class_of x ≡ classes.Array → HasKind s t n 5
   unfolding Fits
-  array_kind kinds.Null h e = absurd (omega arith)
-  array_kind kinds.False h e = absurd (omega arith)
-  array_kind kinds.True h e = absurd (omega arith)
-  array_kind kinds.Number h e = absurd (omega arith)
-  array_kind kinds.Text h e = absurd (omega arith)
-  array_kind kinds.Less h e = absurd (omega arith)
+  array_kind kinds.Null h e = absurd (impossible (cc))
+  array_kind kinds.False h e = absurd (impossible (cc))
+  array_kind kinds.True h e = absurd (impossible (cc))
+  array_kind kinds.Number h e = absurd (impossible (cc))
+  array_kind kinds.Text h e = absurd (impossible (cc))
+  array_kind kinds.Less h e = absurd (impossible (cc))
   array_kind kinds.Array h e = h
-  array_kind kinds.Object h e = absurd (omega arith)
+  array_kind kinds.Object h e = absurd (impossible (cc))
   array_kind kinds.Listed h e = h
-  array_kind kinds.Named h e = absurd (omega arith)
+  array_kind kinds.Named h e = absurd (impossible (cc))
 
-  pub object_kind : (x : Kind) → Fits s t n x → class_of x ≡ 6 → HasKind s t n 6
+  pub object_kind : (x : Kind) → Fits s t n x → class_of x ≡ classes.Object → HasKind s t n 6
   unfolding Fits
-  object_kind kinds.Null h e = absurd (omega arith)
-  object_kind kinds.False h e = absurd (omega arith)
-  object_kind kinds.True h e = absurd (omega arith)
-  object_kind kinds.Number h e = absurd (omega arith)
-  object_kind kinds.Text h e = absurd (omega arith)
-  object_kind kinds.Less h e = absurd (omega arith)
-  object_kind kinds.Array h e = absurd (omega arith)
+  object_kind kinds.Null h e = absurd (impossible (cc))
+  object_kind kinds.False h e = absurd (impossible (cc))
+  object_kind kinds.True h e = absurd (impossible (cc))
+  object_kind kinds.Number h e = absurd (impossible (cc))
+  object_kind kinds.Text h e = absurd (impossible (cc))
+  object_kind kinds.Less h e = absurd (impossible (cc))
+  object_kind kinds.Array h e = absurd (impossible (cc))
   object_kind kinds.Object h e = h
-  object_kind kinds.Listed h e = absurd (omega arith)
+  object_kind kinds.Listed h e = absurd (impossible (cc))
   object_kind kinds.Named h e = h
 
 -- the place of a text
-module _ (s : Bytes) (t : List ℕ) (o : Operand) (h : OperandAt s t o) (c : class_of o.kind ≡ 4) {a : ℕ} (q : a ≡ start_at t o.node) where
+module _ (s : Bytes) (t : List ℕ) (o : Operand) (h : OperandAt s t o) (c : class_of o.kind ≡ classes.Text) {a : ℕ} (q : a ≡ start_at t o.node) where
   pub at_start : OnText s a 0
   at_start = subst (λ (x : ℕ). OnText s x 0) (sym q) (text_row (text_kind s t o.node o.kind h.fits c)).on_text
 
@@ -280,26 +278,26 @@ module _ (s : Bytes) (t : List ℕ) (o : Operand) (h : OperandAt s t o) (c : cla
   unfolding words_of
   place_whole k = record { is = ap (text_at s) q ∙ go o.kind c k; on_text = at_start }
     where
-      go : (x : Kind) → class_of x ≡ 4 → (x ≡ kinds.Less → ⊥) → text_at s (start_at t o.node) ≡ words_of s t o.node x
-      go kinds.Null e z = absurd (omega arith)
-      go kinds.False e z = absurd (omega arith)
-      go kinds.True e z = absurd (omega arith)
-      go kinds.Number e z = absurd (omega arith)
+      go : (x : Kind) → class_of x ≡ classes.Text → (x ≡ kinds.Less → ⊥) → text_at s (start_at t o.node) ≡ words_of s t o.node x
+      go kinds.Null e z = absurd (impossible (cc))
+      go kinds.False e z = absurd (impossible (cc))
+      go kinds.True e z = absurd (impossible (cc))
+      go kinds.Number e z = absurd (impossible (cc))
       go kinds.Text e z = refl
       go kinds.Less e z = absurd (z refl)
-      go kinds.Array e z = absurd (omega arith)
-      go kinds.Object e z = absurd (omega arith)
-      go kinds.Listed e z = absurd (omega arith)
-      go kinds.Named e z = absurd (omega arith)
+      go kinds.Array e z = absurd (impossible (cc))
+      go kinds.Object e z = absurd (impossible (cc))
+      go kinds.Listed e z = absurd (impossible (cc))
+      go kinds.Named e z = absurd (impossible (cc))
 
   less_text : o.kind ≡ kinds.Less → (r : Bytes) × (text_at s a ≡ 36 ∷ r)
   unfolding Fits
   less_text e = let f : Fits s t o.node kinds.Less = subst (Fits s t o.node) e h.fits in (f.1.0, ap (text_at s) q ∙ f.1.1)
 
-  pub place_none : {A : Type 0} → o.kind ≡ kinds.Less → text_at s a ≡ [] → A
+  place_none : {A : Type 0} → o.kind ≡ kinds.Less → text_at s a ≡ [] → A
   place_none e z = let r = less_text e in absurd (impossible (let y : 36 ∷ r.0 ≡ [] = sym r.1 ∙ z in cc))
 
-  pub place_less : {u p : ℕ} → o.kind ≡ kinds.Less → UnitIs s a u p → TextPlace s t o p
+  place_less : {u p : ℕ} → o.kind ≡ kinds.Less → UnitIs s a u p → TextPlace s t o p
   unfolding words_of
   place_less {u} {p} e x = record { is = go; on_text = x.on_text }
     where
@@ -321,6 +319,15 @@ module _ (s : Bytes) (t : List ℕ) (o : Operand) (h : OperandAt s t o) (c : cla
           let y : x.others ++ text_at s p ≡ r.0 = cc (same) in
           let z : text_at s p ≡ r.0 = ap (λ (l : Bytes). l ++ text_at s p) (sym alone) ∙ y in
           z ∙ ap less_one (sym (ap (text_at s) (sym q) ∙ r.1)) ∙ ap (words_of s t o.node) (sym e)
+
+  -- behind the `$`, which a text that is shortened begins with
+  pub place_behind : {r : Option Scalar} {p : ℕ} → o.kind ≡ kinds.Less → UnitTold s a r → (r ≡ None → p ≡ a) → ((x : Scalar) → r ≡ Some x → p ≡ x.next) →
+      TextPlace s t o p
+  place_behind {r} {p} e h none some = go r refl
+    where
+      go : (x : Option Scalar) → r ≡ x → TextPlace s t o p
+      go None q = place_none e (unit_ended s a h q)
+      go (Some x) q = rw (some x q) (place_less e (unit_was x h q))
 
 -- numbers
 numeral_short : (s : Bytes) (a e : ℕ) → Numeral s a e → e - a ≤ 255
@@ -357,58 +364,67 @@ within_limit x y h k = rw (le-leb (length x) 255 h, le-leb (length y) 255 k, com
 
 -- equal leaves
 module _ (s : Bytes) (t : List ℕ) (a b : Operand) where
-  pub leaf_number : {o : Ordering} {r : Bool} → class_of a.kind ≡ 3 → class_of b.kind ≡ 3 →
+  leaf_number : {o : Ordering} {r : Bool} → class_of a.kind ≡ classes.Number → class_of b.kind ≡ classes.Number →
       o ≡ number_order (digits_of s t a.node) (digits_of s t b.node) → r ≡ is_same o → LeavesAlike s t r a b
   unfolding alike_shapes
   leaf_number p q e z sheet f fs = z ∙ rw (number_is sheet s t fs a.node a.depth a.kind p, number_is sheet s t fs b.node b.depth b.kind q, e)
 
-  pub leaf_text : {x y : ℕ} {r : Bool} → class_of a.kind ≡ 4 → class_of b.kind ≡ 4 → TextPlace s t a x → TextPlace s t b y →
+  pub leaf_compared : (o : Ordered) {r : Bool} → class_of a.kind ≡ classes.Number → class_of b.kind ≡ classes.Number →
+      order_of o ≡ number_order (digits_of s t a.node) (digits_of s t b.node) → r ≡ is_eq o → LeavesAlike s t r a b
+  leaf_compared o p q e z = leaf_number p q e (z ∙ same_order o)
+    where
+      same_order : (o : Ordered) → is_eq o ≡ is_same (order_of o)
+      same_order orders.Less = refl
+      same_order orders.Equal = refl
+      same_order orders.Greater = refl
+
+  pub leaf_text : {x y : ℕ} {r : Bool} → class_of a.kind ≡ classes.Text → class_of b.kind ≡ classes.Text → TextPlace s t a x → TextPlace s t b y →
       r ≡ same_bytes (text_at s x) (text_at s y) → LeavesAlike s t r a b
   unfolding alike_shapes
   leaf_text p q u v e sheet f fs = e ∙ rw (text_is sheet s t fs a.node a.depth a.kind p, text_is sheet s t fs b.node b.depth b.kind q, u.is, v.is)
 
-  pub leaf_same : (c : ℕ) → c < 5 → (c ≡ 3 → ⊥) → (c ≡ 4 → ⊥) → class_of a.kind ≡ c → class_of b.kind ≡ c → LeavesAlike s t true a b
+  pub leaf_same : (c : Class) → Flat c → (c ≡ classes.Number → ⊥) → (c ≡ classes.Text → ⊥) → class_of a.kind ≡ c → class_of b.kind ≡ c → LeavesAlike s t true a b
   unfolding alike_shapes shape_by
   leaf_same c h n m p q sheet f fs = go a.kind b.kind p q
     where
       go : (x y : Kind) → class_of x ≡ c → class_of y ≡ c → true ≡ alike_shapes f (shape_by sheet s t fs a.node a.depth x) (shape_by sheet s t fs b.node b.depth y)
       go kinds.Null kinds.Null u v = refl
-      go kinds.Null kinds.False u v = absurd (omega arith)
-      go kinds.Null kinds.True u v = absurd (omega arith)
-      go kinds.Null kinds.Number u v = absurd (omega arith)
-      go kinds.Null kinds.Text u v = absurd (omega arith)
-      go kinds.Null kinds.Less u v = absurd (omega arith)
-      go kinds.Null kinds.Array u v = absurd (omega arith)
-      go kinds.Null kinds.Object u v = absurd (omega arith)
-      go kinds.Null kinds.Listed u v = absurd (omega arith)
-      go kinds.Null kinds.Named u v = absurd (omega arith)
-      go kinds.False kinds.Null u v = absurd (omega arith)
+      go kinds.Null kinds.False u v = absurd (impossible (cc))
+      go kinds.Null kinds.True u v = absurd (impossible (cc))
+      go kinds.Null kinds.Number u v = absurd (impossible (cc))
+      go kinds.Null kinds.Text u v = absurd (impossible (cc))
+      go kinds.Null kinds.Less u v = absurd (impossible (cc))
+      go kinds.Null kinds.Array u v = absurd (impossible (cc))
+      go kinds.Null kinds.Object u v = absurd (impossible (cc))
+      go kinds.Null kinds.Listed u v = absurd (impossible (cc))
+      go kinds.Null kinds.Named u v = absurd (impossible (cc))
+      go kinds.False kinds.Null u v = absurd (impossible (cc))
       go kinds.False kinds.False u v = refl
-      go kinds.False kinds.True u v = absurd (omega arith)
-      go kinds.False kinds.Number u v = absurd (omega arith)
-      go kinds.False kinds.Text u v = absurd (omega arith)
-      go kinds.False kinds.Less u v = absurd (omega arith)
-      go kinds.False kinds.Array u v = absurd (omega arith)
-      go kinds.False kinds.Object u v = absurd (omega arith)
-      go kinds.False kinds.Listed u v = absurd (omega arith)
-      go kinds.False kinds.Named u v = absurd (omega arith)
-      go kinds.True kinds.Null u v = absurd (omega arith)
-      go kinds.True kinds.False u v = absurd (omega arith)
+      go kinds.False kinds.True u v = absurd (impossible (cc))
+      go kinds.False kinds.Number u v = absurd (impossible (cc))
+      go kinds.False kinds.Text u v = absurd (impossible (cc))
+      go kinds.False kinds.Less u v = absurd (impossible (cc))
+      go kinds.False kinds.Array u v = absurd (impossible (cc))
+      go kinds.False kinds.Object u v = absurd (impossible (cc))
+      go kinds.False kinds.Listed u v = absurd (impossible (cc))
+      go kinds.False kinds.Named u v = absurd (impossible (cc))
+      go kinds.True kinds.Null u v = absurd (impossible (cc))
+      go kinds.True kinds.False u v = absurd (impossible (cc))
       go kinds.True kinds.True u v = refl
-      go kinds.True kinds.Number u v = absurd (omega arith)
-      go kinds.True kinds.Text u v = absurd (omega arith)
-      go kinds.True kinds.Less u v = absurd (omega arith)
-      go kinds.True kinds.Array u v = absurd (omega arith)
-      go kinds.True kinds.Object u v = absurd (omega arith)
-      go kinds.True kinds.Listed u v = absurd (omega arith)
-      go kinds.True kinds.Named u v = absurd (omega arith)
+      go kinds.True kinds.Number u v = absurd (impossible (cc))
+      go kinds.True kinds.Text u v = absurd (impossible (cc))
+      go kinds.True kinds.Less u v = absurd (impossible (cc))
+      go kinds.True kinds.Array u v = absurd (impossible (cc))
+      go kinds.True kinds.Object u v = absurd (impossible (cc))
+      go kinds.True kinds.Listed u v = absurd (impossible (cc))
+      go kinds.True kinds.Named u v = absurd (impossible (cc))
       go kinds.Number y u v = absurd (n (sym u))
       go kinds.Text y u v = absurd (m (sym u))
       go kinds.Less y u v = absurd (m (sym u))
-      go kinds.Array y u v = absurd (omega arith)
-      go kinds.Object y u v = absurd (omega arith)
-      go kinds.Listed y u v = absurd (omega arith)
-      go kinds.Named y u v = absurd (omega arith)
+      go kinds.Array y u v = absurd (h.no_array (sym u))
+      go kinds.Object y u v = absurd (h.no_object (sym u))
+      go kinds.Listed y u v = absurd (h.no_array (sym u))
+      go kinds.Named y u v = absurd (h.no_object (sym u))
 
 -- a part by its node
 touched_part : (sheet : Sheet Condition) (v : Value) {gs hs : lazy.Frames} {m : ℕ} → gs ≡ hs → m ≡ length gs + 1 → touch sheet m gs v ≡ part_of sheet hs v
@@ -431,12 +447,8 @@ module _ (sheet : Sheet Condition) {s : Bytes} {t : List ℕ} (fs : lazy.Frames)
       go kinds.Listed p q = absurd (p refl)
       go kinds.Named p q = absurd (q refl)
 
-  pub part_listed : {r : Operand} {gs : lazy.Frames} {m : ℕ} → o.kind ≡ kinds.Listed → gs ≡ outer o.depth fs → m ≡ length gs + 1 →
+  pub part_written : {r : Operand} {gs : lazy.Frames} {m : ℕ} → (o.kind ≡ kinds.Listed) ⊎ (o.kind ≡ kinds.Named) → gs ≡ outer o.depth fs → m ≡ length gs + 1 →
       Means s t r (touch sheet m gs (tree s t k)) → Means s t r (part_at sheet s t fs o k)
   unfolding part_by
-  part_listed q e l w = record { means = w.means ∙ touched_part sheet (tree s t k) e l ∙ rw q; fits = w.fits }
-
-  pub part_named : {r : Operand} {gs : lazy.Frames} {m : ℕ} → o.kind ≡ kinds.Named → gs ≡ outer o.depth fs → m ≡ length gs + 1 →
-      Means s t r (touch sheet m gs (tree s t k)) → Means s t r (part_at sheet s t fs o k)
-  unfolding part_by
-  part_named q e l w = record { means = w.means ∙ touched_part sheet (tree s t k) e l ∙ rw q; fits = w.fits }
+  part_written (inl q) e l w = record { means = w.means ∙ touched_part sheet (tree s t k) e l ∙ rw q; fits = w.fits }
+  part_written (inr q) e l w = record { means = w.means ∙ touched_part sheet (tree s t k) e l ∙ rw q; fits = w.fits }

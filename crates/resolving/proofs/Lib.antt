@@ -4,3 +4,4 @@ pub mod Alike
 pub mod Marking
 pub mod Gathering
 pub mod Wholes
+pub mod Classes

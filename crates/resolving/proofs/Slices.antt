@@ -25,7 +25,8 @@ use Rattle.paths.specs.Stack.{Named, bound_in, held}
 use Rattle.paths.specs.Stored.{Bound, Room, frame_of, framed, frames_of, table}
 use Rattle.paths.specs.declared.frames.Frame.{Frame}
 use Rattle.paths.specs.declared.frames.Frames.{Frames}
-use Rattle.paths.specs.declared.operand.Bound as code
+use Rattle.paths.specs.declared.operand.Operand.{Operand}
+use Rattle.std.specs.Prelude.{Option}
 use Rattle.paths.specs.declared.roots.Roots.{Roots}
 use Rattle.paths.proofs.Ordered.{node_below}
 use Rattle.paths.proofs.Stack.{top_length}
@@ -110,7 +111,7 @@ module _ (s : Bytes) (t : List ℕ) where
       go true q below = rw (q, find) (record { means = refl; fits = h.0 })
       go false q below = rw (q, find) below
 
-  pub binder_told : {r : code.Bound} (k : Bytes) (fs : List Frame) → Bound s t fs → r ≡ bound_in s k fs → BoundAs s t r (find k (framed s t fs))
+  pub binder_told : {r : Option Operand} (k : Bytes) (fs : List Frame) → Bound s t fs → r ≡ bound_in s k fs → BoundAs s t r (find k (framed s t fs))
   binder_told k fs h e = rw e (binder_as k fs h)
 
 -- what the code asks
@@ -121,11 +122,11 @@ module _ {s : Bytes} {w : List ℕ} {roots : Roots} {f : Frames} (r : Ready s w 
   pub frames_length : length (frames_of s (table w) f) ≡ f.depth
   frames_length = framed_length s (table w) (held f) ∙ top_length f.depth f.slots
 
-  pub ready_outer : {g : Frames} (d : ℕ) → g.depth ≤ f.depth → held g ≡ outer d (held f) → Ready s w roots g
-  ready_outer {g} d l e = record {
+  pub ready_outer : {g : Frames} {under : Roots} → under ≡ roots → (d : ℕ) → g.depth ≤ f.depth → held g ≡ outer d (held f) → Ready s w under g
+  ready_outer {g} q d l e = record {
     rows = r.rows;
     short = r.short;
-    rooted = r.rooted;
+    rooted = rw q r.rooted;
     linked = r.linked;
     bound =
         record {

@@ -1,5 +1,7 @@
 -- A written array or object, its parts looked at one by one.
 -- Assumes nothing.
+use Rattle.std.specs.Prelude.{Option, Some, None, Result as Fallible, Ok, Err}
+use Rattle.std.specs.Option.{is_some}
 use mathlib.Core.Bool.{Bool, false, true, ◌&&◌}
 use mathlib.Core.List.{List, [], ◌++◌, ◌∷◌, append_assoc, append-nil}
 use mathlib.Core.Path.{ap, refl, subst, sym, ◌∙◌, ◌≡◌}
@@ -17,7 +19,7 @@ use Rattle.paths.specs.Children.{ChildAt, ChildrenAt, Given, begun, children_of}
 use Rattle.paths.specs.Layered.{kids, value_node}
 use Rattle.paths.specs.Lazy as lazy
 use Rattle.paths.specs.Lazy.{operand, operand_in, operand_of}
-use Rattle.paths.specs.Marks.{Heard, Left, ResolvedAs, gathered_of, heard, resolved_of, seen_of}
+use Rattle.paths.specs.Marks.{Heard, Left, ResolvedAs, gathered_of, heard, resolved_of}
 use Rattle.paths.specs.Matched.{Holds}
 use Rattle.semantics.specs.Names.{Names}
 use Rattle.semantics.specs.Operand.{Resolved, both, missing, present, same}
@@ -26,13 +28,15 @@ use Rattle.paths.specs.Stored.{Fits, fields_of, items_of, meant, table, tree}
 use Rattle.paths.specs.declared.children.Children.{Children}
 use Rattle.paths.specs.declared.operand.Kind.TheVariants as kinds
 use Rattle.paths.specs.declared.operand.Operand.{Operand}
-use Rattle.paths.specs.declared.operand.Part.TheVariants as parts
-use Rattle.paths.specs.declared.operand.Resolved as code
-use Rattle.paths.specs.declared.operand.Resolved.TheVariants as answers
+use Rattle.paths.specs.declared.operand.EvalError.{EvalError}
+use Rattle.paths.specs.declared.operand.EvalError.TheVariants as errors
 use Rattle.resolving.proofs.Alike.{walk_begins, walk_kids, walk_named}
 use Rattle.resolving.proofs.Marking.{heard_none, heard_then, left_none, left_then}
 use Rattle.paths.proofs.Stands.{impossible}
 use Rattle.paths.proofs.Trees.{array_row, fields_are, from_names, from_nodes, items_are, object_row, operand_at}
+
+abbrev Answer : Type 0
+Answer = Fallible (Option Operand) EvalError
 
 -- the parts at these children, in order
 unfoldable pub parts_at : Sheet Condition → Bytes → List ℕ → lazy.Frames → Bool → List ℕ → Result (Resolved (Unit {0}))
@@ -151,59 +155,47 @@ record SeenAs (quiet : Bool) (s : Bytes) (w w' : List ℕ) (b : Bool) (m : Resul
   means : m ≡ ok is
   as' : as_seen is ≡ so_far b names
 
-module _ {quiet : Bool} {s : Bytes} {w w' : List ℕ} {r : code.Resolved} {m : Result (Resolved lazy.Operand)} (a : ResolvedAs quiet s w w' r m) where
-  part_seen : (b : Bool) → seen_of r ≡ parts.Seen b → SeenAs quiet s w w' b m
-  part_seen b e = go r a.means a.hears e
+module _ {quiet : Bool} {s : Bytes} {w w' : List ℕ} {r : Answer} {m : Result (Resolved lazy.Operand)} (a : ResolvedAs quiet s w w' r m) where
+  part_seen : (x : Option Operand) → r ≡ Ok x → SeenAs quiet s w w' (is_some x) m
+  part_seen x e = go x (subst (λ (y : Answer). resolved_of s (table w) a.names y ≡ m) e a.means) (subst (Heard quiet s (table w) a.names a.met) e a.hears)
     where
-      go : (x : code.Resolved) → resolved_of s (table w) a.names x ≡ m → Heard quiet s (table w) a.names a.met x → seen_of x ≡ parts.Seen b → SeenAs quiet s w w' b m
-      go (answers.Present o) p h q =
-          let z : true ≡ b = cc in
-          subst (λ (y : Bool). SeenAs quiet s w w' y m) z
-          (record {
+      go : (x : Option Operand) → resolved_of s (table w) a.names (Ok x) ≡ m → Heard quiet s (table w) a.names a.met (Ok x) → SeenAs quiet s w w' (is_some x) m
+      go (Some o) p h =
+          record {
             names = [];
             none = λ _. refl;
             left = subst (Left s w w') (h.1 ∙ sym (heard_none quiet)) a.left;
             is = present (stored.operand_of s (table w) o);
             means = sym p;
             as' = refl;
-          })
-      go answers.Missing p h q =
-          let z : false ≡ b = cc in
-          subst (λ (y : Bool). SeenAs quiet s w w' y m) z
-          (record {
+          }
+      go None p h =
+          record {
             names = a.names;
             none = λ f. absurd (impossible (cc));
             left = subst (Left s w w') h a.left;
             is = missing a.names;
             means = sym p;
             as' = refl;
-          })
-      go (answers.Unknown n) p h q = absurd (impossible (cc))
-      go answers.NoId p h q = absurd (impossible (cc))
+          }
 
   -- a refusal of a part is that of the whole
   part_refused :
-      {w₀ : List ℕ} {ns : Names} (y : code.Resolved) → seen_of r ≡ parts.Refused y → Left s w₀ w ns → {M : Result (Resolved lazy.Operand)} →
-      ((f : Refusal) → m ≡ refused f → M ≡ refused f) → ResolvedAs quiet s w₀ w' y M
-  part_refused {w₀} {ns} y e l {M} k = go r a.means a.hears e
+      {w₀ : List ℕ} {ns : Names} (y : EvalError) → r ≡ Err y → Left s w₀ w ns → {M : Result (Resolved lazy.Operand)} →
+      ((f : Refusal) → m ≡ refused f → M ≡ refused f) → ResolvedAs quiet s w₀ w' (Err y) M
+  part_refused {w₀} {ns} y e l {M} k =
+      go y (subst (λ (x : Answer). resolved_of s (table w) a.names x ≡ m) e a.means) (subst (Heard quiet s (table w) a.names a.met) e a.hears)
     where
-      go : (x : code.Resolved) → resolved_of s (table w) a.names x ≡ m → Heard quiet s (table w) a.names a.met x →
-          seen_of x ≡ parts.Refused y → ResolvedAs quiet s w₀ w' y M
-      go (answers.Present o) p h q = absurd (impossible (cc))
-      go answers.Missing p h q = absurd (impossible (cc))
-      go (answers.Unknown n) p h q =
-          let z : answers.Unknown n ≡ y = cc in
-          subst (λ (v : code.Resolved). ResolvedAs quiet s w₀ w' v M) z
-          (record {
+      go : (x : EvalError) → resolved_of s (table w) a.names (Err x) ≡ m → Heard quiet s (table w) a.names a.met (Err x) → ResolvedAs quiet s w₀ w' (Err x) M
+      go (errors.UnknownExpression n) p h =
+          record {
             names = [];
             met = ns ++ a.met;
             means = sym (k _ (sym p ∙ rw l.rows));
             left = left_then l a.left;
             hears = rw l.rows at h;
-          })
-      go answers.NoId p h q =
-          let z : answers.NoId ≡ y = cc in
-          subst (λ (v : code.Resolved). ResolvedAs quiet s w₀ w' v M) z (record { names = []; met = ns ++ a.met; means = sym (k _ (sym p)); left = left_then l a.left; hears = tt })
+          }
+      go errors.NoId p h = record { names = []; met = ns ++ a.met; means = sym (k _ (sym p)); left = left_then l a.left; hears = tt }
 
 -- the loop over parts: w₀ the words at entry, w now
 pub record Gathering (quiet : Bool) (s : Bytes) (w₀ : List ℕ) (sheet : Sheet Condition) (fs : lazy.Frames) (n d : ℕ) (named : Bool)
@@ -221,7 +213,7 @@ pub record Gathering (quiet : Bool) (s : Bytes) (w₀ : List ℕ) (sheet : Sheet
 finish :
     (quiet : Bool) {s : Bytes} {w₀ w : List ℕ} (b y : Bool) (ns : Names) (n d : ℕ) → Holds s (table w₀) y n → d ≤ 32 → (b ≡ true → ns ≡ []) →
     Left s w₀ w (heard quiet ns) →
-    ResolvedAs quiet s w₀ w (gathered_of n d y b) (ok (same (λ _. stored.operand_of s (table w₀) (holder n d y)) (so_far b ns)))
+    ResolvedAs quiet s w₀ w (Ok (gathered_of n d y b)) (ok (same (λ _. stored.operand_of s (table w₀) (holder n d y)) (so_far b ns)))
 unfolding Fits
 finish quiet true true ns n d h few p l =
     record {
@@ -251,8 +243,8 @@ module _ {quiet : Bool} {s : Bytes} {w₀ : List ℕ} {sheet : Sheet Condition} 
     (g : Gathering quiet s w₀ sheet fs n d named l m w whole c) where
   -- no part is left
   pub gather_end :
-      Holds s (table w₀) named n → d ≤ 32 → children_of (table w₀) c ≡ [] → {r : code.Resolved} → r ≡ gathered_of n d named whole →
-      ResolvedAs quiet s w₀ w r m
+      Holds s (table w₀) named n → d ≤ 32 → children_of (table w₀) c ≡ [] → {r : Option Operand} → r ≡ gathered_of n d named whole →
+      ResolvedAs quiet s w₀ w (Ok r) m
   unfolding parts_at
   gather_end h few e q = rw (q, g.rest, e, join_none (so_far whole g.names)) (finish quiet whole named g.names n d h few g.none g.left)
 
@@ -286,16 +278,16 @@ module _ {quiet : Bool} {s : Bytes} {w₀ : List ℕ} {sheet : Sheet Condition} 
         push (ok r) (refused f) = refl
         push (refused f) q = refl
 
-    module _ {w' : List ℕ} {r : code.Resolved} (a : ResolvedAs quiet s w w' r (operand sheet fs (tree s (table w₀) (value_node named k)))) where
-      pub gather_refused : (y : code.Resolved) → seen_of r ≡ parts.Refused y → ResolvedAs quiet s w₀ w' y m
+    module _ {w' : List ℕ} {r : Answer} (a : ResolvedAs quiet s w w' r (operand sheet fs (tree s (table w₀) (value_node named k)))) where
+      pub gather_refused : (y : EvalError) → r ≡ Err y → ResolvedAs quiet s w₀ w' (Err y) m
       gather_refused y e = part_refused a y e g.left (λ f q. turn ∙ rw q)
 
-      pub gather_on : (b : Bool) → seen_of r ≡ parts.Seen b → {whole' : Bool} → whole' ≡ (whole && b) → Gathering quiet s w₀ sheet fs n d named l m w' whole' c'
-      gather_on b e p =
-          let z = part_seen a b e in
+      pub gather_on : (y : Option Operand) → r ≡ Ok y → {whole' : Bool} → whole' ≡ (whole && is_some y) → Gathering quiet s w₀ sheet fs n d named l m w' whole' c'
+      gather_on y e p =
+          let z = part_seen a y e in
           rw p record {
             names = g.names ++ z.names;
-            none = none_step whole b g.names z.names g.none z.none;
+            none = none_step whole (is_some y) g.names z.names g.none z.none;
             left = subst (Left s w₀ w') (sym (heard_then quiet g.names z.names)) (left_then g.left z.left);
             walk = x.walk;
             over = x.same ∙ g.over;
@@ -303,7 +295,7 @@ module _ {quiet : Bool} {s : Bytes} {w₀ : List ℕ} {sheet : Sheet Condition} 
             rest =
                 turn ∙
                 ap
-                (λ (y : Result (Resolved lazy.Operand)). y >>= λ r₁. parts_at sheet s (table w₀) fs named (children_of (table w₀) c') >>=
+                (λ (v : Result (Resolved lazy.Operand)). v >>= λ r₁. parts_at sheet s (table w₀) fs named (children_of (table w₀) c') >>=
                 λ rs. ok
                 (same (λ _. stored.operand_of s (table w₀) (holder n d named))
                 (join (so_far whole g.names) (both (λ _ _. tt) r₁ rs)))) z.means ∙
@@ -311,9 +303,9 @@ module _ {quiet : Bool} {s : Bytes} {w₀ : List ℕ} {sheet : Sheet Condition} 
                 (λ rs. ap (λ (y : Resolved (Unit {0})). ok (same (λ _. stored.operand_of s (table w₀) (holder n d named)) y))
                 (ap (join (so_far whole g.names))
                 (seen_both z.is rs ∙ ap (λ (y : Resolved (Unit {0})). join y rs) z.as') ∙
-                sym (join_assoc (so_far whole g.names) (so_far b z.names) rs) ∙
+                sym (join_assoc (so_far whole g.names) (so_far (is_some y) z.names) rs) ∙
                 ap (λ (y : Resolved (Unit {0})). join y rs)
-                (sym (sofar_step whole b g.names z.names g.none z.none)))));
+                (sym (sofar_step whole (is_some y) g.names z.names g.none z.none)))));
           }
 
 pub gather_begin : (quiet : Bool) (s : Bytes) (w : List ℕ) (sheet : Sheet Condition) (fs : lazy.Frames) (n d : ℕ) (named : Bool) (l : ℕ) →

@@ -9,54 +9,35 @@ ghost use Rattle.paths.specs.Ready.{PathAt, Ready};
 ghost use Rattle.members.specs.Sheet.{sheet_in};
 ghost use Rattle.paths.specs.Stored.{Means, OperandAt, frames_of, operand_of, table, tree};
 
-use paths::frames::Frames;
 use paths::member::member_of;
-use paths::operand::{
-    Bound, Kind, Looked, Operand, as_looked, nothing, or_null, value_at, written_kind,
-};
-use paths::path::{Rest, part_is_word, rest_at};
-use paths::roots::{Roots, base_at, root_at, root_named};
+use paths::operand::{Kind, LookupError, Operand, nothing, or_null, value_at, written_kind};
+use paths::path::{part_is_word, rest_at};
+use paths::roots::{base_at, root_at, root_named};
 use paths::rows::{kind_at, start_at};
+use paths::scope::Scope;
 use paths::written::{Written, classify};
+use strings::rows::Kind as RowKind;
 
 // A written node under frames, its parts untouched. The number falls from expression to expression.
 #[cycle(look_up_step_to_touch_at_walk_on)]
-pub fn touch_at(
-    s: &[u8],
-    work: &[u32],
-    roots: Roots,
-    frames: Frames,
-    node: usize,
-    left: usize,
-) -> Operand
-    requires { Ready s.now work.now roots frames × HasNode s.now (table work.now) node }
-    ensures { Means s.now (table work.now) result (touch (sheet_in s.now) left (frames_of s.now (table work.now) frames) (tree s.now (table work.now) node)) }
+pub fn touch_at(s: &[u8], work: &[u32], scope: Scope, node: usize, left: usize) -> Operand
+    requires { Ready s.now work.now scope.roots scope.frames × HasNode s.now (table work.now) node }
+    ensures { Means s.now (table work.now) result (touch (sheet_in s.now) left (frames_of s.now (table work.now) scope.frames) (tree s.now (table work.now) node)) }
 {
     if left == 0 {
         return nothing();
     }
-    let code = kind_at(work, node);
-    if code != 4 {
-        return Operand {
-            node: node,
-            depth: frames.depth,
-            kind: written_kind(code),
-        };
-    }
-    match classify(s, start_at(work, node)) {
-        Written::Plain => Operand {
-            node: node,
-            depth: 0,
-            kind: Kind::Text,
+    match kind_at(work, node) {
+        RowKind::Text => match classify(s, start_at(work, node)) {
+            Written::Plain => Operand::at(node, Kind::Text),
+            Written::Escaped(_) => Operand::at(node, Kind::Less),
+            Written::Expression(next) => or_null(look_up(s, work, scope, &s[next..], left - 1)),
         },
-        Written::Escaped(_p) => Operand {
-            node: node,
-            depth: 0,
-            kind: Kind::Less,
+        kind => Operand {
+            node,
+            depth: scope.frames.depth,
+            kind: written_kind(kind),
         },
-        Written::Expression(next) => {
-            or_null(look_up(s, work, roots, frames, &s[next..], left - 1))
-        }
     }
 }
 
@@ -65,29 +46,28 @@ pub fn touch_at(
 pub fn look_up(
     s: &[u8],
     work: &[u32],
-    roots: Roots,
-    frames: Frames,
+    scope: Scope,
     path: &[u8],
     left: usize,
-) -> Looked
-    requires { Ready s.now work.now roots frames × PathAt path.now }
-    ensures { LookedAs s.now (table work.now) (text_at path.now 0) result (look (sheet_in s.now) (touch (sheet_in s.now) left) (frames_of s.now (table work.now) frames) (text_at path.now 0)) }
+) -> Result<Option<Operand>, LookupError>
+    requires { Ready s.now work.now scope.roots scope.frames × PathAt path.now }
+    ensures { LookedAs s.now (table work.now) (text_at path.now 0) result (look (sheet_in s.now) (touch (sheet_in s.now) left) (frames_of s.now (table work.now) scope.frames) (text_at path.now 0)) }
 {
-    let bound = frames.find(s, path);
+    let bound = scope.frames.find(s, path);
     match rest_at(path) {
-        Rest::Nothing => match bound {
-            Bound::At(o) => Looked::At(o),
-            Bound::Nothing => root_at(roots, root_named(path)),
+        None => match bound {
+            Some(o) => Ok(Some(o)),
+            None => root_at(scope.roots, root_named(path)),
         },
-        Rest::At(next) => match bound {
-            Bound::At(o) => as_looked(walk_on(s, work, roots, frames, &path[next..], o, left)),
-            Bound::Nothing => match base_at(roots, root_named(path)) {
-                Bound::Nothing => Looked::Unknown,
-                Bound::At(o) => {
+        Some(next) => match bound {
+            Some(o) => Ok(walk_on(s, work, scope, &path[next..], o, left)),
+            None => match base_at(scope.roots, root_named(path)) {
+                None => Err(LookupError::Unknown),
+                Some(o) => {
                     if part_is_word(&path[next..], b"") {
-                        return Looked::Nothing;
+                        return Ok(None);
                     }
-                    as_looked(walk_on(s, work, roots, frames, &path[next..], o, left))
+                    Ok(walk_on(s, work, scope, &path[next..], o, left))
                 }
             },
         },
@@ -99,33 +79,24 @@ pub fn look_up(
 pub fn step_to(
     s: &[u8],
     work: &[u32],
-    roots: Roots,
-    frames: Frames,
+    scope: Scope,
     path: &[u8],
     o: Operand,
     left: usize,
-) -> Bound
-    requires { Ready s.now work.now roots frames × PathAt path.now × OperandAt s.now (table work.now) o }
-    ensures { BoundAs s.now (table work.now) result (step_from (sheet_in s.now) (touch (sheet_in s.now) left) (frames_of s.now (table work.now) frames) (part (text_at path.now 0)) (operand_of s.now (table work.now) o)) }
+) -> Option<Operand>
+    requires { Ready s.now work.now scope.roots scope.frames × PathAt path.now × OperandAt s.now (table work.now) o }
+    ensures { BoundAs s.now (table work.now) result (step_from (sheet_in s.now) (touch (sheet_in s.now) left) (frames_of s.now (table work.now) scope.frames) (part (text_at path.now 0)) (operand_of s.now (table work.now) o)) }
 {
-    let kind = o.kind;
-    let node = o.node;
-    match kind {
+    match o.kind {
         Kind::Object => {
-            let v = member_of(s, work, node, path);
-            if v == 0 {
-                return Bound::Nothing;
-            }
-            Bound::At(value_at(work, v))
+            let v = member_of(s, work, o.node, path)?;
+            Some(value_at(work, v))
         }
         Kind::Named => {
-            let v = member_of(s, work, node, path);
-            if v == 0 {
-                return Bound::Nothing;
-            }
-            Bound::At(touch_at(s, work, roots, frames.outer(o.depth), v, left))
+            let v = member_of(s, work, o.node, path)?;
+            Some(touch_at(s, work, scope.outer(o.depth), v, left))
         }
-        _ => Bound::Nothing,
+        _ => None,
     }
 }
 
@@ -134,21 +105,17 @@ pub fn step_to(
 pub fn walk_on(
     s: &[u8],
     work: &[u32],
-    roots: Roots,
-    frames: Frames,
+    scope: Scope,
     path: &[u8],
     o: Operand,
     left: usize,
-) -> Bound
-    requires { Ready s.now work.now roots frames × PathAt path.now × OperandAt s.now (table work.now) o }
-    ensures { BoundAs s.now (table work.now) result (walk_from (sheet_in s.now) (touch (sheet_in s.now) left) (frames_of s.now (table work.now) frames) (parts (text_at path.now 0)) (operand_of s.now (table work.now) o)) }
+) -> Option<Operand>
+    requires { Ready s.now work.now scope.roots scope.frames × PathAt path.now × OperandAt s.now (table work.now) o }
+    ensures { BoundAs s.now (table work.now) result (walk_from (sheet_in s.now) (touch (sheet_in s.now) left) (frames_of s.now (table work.now) scope.frames) (parts (text_at path.now 0)) (operand_of s.now (table work.now) o)) }
 {
-    let found = step_to(s, work, roots, frames, path, o, left);
-    match found {
-        Bound::Nothing => Bound::Nothing,
-        Bound::At(p) => match rest_at(path) {
-            Rest::Nothing => Bound::At(p),
-            Rest::At(next) => walk_on(s, work, roots, frames, &path[next..], p, left),
-        },
+    let p = step_to(s, work, scope, path, o, left)?;
+    match rest_at(path) {
+        None => Some(p),
+        Some(next) => walk_on(s, work, scope, &path[next..], p, left),
     }
 }

@@ -1,21 +1,23 @@
 // Operands: a written value under frames, every part looked at and none kept. A missing expression's node is marked, unless quiet.
-ghost use Rattle.std.specs.Prelude.{◌&&◌, ◌≡◌, ◌*◌, ◌+◌, ◌<◌, ◌≤◌, length, set};
+ghost use Rattle.std.specs.Prelude.{◌≡◌, ◌*◌, ◌+◌, ◌<◌, ◌≤◌, length, set};
 ghost use Rattle.json_text.specs.Held.{HasNode};
 ghost use Rattle.json_text.specs.Limits.{depth};
 ghost use Rattle.json_text.specs.Links.{link_at};
 ghost use Rattle.paths.specs.Lazy.{operand};
 ghost use Rattle.paths.specs.Matched.{Holds};
-ghost use Rattle.paths.specs.Marks.{Observed, ResolvedAs, gathered_of, missed, seen_of};
+ghost use Rattle.paths.specs.Marks.{Observed, ResolvedAs, but_null, gathered_of, missed};
 ghost use Rattle.paths.specs.Ready.{Ready};
 ghost use Rattle.members.specs.Sheet.{sheet_in};
 ghost use Rattle.paths.specs.Stored.{HasKind, frames_of, table, tree};
-ghost use Rattle.paths.specs.declared.operand.Resolved.TheVariants.{Missing};
 
-use paths::children::{Child, Children};
-use paths::frames::Frames;
-use paths::operand::{Kind, Looked, Operand, Part, Resolved};
-use paths::roots::Roots;
-use paths::written::Written;
+use crate::layer::value_node;
+use crate::reach::look_up;
+use paths::children::Children;
+use paths::operand::{EvalError, Kind, Operand, value_kind};
+use paths::rows::{kind_at, start_at};
+use paths::scope::Scope;
+use paths::written::{Written, classify};
+use strings::rows::Kind as RowKind;
 
 fn mark(work: &mut [u32], node: usize)
     requires { (16384 ≤ length work.old) × (node < 4096) }
@@ -25,132 +27,94 @@ fn mark(work: &mut [u32], node: usize)
     work[at] = 2 * (work[at] / 2) + 1;
 }
 
-fn miss(work: &mut [u32], node: usize, quiet: bool) -> Resolved
+// A missing expression's node is marked, unless quiet.
+// A flag and no closure: what it would change is the table that is lent beside it, and each function of the cycle would have to carry what it promises.
+fn miss(work: &mut [u32], node: usize, quiet: bool)
     requires { (16384 ≤ length work.old) × (node < 4096) }
-    ensures { (result ≡ Missing) × (work.new ≡ missed quiet work.old node) }
+    ensures { work.new ≡ missed quiet work.old node }
 {
     if quiet {
-        return Resolved::Missing;
+        return;
     }
     mark(work, node);
-    Resolved::Missing
 }
 
 // What an expression gave: null is missing.
-fn observed(work: &mut [u32], found: Operand, node: usize, quiet: bool) -> Resolved
+fn observed(work: &mut [u32], found: Option<Operand>, node: usize, quiet: bool) -> Option<Operand>
     requires { (16384 ≤ length work.old) × (node < 4096) }
     ensures { Observed quiet work.old work.new found node result }
 {
-    let kind = found.kind;
-    if let Kind::Null = kind {
-        return miss(work, node, quiet);
+    match but_null(found) {
+        Some(o) => Some(o),
+        None => {
+            miss(work, node, quiet);
+            None
+        }
     }
-    Resolved::Present(found)
+}
+
+// What was found, but for null.
+fn but_null(found: Option<Operand>) -> Option<Operand>
+    ensures { result ≡ but_null found }
+{
+    match found {
+        Some(o) => match o.kind {
+            Kind::Null => None,
+            _ => Some(o),
+        },
+        None => None,
+    }
 }
 
 pub fn resolve_text(
     s: &[u8],
     work: &mut [u32],
-    roots: Roots,
-    frames: Frames,
+    scope: Scope,
     node: usize,
     quiet: bool,
-) -> Resolved
-    requires { Ready s.now work.old roots frames × HasKind s.now (table work.old) node 4 }
-    ensures { ResolvedAs quiet s.now work.old work.new result (operand (sheet_in s.now) (frames_of s.now (table work.old) frames) (tree s.now (table work.old) node)) }
+) -> Result<Option<Operand>, EvalError>
+    requires { Ready s.now work.old scope.roots scope.frames × HasKind s.now (table work.old) node 4 }
+    ensures { ResolvedAs quiet s.now work.old work.new result (operand (sheet_in s.now) (frames_of s.now (table work.old) scope.frames) (tree s.now (table work.old) node)) }
 {
-    let start = paths::rows::start_at(work, node);
-    match paths::written::classify(s, start) {
-        Written::Plain => Resolved::Present(Operand {
-            node: node,
-            depth: 0,
-            kind: Kind::Text,
-        }),
-        Written::Escaped(_p) => Resolved::Present(Operand {
-            node: node,
-            depth: 0,
-            kind: Kind::Less,
-        }),
-        Written::Expression(next) => {
-            match crate::reach::look_up(s, work, roots, frames, &s[next..], frames.depth) {
-                Looked::At(o) => observed(work, o, node, quiet),
-                Looked::Nothing => miss(work, node, quiet),
-                Looked::Unknown => Resolved::Unknown(node),
-                Looked::NoId => Resolved::NoId,
-            }
-        }
-    }
-}
-
-fn seen(r: Resolved) -> Part
-    ensures { result ≡ seen_of r }
-{
-    match r {
-        Resolved::Present(_o) => Part::Seen(true),
-        Resolved::Missing => Part::Seen(false),
-        Resolved::Unknown(n) => Part::Refused(Resolved::Unknown(n)),
-        Resolved::NoId => Part::Refused(Resolved::NoId),
+    match classify(s, start_at(work, node)) {
+        Written::Plain => Ok(Some(Operand::at(node, Kind::Text))),
+        Written::Escaped(_) => Ok(Some(Operand::at(node, Kind::Less))),
+        Written::Expression(next) => match look_up(s, work, scope, &s[next..], scope.frames.depth) {
+            Ok(found) => Ok(observed(work, found, node, quiet)),
+            Err(e) => Err(e.at(node)),
+        },
     }
 }
 
 // A whole whose parts were all looked at.
-fn gathered(node: usize, depth: usize, named: bool, whole: bool) -> Resolved
+fn gathered(node: usize, depth: usize, named: bool, whole: bool) -> Option<Operand>
     ensures { result ≡ gathered_of node depth named whole }
 {
-    if whole {
-        if named {
-            return Resolved::Present(Operand {
-                node: node,
-                depth: depth,
-                kind: Kind::Named,
-            });
-        }
-        return Resolved::Present(Operand {
-            node: node,
-            depth: depth,
-            kind: Kind::Listed,
-        });
+    if !whole {
+        return None;
     }
-    Resolved::Missing
-}
-
-fn both(a: bool, b: bool) -> bool
-    ensures { result ≡ a && b }
-{
-    if a {
-        return b;
-    }
-    false
+    let kind = if named { Kind::Named } else { Kind::Listed };
+    Some(Operand { node, depth, kind })
 }
 
 #[cycle(resolve_resolve_parts)]
 pub fn resolve(
     s: &[u8],
     work: &mut [u32],
-    roots: Roots,
-    frames: Frames,
+    scope: Scope,
     node: usize,
     quiet: bool,
     left: usize,
-) -> Resolved
-    requires { Ready s.now work.old roots frames × HasNode s.now (table work.old) node × (depth (tree s.now (table work.old) node) ≤ left) }
-    ensures { ResolvedAs quiet s.now work.old work.new result (operand (sheet_in s.now) (frames_of s.now (table work.old) frames) (tree s.now (table work.old) node)) }
+) -> Result<Option<Operand>, EvalError>
+    requires { Ready s.now work.old scope.roots scope.frames × HasNode s.now (table work.old) node × (depth (tree s.now (table work.old) node) ≤ left) }
+    ensures { ResolvedAs quiet s.now work.old work.new result (operand (sheet_in s.now) (frames_of s.now (table work.old) scope.frames) (tree s.now (table work.old) node)) }
 {
-    let code = paths::rows::kind_at(work, node);
-    if code == 4 {
-        return resolve_text(s, work, roots, frames, node, quiet);
+    match kind_at(work, node) {
+        RowKind::Text => resolve_text(s, work, scope, node, quiet),
+        RowKind::Array => resolve_parts(s, work, scope, node, false, quiet, left),
+        RowKind::Object => resolve_parts(s, work, scope, node, true, quiet, left),
+        kind => Ok(Some(Operand::at(node, value_kind(kind)))),
     }
-    if code == 5 {
-        return resolve_parts(s, work, roots, frames, node, false, quiet, left);
-    }
-    if code == 6 {
-        return resolve_parts(s, work, roots, frames, node, true, quiet, left);
-    }
-    Resolved::Present(Operand {
-        node: node,
-        depth: 0,
-        kind: paths::operand::value_kind(code),
-    })
 }
 
 // Elements by place, members by ascending key, up to the first refusal.
@@ -158,35 +122,24 @@ pub fn resolve(
 fn resolve_parts(
     s: &[u8],
     work: &mut [u32],
-    roots: Roots,
-    frames: Frames,
+    scope: Scope,
     node: usize,
     named: bool,
     quiet: bool,
     left: usize,
-) -> Resolved
-    requires { Ready s.now work.old roots frames × Holds s.now (table work.old) named node × (depth (tree s.now (table work.old) node) ≤ left) }
-    ensures { ResolvedAs quiet s.now work.old work.new result (operand (sheet_in s.now) (frames_of s.now (table work.old) frames) (tree s.now (table work.old) node)) }
+) -> Result<Option<Operand>, EvalError>
+    requires { Ready s.now work.old scope.roots scope.frames × Holds s.now (table work.old) named node × (depth (tree s.now (table work.old) node) ≤ left) }
+    ensures { ResolvedAs quiet s.now work.old work.new result (operand (sheet_in s.now) (frames_of s.now (table work.old) scope.frames) (tree s.now (table work.old) node)) }
 {
     let mut whole = true;
     let mut c = Children::of(work, node, named);
     loop {
-        match c.next(work) {
-            Child::End => {
-                return gathered(node, frames.depth, named, whole);
-            }
-            Child::Is(x) => {
-                let v = crate::layer::value_node(named, x.node);
-                match seen(resolve(s, work, roots, frames, v, quiet, left - 1)) {
-                    Part::Refused(r) => {
-                        return r;
-                    }
-                    Part::Seen(present) => {
-                        whole = both(whole, present);
-                    }
-                }
-                c = x.rest;
-            }
-        }
+        let Some(x) = c.next(work) else {
+            return Ok(gathered(node, scope.frames.depth, named, whole));
+        };
+        let v = value_node(named, x.node);
+        let part = resolve(s, work, scope, v, quiet, left - 1)?;
+        whole &= part.is_some();
+        c = x.rest;
     }
 }

@@ -1,3 +1,4 @@
+pub mod Stopping
 pub mod Walking
 pub mod Eligibility
 pub mod Starting

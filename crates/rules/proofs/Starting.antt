@@ -2,8 +2,8 @@
 -- Assumes nothing.
 use mathlib.Core.Bool.{Bool, false, true}
 use mathlib.Core.List.{List, ◌∷◌}
-use mathlib.Core.Option.{Option}
-use mathlib.Core.Path.{ap, subst, sym, ◌∙◌, ◌≡◌}
+use Rattle.std.specs.Prelude.{MatchOption, Option, Some, None}
+use mathlib.Core.Path.{ap, refl, subst, sym, ◌∙◌, ◌≡◌}
 use Prim.Native.Nat.{ℕ, ◌+◌, ◌<◌, ◌≤◌}
 use native.Mathlib.Omega.{arith}
 use Rattle.strings.specs.Answers.{FoundTold}
@@ -12,8 +12,6 @@ use Rattle.json_text.specs.Held.{AreMembers}
 use Rattle.json_text.specs.Json.{Value, entries}
 use Rattle.json_text.specs.Refusal.{Result}
 use Rattle.json_text.specs.Table.{after_at, kind_at, members_at}
-use Rattle.strings.specs.declared.rows.Found.{Found}
-use Rattle.strings.specs.declared.rows.Found.TheVariants as founds
 use Rattle.sheet.proofs.Given.{EffectHere, ObjectHere, by_move, by_word, effect_given, move_given, outcome_given}
 use Rattle.sheet.specs.Accepted.{EachGives, Given, Gives, MayGive, OutcomeGives, node_of}
 use Rattle.members.specs.Condition.{Condition, condition}
@@ -33,7 +31,7 @@ pub members_behind : {s : Bytes} {w : List ℕ} {n e : ℕ} → ObjectHere s w n
 members_behind {s} {w} {n} h q = subst (λ (x : ℕ). AreMembers s w 64 (n + 1) x) (sym q) h.members
 
 -- the node of a member that must be there
-pub given_node : {A : Type 0} {kind : Value → Result A} {s : Bytes} {w : List ℕ} {f : Found} {a : A} → Given kind s w f a → {x : ℕ} → x ≡ node_of f → Gives kind s w x a
+pub given_node : {A : Type 0} {kind : Value → Result A} {s : Bytes} {w : List ℕ} {f : Option ℕ} {a : A} → Given kind s w f a → {x : ℕ} → x ≡ node_of f → Gives kind s w x a
 unfolding node_of
 given_node {A} {kind} {s} {w} {f} {a} g q = subst (λ (i : ℕ). Gives kind s w i a) (sym (q ∙ ap node_of g.found)) g.gives
 
@@ -48,13 +46,13 @@ move_sources s w {n} {e} m q named f g =
     subst (SourcesAt s w f) (sym y.comes.found) (x.0, x.1, x.2, y.comes.gives)
 
 -- ---- an effect
-module _ (s : Bytes) (w : List ℕ) {e : Found} where
-  pub none_stays : e ≡ founds.Nothing → (f : Option Effect) → MayGive an_effect s w e f → SourcesAt s w (or_stays f) founds.Nothing
+module _ (s : Bytes) (w : List ℕ) {e : Option ℕ} where
+  pub none_stays : e ≡ None → (f : Option Effect) → MayGive an_effect s w e f → SourcesAt s w (or_stays f) None
   unfolding SourcesAt
   none_stays q f g = ap or_stays (missing an_effect s w q g)
 
-  module _ (n : ℕ) (q : e ≡ founds.At n) where
-    pub word_stays : kind_at w n ≡ 4 → (f : Option Effect) → MayGive an_effect s w e f → SourcesAt s w (or_stays f) founds.Nothing
+  module _ (n : ℕ) (q : e ≡ Some n) where
+    pub word_stays : kind_at w n ≡ 4 → (f : Option Effect) → MayGive an_effect s w e f → SourcesAt s w (or_stays f) None
     unfolding SourcesAt
     word_stays k f g = let t = there an_effect s w n q g in ap or_stays t.1 ∙ go t.0 (effect_given t.2)
       where
@@ -65,7 +63,7 @@ module _ (s : Bytes) (w : List ℕ) {e : Found} where
     -- an effect that is no word is an object with its move
     record Moving (a : Effect) : Type 0 where
       pub here : ObjectHere s w n
-      pub given : (r : Found) → FoundTold s w (find (ascii "moves") (entries (members_at s w (n + 1) (after_at w n)))) r → Given a_move s w r a
+      pub given : (r : Option ℕ) → FoundTold s w (find (ascii "moves") (entries (members_at s w (n + 1) (after_at w n)))) r → Given a_move s w r a
 
     moving : (kind_at w n ≡ 4 → ⊥) → (f : Option Effect) (g : MayGive an_effect s w e f) → Moving (there an_effect s w n q g).0
     moving k f g = go (there an_effect s w n q g).0 (effect_given (there an_effect s w n q g).2)
@@ -77,11 +75,11 @@ module _ (s : Bytes) (w : List ℕ) {e : Found} where
     pub object_moving : (kind_at w n ≡ 4 → ⊥) → Known (MayGive an_effect s w e) → ObjectHere s w n
     object_moving k h = (moving k h.given h.known).here
 
-    module _ (k : kind_at w n ≡ 4 → ⊥) {end : ℕ} (p : end ≡ after_at w n) {r : Found} (told : FoundTold s w (find (ascii "moves") (entries (members_at s w (n + 1) end))) r) where
+    module _ (k : kind_at w n ≡ 4 → ⊥) {end : ℕ} (p : end ≡ after_at w n) {r : Option ℕ} (told : FoundTold s w (find (ascii "moves") (entries (members_at s w (n + 1) end))) r) where
       its_move : (f : Option Effect) (g : MayGive an_effect s w e f) → Given a_move s w r (there an_effect s w n q g).0
       its_move f g = (moving k f g).given r (subst (λ (i : ℕ). FoundTold s w (find (ascii "moves") (entries (members_at s w (n + 1) i))) r) p told)
 
-      pub move_node : Known (MayGive an_effect s w e) → (m : ℕ) → r ≡ founds.At m → Known (Gives a_move s w m)
+      pub move_node : Known (MayGive an_effect s w e) → (m : ℕ) → r ≡ Some m → Known (Gives a_move s w m)
       move_node h m i =
           let x = its_move h.given h.known in let j : x.node ≡
           m = cc (x.found, i) in
@@ -91,7 +89,7 @@ module _ (s : Bytes) (w : List ℕ) {e : Found} where
           }
 
       pub as_move :
-          (m : ℕ) → r ≡ founds.At m → (v : Found) → ((f : Effect) → Gives a_move s w m f → SourcesAt s w f v) → (f : Option Effect) →
+          (m : ℕ) → r ≡ Some m → (v : Option ℕ) → ((f : Effect) → Gives a_move s w m f → SourcesAt s w f v) → (f : Option Effect) →
           MayGive an_effect s w e f → SourcesAt s w (or_stays f) v
       as_move m i v a f g =
           let x = its_move f g in
@@ -99,18 +97,25 @@ module _ (s : Bytes) (w : List ℕ) {e : Found} where
           subst (λ (y : Effect). SourcesAt s w y v) (sym (ap or_stays (there an_effect s w n q g).1))
           (a (there an_effect s w n q g).0 (subst (λ (y : ℕ). Gives a_move s w y (there an_effect s w n q g).0) j x.gives))
 
-      pub no_move : r ≡ founds.Nothing → (v : Found) → (f : Option Effect) → MayGive an_effect s w e f → SourcesAt s w (or_stays f) v
-      no_move i v f g = let x = its_move f g in let z : founds.Nothing ≡ founds.At x.node = sym i ∙ x.found in let y : ◌≡◌ {A = ℕ} 0 1 = cc in absurd (omega arith)
+      pub no_move : r ≡ None → (v : Option ℕ) → (f : Option Effect) → MayGive an_effect s w e f → SourcesAt s w (or_stays f) v
+      no_move i v f g = let x = its_move f g in let z : None ≡ Some x.node = sym i ∙ x.found in let y : ◌≡◌ {A = ℕ} 0 1 = cc in absurd (omega arith)
 
 -- ---- a text among them
-module _ (s : Bytes) (w : List ℕ) (f : Effect) {r : Found} (h : SourcesAt s w f r) where
-  pub no_sources : r ≡ founds.Nothing → (t : Bytes) → false ≡ is_one_of t (sources f)
+module _ (s : Bytes) (w : List ℕ) (f : Effect) {r : Option ℕ} (h : SourcesAt s w f r) where
+  pub no_sources : r ≡ None → (t : Bytes) → false ≡ is_one_of t (sources f)
   unfolding SourcesAt is_one_of
   no_sources q t = let e : f ≡ stays = subst (SourcesAt s w f) q h in ap (λ (y : Effect). is_one_of t (sources y)) (sym e)
 
-  pub sources_here : (n : ℕ) → r ≡ founds.At n → Gives some_texts s w n (sources f)
+  pub sources_here : (n : ℕ) → r ≡ Some n → Gives some_texts s w n (sources f)
   unfolding SourcesAt
   sources_here n q = let x = subst (SourcesAt s w f) q h in subst (λ (y : Effect). Gives some_texts s w n (sources y)) (sym x.2) x.3
+
+-- whether a text is one of them
+pub starts_told :
+    (s : Bytes) (w : List ℕ) (f : Effect) (r : Option ℕ) → SourcesAt s w f r → (t : Bytes) (b : Bool) →
+    MatchOption r (b ≡ false) (λ n. (us : List Bytes) → Gives some_texts s w n us → b ≡ is_one_of t us) → b ≡ is_one_of t (sources f)
+starts_told s w f None h t b e = e ∙ no_sources s w f h refl t
+starts_told s w f (Some n) h t b e = e (sources f) (sources_here s w f h n refl)
 
 -- ---- an outcome
 -- the members of the outcome at a node
@@ -132,11 +137,11 @@ unfolding is_source
 starting t o os b q = ap {B = Bool} (λ (c : Bool). elim c [ true ↦ true | false ↦ is_source t os ]) q
 
 module _ {s : Bytes} {w : List ℕ} {from e : ℕ} (t : Bytes) {k : ℕ}
-    (l : Walking (an_outcome condition) s w from e (is_source t) (is_source t) k) (h : k < e) {e' : ℕ} (p : e' ≡ after_at w k)
-    {m : OutcomeMembers} (named : OutcomeNamed s w (members_at s w (k + 1) e') m) (b : Bool)
+    (l : Walking (an_outcome condition) s w from e (is_source t) (is_source t) k) (h : k < e)
+    {m : OutcomeMembers} (given : (o : Outcome Condition) → Gives (an_outcome condition) s w k o → OutcomeGives s w m o) (b : Bool)
     (a : (f : Option Effect) → MayGive an_effect s w m.effect f → b ≡ is_one_of t (sources (or_stays f))) where
   here_is : is_one_of t (sources (next l h).first.effect) ≡ b
-  here_is = let g = outcome_members p named (next l h).here in sym (a g.does g.effect ∙ ap (λ (y : Effect). is_one_of t (sources y)) (sym g.is_effect))
+  here_is = let g = given (next l h).first (next l h).here in sym (a g.does g.effect ∙ ap (λ (y : Effect). is_one_of t (sources y)) (sym g.is_effect))
 
   pub starts_here : b ≡ true → (os : List (Outcome Condition)) → EachGives (an_outcome condition) s w from e os → true ≡ is_source t os
   starts_here q = settled l h true (sym (starting t (next l h).first (next l h).others true (here_is ∙ q)))

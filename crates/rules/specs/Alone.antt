@@ -1,16 +1,20 @@
 -- A condition evaluated alone: the marks are cleared, so that only its own names are marked then.
 -- Assumes nothing.
-use Rattle.std.specs.Prelude.{List, ◌≡◌, ℕ, ◌%◌, ◌<◌, ◌≤◌, drop, get_or, length}
-use Rattle.comparison.specs.Answers.{outcome_of}
-use Rattle.comparison.specs.declared.comparison.Outcome.{Outcome}
-use Rattle.comparison.specs.declared.comparison.Outcome.TheVariants as outcomes
+use Rattle.std.specs.Prelude.{Result as Fallible}
+use Rattle.std.specs.Prelude.{List, ◌≡◌, ℕ, ◌%◌, ◌<◌, ◌≤◌, drop, get_or, length, Ok, Err}
+use Rattle.paths.specs.declared.operand.EvalError.{EvalError}
+use Rattle.paths.specs.declared.operand.EvalError.TheVariants as errors
 use Rattle.writer.specs.Meaning.{names_in}
 use Rattle.writer.specs.Texts.{NamesHeld}
+use Rattle.writer.specs.declared.answer.Answer as code
 use Rattle.paths.specs.Stored.{HasKind, table}
 use Rattle.json_text.specs.Bytes.{Bytes}
-use Rattle.json_text.specs.Refusal.{Result}
+use Rattle.json_text.specs.Refusal.{Result, ok}
+use Rattle.rules.specs.Told.{Stops}
 use Rattle.semantics.specs.Evaluate.{Answer}
 use Rattle.semantics.specs.Names.{Names, ascending}
+use Rattle.semantics.specs.Told.{truth_of}
+use Rattle.semantics.specs.declared.truth.Truth.{Truth as CodeTruth}
 
 -- all but the marks is as before
 pub record OnlyMarks (w w' : List ℕ) : Type 0 where
@@ -23,14 +27,22 @@ pub record Unmarked (w w' : List ℕ) (upto : ℕ) : Type 0 where
   pub only : OnlyMarks w w'
   pub unmarked : (i : ℕ) → 12288 ≤ i → i < upto → get_or w' i 0 % 2 ≡ 0
 
--- marked are the names of a judged condition, each at a text's node; the node of a refusal is a text's
-abbrev pub OwnMarks : Bytes → List ℕ → Names → Outcome → Type 0
-OwnMarks s w ns (outcomes.Judged x) = NamesHeld s w × (names_in s w ≡ ascending ns)
-OwnMarks s w ns (outcomes.Unknown n) = HasKind s (table w) n 4
-OwnMarks s w ns outcomes.NoId = Unit {0}
+-- the node of a refused expression is a text's
+abbrev pub RefusedAt : Bytes → List ℕ → EvalError → Type 0
+RefusedAt s w (errors.UnknownExpression n) = HasKind s (table w) n 4
+RefusedAt s w errors.NoId = Unit {0}
 
-pub record Alone (s : Bytes) (w w' : List ℕ) (r : Outcome) (whole : Result Answer) : Type 0 where
+-- a judged condition: marked are its names, each at a text's node
+pub record Judged (s : Bytes) (w : List ℕ) (whole : Result Answer) (t : CodeTruth) : Type 0 where
   pub names : Names
-  pub means : outcome_of s (table w') names r ≡ whole
-  pub marks : OwnMarks s w' names r
+  pub is : whole ≡ ok (record { truth = truth_of t; names = names })
+  pub held : NamesHeld s w
+  pub marked : names_in s w ≡ ascending names
+
+abbrev pub AloneAs : Bytes → List ℕ → Result Answer → Fallible CodeTruth code.Answer → Type 0
+AloneAs s w whole (Ok t) = Judged s w whole t
+AloneAs s w whole (Err a) = Stops s w whole a
+
+pub record Alone (s : Bytes) (w w' : List ℕ) (r : Fallible CodeTruth code.Answer) (whole : Result Answer) : Type 0 where
+  pub is : AloneAs s w' whole r
   pub only : OnlyMarks w w'

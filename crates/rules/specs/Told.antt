@@ -31,6 +31,10 @@ pub record Told (s : Bytes) (w : List ℕ) (whole : Result Verdict) (r : Answer)
   pub means : meaning s w r ≡ whole
   pub held : Held s w r
 
+-- an answer that is told whatever were to follow: a refusal
+abbrev pub Stops : {A : Type 0} → Bytes → List ℕ → Result A → Answer → Type 0
+Stops {A} s w x a = (f : A → Result Verdict) → Told s w (x >>= f) a
+
 -- the answer of a truth
 abbrev pub answer_of : Truth → Answer
 answer_of truths.True = answers.True

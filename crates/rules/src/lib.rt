@@ -3,4 +3,5 @@
 
 pub mod alone;
 pub mod marks;
+pub mod placed;
 pub mod rules;

@@ -7,9 +7,7 @@ pub fn clear_marks(work: &mut [u32])
     requires { 16384 ≤ length work.old }
     ensures { Unmarked work.old work.new 16384 }
 {
-    let mut i = 12288;
-    while i < 16384 {
-        work[i] = 2 * (work[i] / 2);
-        i += 1;
+    for word in &mut work[12288..16384] {
+        *word = 2 * (*word / 2);
     }
 }

@@ -3,7 +3,7 @@
 -- Assumes nothing.
 use mathlib.Core.Bool.{Bool, false, not, true, ◌&&◌, ◌||◌}
 use mathlib.Core.List.{List, [], ◌∷◌}
-use mathlib.Core.Option.{Option, none, some}
+use Rattle.std.specs.Prelude.{Option, None, Some}
 use mathlib.Core.Path.{ap, ap₂, refl, subst, ◌≡◌}
 use Prim.Native.Nat.{Ordering}
 use Rattle.number.proofs.Digits.{numbers_exact}
@@ -53,7 +53,7 @@ use Rattle.members.specs.Sheet.{Sheet, read_sheet}
 pub order_exactly : (x y : Bytes) → IsNumber x → IsNumber y → number_order x y ≡ exact_order (decimal x) (decimal y)
 order_exactly x y h k = numbers_exact h.2 k.2
 
-as_number_lem : (v : Value) (s : Bytes) → AllNumbers v → as_number v ≡ some s → IsNumber s
+as_number_lem : (v : Value) (s : Bytes) → AllNumbers v → as_number v ≡ Some s → IsNumber s
 unfolding AllNumbers
 as_number_lem null s h e = none_some s e
 as_number_lem (bool b) s h e = none_some s e
@@ -62,7 +62,7 @@ as_number_lem (text t) s h e = none_some s e
 as_number_lem (array vs) s h e = none_some s e
 as_number_lem (object ms) s h e = none_some s e
 
-as_array_lem : (v : Value) (vs : Values) → AllNumbers v → as_array v ≡ some vs → AllNumbersIn vs
+as_array_lem : (v : Value) (vs : Values) → AllNumbers v → as_array v ≡ Some vs → AllNumbersIn vs
 unfolding AllNumbers
 as_array_lem null vs h e = none_some vs e
 as_array_lem (bool b) vs h e = none_some vs e
@@ -71,7 +71,7 @@ as_array_lem (text t) vs h e = none_some vs e
 as_array_lem (array ws) vs h e = let z : ws ≡ vs = cc in subst AllNumbersIn z h
 as_array_lem (object ms) vs h e = none_some vs e
 
-as_object_lem : (v : Value) (ms : Members) → AllNumbers v → as_object v ≡ some ms → AllNumbersOf ms
+as_object_lem : (v : Value) (ms : Members) → AllNumbers v → as_object v ≡ Some ms → AllNumbersOf ms
 unfolding AllNumbers
 as_object_lem null ms h e = none_some ms e
 as_object_lem (bool b) ms h e = none_some ms e
@@ -81,10 +81,10 @@ as_object_lem (array vs) ms h e = none_some ms e
 as_object_lem (object ns) ms h e = let z : ns ≡ ms = cc in subst AllNumbersOf z h
 
 -- where there is none, false; else by what is there
-if_some : {A : Type 0} (x : Option A) {f g : A → Bool} → ((a : A) → x ≡ some a → f a ≡ g a) → ◌≡◌ {A = Bool}
-    (elim x [ none ↦ false | some a ↦ f a ]) (elim x [ none ↦ false | some a ↦ g a ])
-if_some none h = refl
-if_some (some a) h = h a refl
+if_some : {A : Type 0} (x : Option A) {f g : A → Bool} → ((a : A) → x ≡ Some a → f a ≡ g a) → ◌≡◌ {A = Bool}
+    (elim x [ None ↦ false | Some a ↦ f a ]) (elim x [ None ↦ false | Some a ↦ g a ])
+if_some None h = refl
+if_some (Some a) h = h a refl
 
 -- ---- equality and the pair forms
 mutual
@@ -142,8 +142,8 @@ holds_exactly ends_with v w h k = refl
 
 -- ---- expressions and operands: both give the same, and what they give has numbers only
 pub data Found : Result (Option Value) → Result (Option Value) → Type 0 where
-  value : {v : Value} → AllNumbers v → Found (ok (some v)) (ok (some v))
-  nothing : Found (ok none) (ok none)
+  value : {v : Value} → AllNumbers v → Found (ok (Some v)) (ok (Some v))
+  nothing : Found (ok None) (ok None)
   refusal : {r : Refusal} → Found (refused r) (refused r)
 
 pub data Agree {A : Type 0} (P : A → Type 0) : Result (Resolved A) → Result (Resolved A) → Type 0 where
@@ -151,7 +151,7 @@ pub data Agree {A : Type 0} (P : A → Type 0) : Result (Resolved A) → Result 
   names : {ns : Names} → Agree P (ok (missing ns)) (ok (missing ns))
   neither : {r : Refusal} → Agree P (refused r) (refused r)
 
-step_numbers : (k : Bytes) (v : Value) {w : Value} → AllNumbers v → member_step k v ≡ some w → AllNumbers w
+step_numbers : (k : Bytes) (v : Value) {w : Value} → AllNumbers v → member_step k v ≡ Some w → AllNumbers w
 unfolding AllNumbers
 step_numbers k null {w} h e = none_some w e
 step_numbers k (bool b) {w} h e = none_some w e
@@ -167,9 +167,9 @@ walk_agrees (k ∷ ks) v h = go (λ w j. walk_agrees ks w j) (member_step k v) r
   where
     go :
         ((w : Value) → AllNumbers w → Found (ok (walk kernel ks w)) (ok (walk exact_kernel ks w))) → (x : Option Value) → member_step k v ≡ x →
-        Found (ok (elim x [ none ↦ none | some w ↦ walk kernel ks w ])) (ok (elim x [ none ↦ none | some w ↦ walk exact_kernel ks w ]))
-    go rest none q = nothing
-    go rest (some w) q = rest w (step_numbers k v h q)
+        Found (ok (elim x [ None ↦ None | Some w ↦ walk kernel ks w ])) (ok (elim x [ None ↦ None | Some w ↦ walk exact_kernel ks w ]))
+    go rest None q = nothing
+    go rest (Some w) q = rest w (step_numbers k v h q)
 
 -- parts put together
 same_agrees :
@@ -220,12 +220,12 @@ module _ (sheet : Sheet Condition) (has : SheetHas AllNumbers sheet) where
   )
     where
       id_agrees : (s : Option Bytes) → Found (id_of s) (id_of s)
-      id_agrees none = refusal
-      id_agrees (some s) = value tt
+      id_agrees None = refusal
+      id_agrees (Some s) = value tt
 
       any_agrees : (s : Option Bytes) → Found (ok (if_any s)) (ok (if_any s))
-      any_agrees none = nothing
-      any_agrees (some s) = value tt
+      any_agrees None = nothing
+      any_agrees (Some s) = value tt
 
   bases_agree : Entries AllNumbersOf (bases sheet)
   unfolding AllNumbers
@@ -236,10 +236,10 @@ module _ (sheet : Sheet Condition) (has : SheetHas AllNumbers sheet) where
   unbound_agrees e name [] = go (find name (roots sheet)) refl
     where
       go : (x : Option (Result (Option Value))) → find name (roots sheet) ≡ x →
-          Found (elim x [ none ↦ refused (unknown_expression (36 ∷ e)) | some r ↦ r ])
-          (elim x [ none ↦ refused (unknown_expression (36 ∷ e)) | some r ↦ r ])
-      go none q = refusal
-      go (some r) q = find_entry (λ x. Found x x) name (roots sheet) roots_agree q
+          Found (elim x [ None ↦ refused (unknown_expression (36 ∷ e)) | Some r ↦ r ])
+          (elim x [ None ↦ refused (unknown_expression (36 ∷ e)) | Some r ↦ r ])
+      go None q = refusal
+      go (Some r) q = find_entry (λ x. Found x x) name (roots sheet) roots_agree q
   unbound_agrees e name (p ∷ ps) = go (find name (bases sheet)) refl
     where
       inside : (q : Bytes) (ms : Members) → AllNumbersOf ms → Found (ok (below kernel sheet q ps ms)) (ok (below exact_kernel sheet q ps ms))
@@ -247,10 +247,10 @@ module _ (sheet : Sheet Condition) (has : SheetHas AllNumbers sheet) where
       inside (c ∷ q) ms h = walk_agrees ((c ∷ q) ∷ ps) (object ms) h
 
       go : (x : Option Members) → find name (bases sheet) ≡ x →
-          Found (elim x [ none ↦ refused (unknown_expression (36 ∷ e)) | some ms ↦ ok (below kernel sheet p ps ms) ])
-          (elim x [ none ↦ refused (unknown_expression (36 ∷ e)) | some ms ↦ ok (below exact_kernel sheet p ps ms) ])
-      go none q = refusal
-      go (some ms) q = inside p ms (find_entry AllNumbersOf name (bases sheet) bases_agree q)
+          Found (elim x [ None ↦ refused (unknown_expression (36 ∷ e)) | Some ms ↦ ok (below kernel sheet p ps ms) ])
+          (elim x [ None ↦ refused (unknown_expression (36 ∷ e)) | Some ms ↦ ok (below exact_kernel sheet p ps ms) ])
+      go None q = refusal
+      go (Some ms) q = inside p ms (find_entry AllNumbersOf name (bases sheet) bases_agree q)
 
   pub gives_agrees : (env : Env) (e : Bytes) → Entries AllNumbers env → Found (gives kernel sheet env e) (gives exact_kernel sheet env e)
   unfolding gives gives_parts
@@ -261,10 +261,10 @@ module _ (sheet : Sheet Condition) (has : SheetHas AllNumbers sheet) where
       go (name ∷ path) = decide (find name env) refl
         where
           decide : (x : Option Value) → find name env ≡ x →
-              Found (elim x [ some v ↦ ok (walk kernel path v) | none ↦ unbound kernel sheet e name path ])
-              (elim x [ some v ↦ ok (walk exact_kernel path v) | none ↦ unbound exact_kernel sheet e name path ])
-          decide none q = unbound_agrees e name path
-          decide (some v) q = walk_agrees path v (find_entry AllNumbers name env h q)
+              Found (elim x [ Some v ↦ ok (walk kernel path v) | None ↦ unbound kernel sheet e name path ])
+              (elim x [ Some v ↦ ok (walk exact_kernel path v) | None ↦ unbound exact_kernel sheet e name path ])
+          decide None q = unbound_agrees e name path
+          decide (Some v) q = walk_agrees path v (find_entry AllNumbers name env h q)
 
   text_agrees : (env : Env) (s : Bytes) → Entries AllNumbers env → Agree AllNumbers (resolve_text kernel sheet env s) (resolve_text exact_kernel sheet env s)
   unfolding resolve_text AllNumbers
@@ -324,7 +324,7 @@ pair_same f names neither = refl
 pair_same f neither k = refl
 
 -- the elements that a quantifier binds have numbers only
-collected : (v : Value) (vs : List Value) → AllNumbers v → collection v ≡ some vs → All AllNumbers vs
+collected : (v : Value) (vs : List Value) → AllNumbers v → collection v ≡ Some vs → All AllNumbers vs
 unfolding AllNumbers
 collected null vs h e = none_some vs e
 collected (bool b) vs h e = none_some vs e
@@ -350,10 +350,10 @@ module _ (m : Mode) (f g : Value → Result Answer) (agree : (v : Value) → All
   over_same (there {a = v} h) = go (collection v) refl
     where
       go : (x : Option (List Value)) → collection v ≡
-          x → ◌≡◌ {A = Result Answer} (elim x [ none ↦ ok (unknown []) | some vs ↦ each m f vs ])
-          (elim x [ none ↦ ok (unknown []) | some vs ↦ each m g vs ])
-      go none q = refl
-      go (some vs) q = each_same vs (collected v vs h q)
+          x → ◌≡◌ {A = Result Answer} (elim x [ None ↦ ok (unknown []) | Some vs ↦ each m f vs ])
+          (elim x [ None ↦ ok (unknown []) | Some vs ↦ each m g vs ])
+      go None q = refl
+      go (Some vs) q = each_same vs (collected v vs h q)
   over_same names = refl
   over_same neither = refl
 

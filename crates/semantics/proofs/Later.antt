@@ -10,7 +10,7 @@ use mathlib.Core.List.{
   ◌∷◌,
 }
 use mathlib.Core.Logic.{inl, inr, ⊎_elim, ◌⊎◌}
-use mathlib.Core.Option.{Option, none, some}
+use Rattle.std.specs.Prelude.{Option, None, Some}
 use mathlib.Core.Path.{ap, fun_ext, refl, sym, ◌∙◌, ◌≡◌}
 use Rattle.semantics.proofs.Kleene.{settles_join}
 use Rattle.semantics.specs.Evaluate.{Answer, certain, collection, compared, each, evaluate, evaluate_all, is_present, joined, over, unknown}
@@ -221,17 +221,17 @@ module _ (sem : Semantics) (Erased : Bytes → Type 0) (old new : Sheet Conditio
     pub now : Option Value
     pub is_was : gives sem old [] r.text ≡ ok was
     pub is_now : gives sem new [] r.text ≡ ok now
-    pub change : (now ≡ was) ⊎ (now ≡ none)
+    pub change : (now ≡ was) ⊎ (now ≡ None)
     pub exact : r.exact ≡ true → now ≡ was
-    pub erased : (v : Value) → was ≡ some v → is_null v ≡ false → now ≡ none → Erased r.text
+    pub erased : (v : Value) → was ≡ Some v → is_null v ≡ false → now ≡ None → Erased r.text
 
-  later_observed : (e : Bytes) (was now : Option Value) → (now ≡ was) ⊎ (now ≡ none) →
-      ((v : Value) → was ≡ some v → is_null v ≡ false → now ≡ none → Erased e) → LaterR Erased (observed e was) (observed e now)
+  later_observed : (e : Bytes) (was now : Option Value) → (now ≡ was) ⊎ (now ≡ None) →
+      ((v : Value) → was ≡ Some v → is_null v ≡ false → now ≡ None → Erased e) → LaterR Erased (observed e was) (observed e now)
   later_observed e was now (inl p) f = rw p kept
-  later_observed e none now (inr p) f = rw p still
-  later_observed e (some v) now (inr p) f = go (is_null v) refl
+  later_observed e None now (inr p) f = rw p still
+  later_observed e (Some v) now (inr p) f = go (is_null v) refl
     where
-      go : (b : Bool) → is_null v ≡ b → LaterR Erased (observed e (some v)) (observed e now)
+      go : (b : Bool) → is_null v ≡ b → LaterR Erased (observed e (Some v)) (observed e now)
       go true q = rw (p, q, observed) still
       go false q = rw (p, q, observed) (gone (e, f v refl q p, Memᴰ.head refl))
 
@@ -467,13 +467,13 @@ module _ (sem : Semantics) (Erased : Bytes → Type 0) (old new : Sheet Conditio
   later_over m f g (present v) q h kept = go (collection v) refl
     where
       go : (o : Option (List Value)) → collection v ≡ o → Both (Later Erased) (over m f (present v)) (over m g (present v))
-      go none e = record { was = unknown []; now = unknown []; is_was = rw (e, over) refl; is_now = rw (e, over) refl; rel = truth_kept refl }
-      go (some vs) e = rw (e, over) (later_each Erased m f g h vs)
+      go None e = record { was = unknown []; now = unknown []; is_was = rw (e, over) refl; is_now = rw (e, over) refl; rel = truth_kept refl }
+      go (Some vs) e = rw (e, over) (later_each Erased m f g h vs)
   later_over m f g r q h (gone {a} {ns} l) = go (collection a) refl
     where
       go : (o : Option (List Value)) → collection a ≡ o → Both (Later Erased) (over m f (present a)) (over m g (missing ns))
-      go none e = record { was = unknown []; now = _; is_was = rw (e, over) refl; is_now = refl; rel = truth_kept refl }
-      go (some vs) e =
+      go None e = record { was = unknown []; now = _; is_was = rw (e, over) refl; is_now = refl; rel = truth_kept refl }
+      go (Some vs) e =
           let k = later_each Erased m f g h vs in
           record { was = k.was; now = _; is_was = rw (e, over) k.is_was; is_now = refl; rel = truth_gone refl l }
 

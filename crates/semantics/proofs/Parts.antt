@@ -4,7 +4,7 @@ use mathlib.Core.Bool.{Bool, false, true}
 use mathlib.Core.List.Memᴰ
 use mathlib.Core.List.{List, Memᴰ, [], ◌∷◌}
 use mathlib.Core.Logic.{inl, inr, ◌⊎◌}
-use mathlib.Core.Option.{Option, none, some}
+use Rattle.std.specs.Prelude.{Option, None, Some}
 use mathlib.Core.Path.{ap, refl, subst, sym, ◌∙◌, ◌≡◌}
 use Prim.Native.Nat.{ℕ}
 use native.Mathlib.Omega.{arith}
@@ -68,21 +68,21 @@ abbrev pub Entries : {A : Type 0} → (A → Type 0) → List (Bytes × A) → T
 Entries P [] = Unit {0}
 Entries P (x ∷ xs) = P x.1 × Entries P xs
 
-pub none_some : {A X : Type 0} (a : A) → none ≡ some a → X
+pub none_some : {A X : Type 0} (a : A) → None ≡ Some a → X
 none_some a e = let z : ◌≡◌ {A = ℕ} 0 1 = cc in absurd (omega arith)
 
-pub find_entry : {A : Type 0} (P : A → Type 0) (k : Bytes) (xs : List (Bytes × A)) {a : A} → Entries P xs → find k xs ≡ some a → P a
+pub find_entry : {A : Type 0} (P : A → Type 0) (k : Bytes) (xs : List (Bytes × A)) {a : A} → Entries P xs → find k xs ≡ Some a → P a
 unfolding find
 find_entry P k [] h e = none_some _ e
 find_entry {A} P k (x ∷ xs) {a} h e = go (find_entry P k xs h.1) (same_bytes k x.0) refl
   where
-    go : (find k xs ≡ some a → P a) → (b : Bool) → same_bytes k x.0 ≡ b → P a
+    go : (find k xs ≡ Some a → P a) → (b : Bool) → same_bytes k x.0 ≡ b → P a
     go rest true q = let z : x.1 ≡ a = (let y = rw (q, find) at e in cc) in subst P z h.0
     go rest false q = rest (rw (q, find) at e)
 
-or_inv : {A : Type 0} (x : Option A) (r : Refusal) {a : A} → or_else x r ≡ ok a → x ≡ some a
-or_inv none r e = not_ok r e
-or_inv (some b) r e = cc
+or_inv : {A : Type 0} (x : Option A) (r : Refusal) {a : A} → or_else x r ≡ ok a → x ≡ Some a
+or_inv None r e = not_ok r e
+or_inv (Some b) r e = cc
 
 -- ---- what a value hands on to its parts, and what is known of a condition's operands
 pub record Hereditary (P : Value → Type 0) : Type 0 where
@@ -153,7 +153,7 @@ module _ (P : Value → Type 0) (parts : Hereditary P) where
   one_has k v (member l w more) c h one all body e = not_ok wrong_shape e
   one_has k v empty c h one all body e = go (find k operators) refl
     where
-      carried : (op : Operator) → find k operators ≡ some op → Operands P c
+      carried : (op : Operator) → find k operators ≡ Some op → Operands P c
       carried (op_junction m) q = bind_with (condition_array v) _ (rw (q, one_member) at e) λ cs p e₁. subst (Operands P) (ok_injective e₁) (all cs p)
       carried op_negation q = bind_with (condition v) _ (rw (q, one_member) at e) λ d p e₁. subst (Operands P) (ok_injective e₁) (one d p)
       carried op_exists q = subst (Operands P) (ok_injective (rw (q, one_member) at e)) h
@@ -162,8 +162,8 @@ module _ (P : Value → Type 0) (parts : Hereditary P) where
       carried op_not_carried q = not_ok not_carried (rw (q, one_member) at e)
 
       go : (x : Option Operator) → find k operators ≡ x → Operands P c
-      go none q = not_ok wrong_shape (rw (q, one_member) at e)
-      go (some op) q = carried op q
+      go None q = not_ok wrong_shape (rw (q, one_member) at e)
+      go (Some op) q = carried op q
 
   mutual
     unfolding condition Operands
@@ -237,12 +237,12 @@ module _ (P : Value → Type 0) (parts : Hereditary P) where
         bind_with (or_else (find k (entries ms)) wrong_sheet) kind e λ v p e₁. has v a
         (find_entry P k (entries ms) h (or_inv (find k (entries ms)) wrong_sheet p)) e₁
 
-    optional_has : (k : Bytes) (ms : Members) {x : Option A} → Entries P (entries ms) → optional kind k ms ≡ ok x → (a : A) → x ≡ some a → Q a
+    optional_has : (k : Bytes) (ms : Members) {x : Option A} → Entries P (entries ms) → optional kind k ms ≡ ok x → (a : A) → x ≡ Some a → Q a
     optional_has k ms {x} h e a q = go (find k (entries ms)) refl e
       where
-        go : (y : Option Value) → find k (entries ms) ≡ y → ◌≡◌ {A = Result (Option A)} (elim y [ none ↦ ok none | some v ↦ (kind v >>= λ b. ok (some b)) ]) (ok x) → Q a
-        go none r z = none_some a (ok_injective z ∙ q)
-        go (some v) r z = bind_with (kind v) _ z λ b p e₁. let y : b ≡ a = cc in has v a (find_entry P k (entries ms) h r) (p ∙ ap {B = Result A} (λ u. ok u) y)
+        go : (y : Option Value) → find k (entries ms) ≡ y → ◌≡◌ {A = Result (Option A)} (elim y [ None ↦ ok None | Some v ↦ (kind v >>= λ b. ok (Some b)) ]) (ok x) → Q a
+        go None r z = none_some a (ok_injective z ∙ q)
+        go (Some v) r z = bind_with (kind v) _ z λ b p e₁. let y : b ≡ a = cc in has v a (find_entry P k (entries ms) h r) (p ∙ ap {B = Result A} (λ u. ok u) y)
 
     each_has : (vs : Values) (xs : List A) → All P (elements vs) → each_of kind (elements vs) ≡ ok xs → All Q xs
     unfolding each_of
@@ -276,7 +276,7 @@ module _ (P : Value → Type 0) (parts : Hereditary P) where
       (required_has condition (Operands P) condition_has (ascii "assert") ms (parts.in_object ms (object_has v ms h q)) p)
 
   abbrev GuardHas : Outcome Condition → Type 0
-  GuardHas o = (c : Condition) → o.when ≡ some c → Operands P c
+  GuardHas o = (c : Condition) → o.when ≡ Some c → Operands P c
 
   outcome_has : (v : Value) (o : Outcome Condition) → P v → an_outcome condition v ≡ ok o → GuardHas o
   unfolding an_outcome
@@ -291,7 +291,7 @@ module _ (P : Value → Type 0) (parts : Hereditary P) where
       optional_has condition (Operands P) condition_has (ascii "when") ms (parts.in_object ms (object_has v ms h q)) p c (ap (λ (y : Outcome Condition). y.when) (ok_injective e₇) ∙ g)
 
   conditions_have :
-      (sheet : Sheet Condition) → ((c : Condition) → sheet.condition ≡ some c → Operands P c) → All RuleHas sheet.preconditions →
+      (sheet : Sheet Condition) → ((c : Condition) → sheet.condition ≡ Some c → Operands P c) → All RuleHas sheet.preconditions →
       All RuleHas sheet.invariants → All GuardHas sheet.outcomes → {c : Condition} → ConditionOf sheet c → Operands P c
   conditions_have sheet own pre inv out (its_own {c} e) = own c e
   conditions_have sheet own pre inv out (precondition m) = all_member RuleHas sheet.preconditions pre m

@@ -3,7 +3,7 @@
 -- Assumes nothing.
 use mathlib.Core.Bool.{Bool, false, ◌||◌}
 use mathlib.Core.Logic.{inl, inr, ◌⊎◌}
-use mathlib.Core.Option.{Option, none, some}
+use Rattle.std.specs.Prelude.{Option, None, Some}
 use mathlib.Core.Path.{refl, ◌∙◌, ◌≡◌}
 use Prim.Native.Nat.{Ordering}
 use Rattle.semantics.specs.Evaluate.{Answer, evaluate, evaluate_all}
@@ -25,7 +25,7 @@ module _ (sem : Semantics) {C : Type 0} (sheet : Sheet C) where
   unfolding evaluate
   later_refusal env m c cs a r e f = bind_ok _ e ∙ rw (f, ◌>>=◌) refl
 
-  pub state_is_to_state : (env : Env) → find (ascii "state") env ≡ none → gives sem sheet env (ascii "state") ≡ ok (some (text sheet.to_state))
+  pub state_is_to_state : (env : Env) → find (ascii "state") env ≡ None → gives sem sheet env (ascii "state") ≡ ok (Some (text sheet.to_state))
   unfolding gives
   state_is_to_state env e = rw (e, gives_parts) refl
 
@@ -34,13 +34,13 @@ module _ (sem : Semantics) {C : Type 0} (sheet : Sheet C) where
   null_is_present env = refl
 
 -- an order of anything but two numbers is False, not Unknown
-unordered : (sem : Semantics) (p : Ordering → Bool) (v w : Value) → (as_number v ≡ none) ⊎ (as_number w ≡ none) → numbers sem p v w ≡ false
+unordered : (sem : Semantics) (p : Ordering → Bool) (v w : Value) → (as_number v ≡ None) ⊎ (as_number w ≡ None) → numbers sem p v w ≡ false
 unordered sem p v w (inl e) = rw (e, numbers) refl
 unordered sem p v w (inr e) = go (as_number v) refl
   where
     go : (o : Option Bytes) → as_number v ≡ o → numbers sem p v w ≡ false
-    go none q = rw (q, numbers) refl
-    go (some s) q = rw (q, numbers, e) refl
+    go None q = rw (q, numbers) refl
+    go (Some s) q = rw (q, numbers, e) refl
 
 pub data IsOrder : Form → Type 0 where
   is_gt : IsOrder gt
@@ -49,7 +49,7 @@ pub data IsOrder : Form → Type 0 where
   is_lte : IsOrder lte
 
 -- whatever is no number
-pub not_ordered : (sem : Semantics) {f : Form} → IsOrder f → (v w : Value) → (as_number v ≡ none) ⊎ (as_number w ≡ none) → holds sem f v w ≡ false
+pub not_ordered : (sem : Semantics) {f : Form} → IsOrder f → (v w : Value) → (as_number v ≡ None) ⊎ (as_number w ≡ None) → holds sem f v w ≡ false
 unfolding holds
 not_ordered sem is_gt v w h = unordered sem is_greater v w h
 not_ordered sem is_gte v w h = unordered sem (λ o. is_greater o || is_same o) v w h

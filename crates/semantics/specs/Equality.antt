@@ -1,7 +1,7 @@
 -- Equality of two values: numbers by the semantics, objects without order.
 -- Assumes nothing.
 use Rattle.std.specs.Prelude.{Bool, false, not, true, ◌&&◌}
-use Rattle.std.proofs.Math.Option.{none, some}
+use Rattle.std.specs.Prelude.{None, Some}
 use Rattle.semantics.specs.Semantics.{Semantics}
 use Rattle.number.specs.Compare.{number_order}
 use Rattle.json_text.specs.Bytes.{Bytes, same_bytes}
@@ -14,11 +14,11 @@ module _ (numbers : Bytes → Bytes → Bool) where
 
     pub equal_by : Value → Value → Bool
     equal_by null w = is_null w
-    equal_by (bool b) w = elim (as_bool w) [ none ↦ false | some c ↦ elim b [ true ↦ c | false ↦ not c ] ]
-    equal_by (number s) w = elim (as_number w) [ none ↦ false | some t ↦ numbers s t ]
-    equal_by (text s) w = elim (as_text w) [ none ↦ false | some t ↦ same_bytes s t ]
-    equal_by (array vs) w = elim (as_array w) [ none ↦ false | some ws ↦ equal_in vs ws ]
-    equal_by (object ms) w = elim (as_object w) [ none ↦ false | some ns ↦ equal_of ms ns ]
+    equal_by (bool b) w = elim (as_bool w) [ None ↦ false | Some c ↦ elim b [ true ↦ c | false ↦ not c ] ]
+    equal_by (number s) w = elim (as_number w) [ None ↦ false | Some t ↦ numbers s t ]
+    equal_by (text s) w = elim (as_text w) [ None ↦ false | Some t ↦ same_bytes s t ]
+    equal_by (array vs) w = elim (as_array w) [ None ↦ false | Some ws ↦ equal_in vs ws ]
+    equal_by (object ms) w = elim (as_object w) [ None ↦ false | Some ns ↦ equal_of ms ns ]
 
     pub equal_in : Values → Values → Bool
     equal_in nil nil = true

@@ -1,7 +1,7 @@
 -- Conditions: truth and names.
 -- Assumes nothing.
 use Rattle.std.specs.Prelude.{Bool, false, true, List, [], ◌∷◌}
-use Rattle.std.proofs.Math.Option.{Option, none, some}
+use Rattle.std.specs.Prelude.{Option, None, Some}
 use Rattle.semantics.specs.Expression.{Env}
 use Rattle.semantics.specs.Forms.{holds}
 use Rattle.semantics.specs.Names.{Names, join_names, no_names}
@@ -44,12 +44,12 @@ values_of empty = []
 values_of (member k v ms) = v ∷ values_of ms
 
 abbrev pub collection : Value → Option (List Value)
-collection null = none
-collection (bool b) = none
-collection (number s) = none
-collection (text s) = none
-collection (array vs) = some (elements vs)
-collection (object ms) = some (values_of ms)
+collection null = None
+collection (bool b) = None
+collection (number s) = None
+collection (text s) = None
+collection (array vs) = Some (elements vs)
+collection (object ms) = Some (values_of ms)
 
 -- the elements in order, stopping once settled
 unfoldable pub each : Mode → (Value → Result Answer) → List Value → Result Answer
@@ -69,7 +69,7 @@ each m body (v ∷ vs) = do
 -- a missing collection is Unknown with its names, a value that is none Unknown without
 abbrev pub over : Mode → (Value → Result Answer) → Resolved Value → Result Answer
 over m body (missing ns) = ok (unknown ns)
-over m body (present v) = elim (collection v) [ none ↦ ok (unknown no_names) | some vs ↦ each m body vs ]
+over m body (present v) = elim (collection v) [ None ↦ ok (unknown no_names) | Some vs ↦ each m body vs ]
 
 module _ (sem : Semantics) {C : Type 0} (sheet : Sheet C) where
   unfoldable mutual

@@ -2,7 +2,7 @@
 -- Assumes nothing.
 use Rattle.std.specs.Prelude.{false, true, ℕ, eqb}
 use mathlib.Core.List.{List, [], ◌∷◌}
-use Rattle.std.proofs.Math.Option.{Option, none, some}
+use Rattle.std.specs.Prelude.{Option, None, Some}
 use Rattle.json_text.specs.Bytes.{Bytes, ascii, find}
 use Rattle.json_text.specs.Json.{Members, Value, number, object, text}
 use Rattle.json_text.specs.Refusal.{Result, no_id, ok, refused, unknown_expression}
@@ -25,31 +25,31 @@ parts (c ∷ s) = elim (eqb c 46) [ true ↦ [] ∷ parts s | false ↦ push c (
 -- step by step along the parts; nothing stays nothing
 unfoldable pub walk : Semantics → List Bytes → Value → Option Value
 unfolding find
-walk sem [] v = some v
-walk sem (k ∷ ks) v = elim (sem.step k v) [ none ↦ none | some w ↦ walk sem ks w ]
+walk sem [] v = Some v
+walk sem (k ∷ ks) v = elim (sem.step k v) [ None ↦ None | Some w ↦ walk sem ks w ]
 
 -- `$id` needs an id; a missing `from_state` is nothing
 abbrev pub id_of : Option Bytes → Result (Option Value)
-id_of none = refused no_id
-id_of (some s) = ok (some (text s))
+id_of None = refused no_id
+id_of (Some s) = ok (Some (text s))
 
 abbrev pub if_any : Option Bytes → Option Value
-if_any none = none
-if_any (some s) = some (text s)
+if_any None = None
+if_any (Some s) = Some (text s)
 
 module _ {C : Type 0} (sheet : Sheet C) where
   -- the whole expressions; `$state` gives `to_state`
   abbrev pub roots : List (Bytes × Result (Option Value))
   roots =
       (ascii "id", id_of sheet.id) ∷
-      (ascii "entity", ok (some (text sheet.entity))) ∷
-      (ascii "version", ok (some (number sheet.version))) ∷
+      (ascii "entity", ok (Some (text sheet.entity))) ∷
+      (ascii "version", ok (Some (number sheet.version))) ∷
       (ascii "from_state", ok (if_any sheet.from_state)) ∷
-      (ascii "to_state", ok (some (text sheet.to_state))) ∷
-      (ascii "state", ok (some (text sheet.to_state))) ∷
-      (ascii "args", ok (some (object sheet.args))) ∷
-      (ascii "fields", ok (some (object sheet.fields))) ∷
-      (ascii "old_fields", ok (some (object sheet.old_fields))) ∷
+      (ascii "to_state", ok (Some (text sheet.to_state))) ∷
+      (ascii "state", ok (Some (text sheet.to_state))) ∷
+      (ascii "args", ok (Some (object sheet.args))) ∷
+      (ascii "fields", ok (Some (object sheet.fields))) ∷
+      (ascii "old_fields", ok (Some (object sheet.old_fields))) ∷
       []
 
   -- what a path may start from
@@ -59,20 +59,20 @@ module _ {C : Type 0} (sheet : Sheet C) where
 module _ (sem : Semantics) {C : Type 0} (sheet : Sheet C) where
   -- an empty first part behind a base gives nothing
   abbrev pub below : Bytes → List Bytes → Members → Option Value
-  below [] ps ms = none
+  below [] ps ms = None
   below (c ∷ p) ps ms = walk sem ((c ∷ p) ∷ ps) (object ms)
 
   -- an expression that no binder takes: its text, its first part and the rest
   unfoldable pub unbound : Bytes → Bytes → List Bytes → Result (Option Value)
   unfolding find walk
-  unbound e name [] = elim (find name (roots sheet)) [ none ↦ refused (unknown_expression (36 ∷ e)) | some r ↦ r ]
-  unbound e name (p ∷ ps) = elim (find name (bases sheet)) [ none ↦ refused (unknown_expression (36 ∷ e)) | some ms ↦ ok (below p ps ms) ]
+  unbound e name [] = elim (find name (roots sheet)) [ None ↦ refused (unknown_expression (36 ∷ e)) | Some r ↦ r ]
+  unbound e name (p ∷ ps) = elim (find name (bases sheet)) [ None ↦ refused (unknown_expression (36 ∷ e)) | Some ms ↦ ok (below p ps ms) ]
 
   -- the binders come first, innermost first
   unfoldable pub gives_parts : Env → Bytes → List Bytes → Result (Option Value)
   unfolding find walk unbound
   gives_parts env e [] = refused (unknown_expression (36 ∷ e))
-  gives_parts env e (name ∷ path) = elim (find name env) [ some v ↦ ok (walk sem path v) | none ↦ unbound e name path ]
+  gives_parts env e (name ∷ path) = elim (find name env) [ Some v ↦ ok (walk sem path v) | None ↦ unbound e name path ]
 
   -- a value, nothing, or 13 or 14
   unfoldable pub gives : Env → Bytes → Result (Option Value)

@@ -2,7 +2,7 @@
 -- Assumes nothing.
 use Rattle.std.specs.Prelude.{Bool, ◌||◌, [], ◌∷◌}
 use Rattle.std.proofs.Math.Bool.{false, not, true}
-use Rattle.std.proofs.Math.Option.{none, some}
+use Rattle.std.specs.Prelude.{None, Some}
 use Prim.Native.Nat.{Ordering}
 use Rattle.semantics.specs.Equality.{equal}
 use Rattle.semantics.specs.Semantics.{Semantics, is_same}
@@ -34,15 +34,15 @@ ends p (c ∷ s) = elim (same_bytes p (c ∷ s)) [ true ↦ true | false ↦ end
 
 -- anything but two texts is False
 abbrev pub texts : (Bytes → Bytes → Bool) → Value → Value → Bool
-texts p v w = elim (as_text v) [ none ↦ false | some s ↦ elim (as_text w) [ none ↦ false | some t ↦ p s t ] ]
+texts p v w = elim (as_text v) [ None ↦ false | Some s ↦ elim (as_text w) [ None ↦ false | Some t ↦ p s t ] ]
 
 abbrev pub has_key : Members → Value → Bool
-has_key ms w = elim (as_text w) [ none ↦ false | some k ↦ is_one_of k (keys ms) ]
+has_key ms w = elim (as_text w) [ None ↦ false | Some k ↦ is_one_of k (keys ms) ]
 
 module _ (sem : Semantics) where
   -- anything but two numbers is False
   abbrev pub numbers : (Ordering → Bool) → Value → Value → Bool
-  numbers p v w = elim (as_number v) [ none ↦ false | some s ↦ elim (as_number w) [ none ↦ false | some t ↦ p (sem.order s t) ] ]
+  numbers p v w = elim (as_number v) [ None ↦ false | Some s ↦ elim (as_number w) [ None ↦ false | Some t ↦ p (sem.order s t) ] ]
 
   unfoldable pub is_element : Value → Values → Bool
   unfolding equal
@@ -50,7 +50,7 @@ module _ (sem : Semantics) where
   is_element v (cons w ws) = elim (equal sem w v) [ true ↦ true | false ↦ is_element v ws ]
 
   abbrev pub member_of : Value → Value → Bool
-  member_of v w = elim (as_array w) [ none ↦ false | some ws ↦ is_element v ws ]
+  member_of v w = elim (as_array w) [ None ↦ false | Some ws ↦ is_element v ws ]
 
   -- array and element, text and part, object and key; else False
   abbrev pub contained : Value → Value → Bool

@@ -1,7 +1,7 @@
 -- Operands: a written value with its expressions resolved, or the names of those that are missing.
 -- Assumes nothing.
 use Rattle.std.specs.Prelude.{false, true, [], ◌∷◌, eqb}
-use Rattle.std.proofs.Math.Option.{Option, none, some}
+use Rattle.std.specs.Prelude.{Option, None, Some}
 use Rattle.semantics.specs.Expression.{Env, gives}
 use Rattle.semantics.specs.Names.{Names, join_names, one_name}
 use Rattle.semantics.specs.Semantics.{Semantics}
@@ -42,8 +42,8 @@ same f (missing ns) = missing ns
 
 -- nothing and null are missing
 abbrev pub observed : Bytes → Option Value → Resolved Value
-observed e none = missing (one_name (36 ∷ e))
-observed e (some v) = elim (is_null v) [ true ↦ missing (one_name (36 ∷ e)) | false ↦ present v ]
+observed e None = missing (one_name (36 ∷ e))
+observed e (Some v) = elim (is_null v) [ true ↦ missing (one_name (36 ∷ e)) | false ↦ present v ]
 
 module _ (sem : Semantics) {C : Type 0} (sheet : Sheet C) where
   unfoldable pub resolve_text : Env → Bytes → Result (Resolved Value)

@@ -2,7 +2,7 @@
 -- Assumes nothing.
 use Rattle.std.specs.Prelude.{Bool, false, true, ◌&&◌}
 use mathlib.Core.List.{List, Memᴰ, [], ◌++◌, ◌∷◌}
-use Rattle.std.proofs.Math.Option.{Option, none, some}
+use Rattle.std.specs.Prelude.{Option, None, Some}
 use Rattle.semantics.specs.Expression.{gives, parts}
 use Rattle.semantics.specs.Operand.{escaped, expression, plain, read_text}
 use Rattle.semantics.specs.Semantics.{Semantics}
@@ -78,8 +78,8 @@ rule_readings [] = []
 rule_readings (r ∷ rs) = readings [] r.assert ++ rule_readings rs
 
 abbrev pub when_readings : Option Condition → List Reading
-when_readings none = []
-when_readings (some c) = readings [] c
+when_readings None = []
+when_readings (Some c) = readings [] c
 
 unfoldable pub guard_readings : List (Outcome Condition) → List Reading
 unfolding readings

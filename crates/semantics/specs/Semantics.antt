@@ -2,7 +2,7 @@
 -- and conditions are defined over it; only kernel/1 is carried.
 -- Assumes nothing.
 use Rattle.std.specs.Prelude.{Bool, false, true}
-use Rattle.std.proofs.Math.Option.{Option, none, some}
+use Rattle.std.specs.Prelude.{Option, None, Some}
 use Prim.Native.Nat.{Ordering}
 use Rattle.number.specs.Compare.{number_order}
 use Rattle.number.specs.Decimal.{decimal, exact_order}
@@ -16,7 +16,7 @@ pub record Semantics : Type 0 where
 
 -- the named member of an object, else nothing
 abbrev pub member_step : Bytes → Value → Option Value
-member_step k v = elim (as_object v) [ none ↦ none | some ms ↦ find k (entries ms) ]
+member_step k v = elim (as_object v) [ None ↦ None | Some ms ↦ find k (entries ms) ]
 
 abbrev pub is_same : Ordering → Bool
 is_same Ordering.lt = false

@@ -1,7 +1,7 @@
 -- Values whose numbers are all texts that RFC 8259 spells as numbers, and the conditions of a sheet.
 -- Assumes nothing.
 use mathlib.Core.List.{Memᴰ}
-use Rattle.std.proofs.Math.Option.{some}
+use Rattle.std.specs.Prelude.{Some}
 use Rattle.std.specs.Prelude.{◌≡◌}
 use Rattle.json_text.specs.Bytes.{Bytes}
 use Rattle.json_text.specs.Grammar.{Spells}
@@ -34,7 +34,7 @@ unfoldable mutual
 
 -- each condition that a sheet has: its own, those of its rules, and its guards
 pub data ConditionOf (sheet : Sheet Condition) : Condition → Type 0 where
-  its_own : {c : Condition} → sheet.condition ≡ some c → ConditionOf sheet c
+  its_own : {c : Condition} → sheet.condition ≡ Some c → ConditionOf sheet c
   precondition : {r : Rule Condition} → Memᴰ r sheet.preconditions → ConditionOf sheet r.assert
   invariant : {r : Rule Condition} → Memᴰ r sheet.invariants → ConditionOf sheet r.assert
-  guard : {o : Outcome Condition} {c : Condition} → Memᴰ o sheet.outcomes → o.when ≡ some c → ConditionOf sheet c
+  guard : {o : Outcome Condition} {c : Condition} → Memᴰ o sheet.outcomes → o.when ≡ Some c → ConditionOf sheet c

@@ -2,7 +2,7 @@
 -- Assumes nothing.
 use mathlib.Core.Bool.{Bool, false, true}
 use mathlib.Core.List.{List}
-use mathlib.Core.Option.{Option, none, some}
+use Rattle.std.specs.Prelude.{Option, None, Some, Ok, Err, unwrap_or}
 use mathlib.Core.Path.{ap, refl, subst, sym, ◌∙◌, ◌≡◌}
 use Prim.Native.Nat.{ℕ}
 use native.Mathlib.Omega.{arith}
@@ -12,11 +12,9 @@ use Rattle.strings.specs.Answers.{FoundIn, FoundTold, found_of}
 use Rattle.json_text.specs.Bytes.{Bytes, ascii, find}
 use Rattle.json_text.specs.Json.{Members, Value, entries, object}
 use Rattle.json_text.specs.Limits.{max_number, tidy, tidy_of}
-use Rattle.json_text.specs.Refusal.{Refusal, Result, ok, or_else, refused, wrong_sheet, ◌>>=◌}
+use Rattle.json_text.specs.Refusal.{Refusal, Result, not_carried, ok, or_else, refused, wrong_shape, wrong_sheet, ◌>>=◌}
 use Rattle.json_text.specs.Sorted.{sorted, sorted_of}
 use Rattle.json_text.specs.Table.{after_at, kind_at, members_at, value_at}
-use Rattle.strings.specs.declared.rows.Found.{Found}
-use Rattle.strings.specs.declared.rows.Found.TheVariants as founds
 use Rattle.members.proofs.Nine.{nine, sheet_nine}
 use Rattle.sheet.proofs.Rules.{no_object, object_is}
 use Rattle.members.proofs.Shapes.{tagged}
@@ -26,7 +24,10 @@ use Rattle.sheet.proofs.SortedSheet.{SheetParts, sheet_sorted}
 use Rattle.members.proofs.Soundness.{soundness_of}
 use Rattle.members.proofs.Walks.{full}
 use Rattle.members.proofs.Verdicts.{never}
-use Rattle.sheet.specs.Accepted.{Accepted, Gives, MayGive, Shaped, Stored, members_of, node_of}
+use Rattle.sheet.specs.Accepted.{Accepted, Gives, MayGive, Shaped, Stored, members_of, misshapen_by, node_of}
+use Rattle.members.specs.Answers.{fault_is}
+use Rattle.members.specs.declared.told.Fault.{Fault}
+use Rattle.members.specs.declared.told.Fault.TheVariants as faults
 use Rattle.members.specs.Condition.{Condition, condition}
 use Rattle.members.specs.Kinds.{a_text, a_version, an_array_of, an_object, not_null, optional, required}
 use Rattle.sheet.specs.Named.{SheetNamed}
@@ -35,16 +36,16 @@ use Rattle.members.specs.Rule.{a_rule}
 use Rattle.members.specs.Sheet.{Sheet, a_sheet, checked, read_sheet, sound, written}
 use Rattle.members.specs.Verdicts.{fault_of, is_ok}
 use Rattle.sheet.specs.declared.shape.Members.{Members as SheetPlaces}
-use Rattle.sheet.specs.declared.shape.Shape.TheVariants as shapes
+use Rattle.sheet.specs.declared.shape.Misshapen.TheVariants as misshapen
 use Rattle.sheet.specs.declared.sheet.SheetMembers.{SheetMembers}
 
 -- ---- a member's node gives what is read under its name
 module _ {A : Type 0} (kind : Value → Result A) {s : Bytes} {w : List ℕ} (ms : Members) (t : tidy_of max_number ms ≡ true) (k : Bytes)
-    (r : Found) (f : FoundTold s w (find k (entries ms)) r) where
+    (r : Option ℕ) (f : FoundTold s w (find k (entries ms)) r) where
   found_sorted : find k (entries (sorted_of ms)) ≡ mapped sorted (found_of s w r)
   found_sorted = find_sorted k ms t ∙ ap (mapped sorted) f.answers
 
-  node_gives : (n : ℕ) (a : A) → r ≡ founds.At n → kind (sorted (value_at s w n)) ≡ ok a → Gives kind s w n a
+  node_gives : (n : ℕ) (a : A) → r ≡ Some n → kind (sorted (value_at s w n)) ≡ ok a → Gives kind s w n a
   unfolding found_of FoundIn
   node_gives n a e i = record { node = full (subst (FoundIn s w) e f.bounds); is_tidy = find_tidy k ms (value_at s w n) t (f.answers ∙ ap (found_of s w) e); is = i }
 
@@ -52,30 +53,35 @@ module _ {A : Type 0} (kind : Value → Result A) {s : Bytes} {w : List ℕ} (ms
   unfolding node_of found_of
   gives a e = go r refl (sym (ap {B = Result A} (λ x. or_else x wrong_sheet >>= kind) found_sorted) ∙ e)
     where
-      go : (x : Found) → r ≡ x → (or_else (mapped sorted (found_of s w x)) wrong_sheet >>= kind) ≡ ok a → Gives kind s w (node_of x) a
-      go founds.Nothing i j = never wrong_sheet a j
-      go (founds.At n) i j = node_gives n a i j
+      go : (x : Option ℕ) → r ≡ x → (or_else (mapped sorted (found_of s w x)) wrong_sheet >>= kind) ≡ ok a → Gives kind s w (node_of x) a
+      go None i j = never wrong_sheet a j
+      go (Some n) i j = node_gives n a i j
 
   pub may_give : (o : Option A) → optional kind k (sorted_of ms) ≡ ok o → MayGive kind s w r o
   unfolding found_of MayGive
-  may_give o e = go r refl (sym (ap {B = Result (Option A)} (λ x. elim x [ none ↦ ok none | some v ↦ (kind v >>= (λ a. ok (some a))) ]) found_sorted) ∙ e)
+  may_give o e = go r refl (sym (ap {B = Result (Option A)} (λ x. elim x [ None ↦ ok None | Some v ↦ (kind v >>= (λ a. ok (Some a))) ]) found_sorted) ∙ e)
     where
-      go : (x : Found) → r ≡
+      go : (x : Option ℕ) → r ≡
           x → ◌≡◌ {A = Result (Option A)}
-          (elim (mapped sorted (found_of s w x)) [ none ↦ ok none | some v ↦ (kind v >>= (λ a. ok (some a))) ]) (ok o) → MayGive kind s w x
+          (elim (mapped sorted (found_of s w x)) [ None ↦ ok None | Some v ↦ (kind v >>= (λ a. ok (Some a))) ]) (ok o) → MayGive kind s w x
           o
-      go founds.Nothing i j = let z : none ≡ o = cc in sym z
-      go (founds.At n) i j =
-          let y = bind_inv (kind (sorted (value_at s w n))) (λ a. ok (some a)) (o, j) in
-          let z : ◌≡◌ {A = Option A} (some y.0) o = cc (sym (bind_ok (λ a. ok (some a)) y.1), j) in
+      go None i j = let z : None ≡ o = cc in sym z
+      go (Some n) i j =
+          let y = bind_inv (kind (sorted (value_at s w n))) (λ a. ok (Some a)) (o, j) in
+          let z : ◌≡◌ {A = Option A} (Some y.0) o = cc (sym (bind_ok (λ a. ok (Some a)) y.1), j) in
           (y.0, sym z, node_gives n y.0 i y.1)
 
+pub node_is : (r : Option ℕ) → unwrap_or r 0 ≡ node_of r
+unfolding node_of
+node_is None = refl
+node_is (Some n) = refl
+
 -- ---- a tree as a sheet
-fault_refused : {A : Type 0} (x : Result A) (r : Refusal) → fault_of x ≡ some r → x ≡ refused r
+fault_refused : {A : Type 0} (x : Result A) (r : Refusal) → fault_of x ≡ Some r → x ≡ refused r
 fault_refused (ok a) r e = cc
 fault_refused (refused q) r e = cc
 
-fault_none : {A : Type 0} (x : Result A) → fault_of x ≡ none → (a : A) × (x ≡ ok a)
+fault_none : {A : Type 0} (x : Result A) → fault_of x ≡ None → (a : A) × (x ≡ ok a)
 fault_none (ok a) e = (a, refl)
 fault_none (refused q) e = let z : ◌≡◌ {A = ℕ} 0 1 = cc in absurd (omega arith)
 
@@ -87,11 +93,11 @@ unfolding checked
 checked_nine v h = refused_bind _ (nine (a_sheet not_null v) (sheet_nine v) h)
 
 module _ (ms : Members) (h : is_ok (a_sheet not_null (object ms)) ≡ true) where
-  checked_fault : (r : Refusal) → soundness_of ms ≡ some r → checked (object ms) ≡ refused r
+  checked_fault : (r : Refusal) → soundness_of ms ≡ Some r → checked (object ms) ≡ refused r
   unfolding checked
   checked_fault r e = let o = okay (a_sheet not_null (object ms)) h in bind_ok _ o.1 ∙ refused_bind _ (fault_refused (sound (written (entries ms))) r e)
 
-  checked_ok : (sheet : Sheet Condition) → soundness_of ms ≡ none → a_sheet condition (object (sorted_of ms)) ≡ ok sheet → checked (object ms) ≡ ok sheet
+  checked_ok : (sheet : Sheet Condition) → soundness_of ms ≡ None → a_sheet condition (object (sorted_of ms)) ≡ ok sheet → checked (object ms) ≡ ok sheet
   unfolding checked sorted
   checked_ok sheet e i =
       let o = okay (a_sheet not_null (object ms)) h in
@@ -104,7 +110,7 @@ unfolding read_sheet
 read_as s w t = bind_ok checked t.reads
 
 module _ {s : Bytes} {w : List ℕ} (t : Stored s w) (k : ℕ) (p : k ≡ kind_at w 0) where
-  pub shape_no_object : (k ≡ 6 → ⊥) → Shaped s w shapes.WrongSheet
+  pub shape_no_object : (k ≡ 6 → ⊥) → Shaped s w (Err misshapen.WrongSheet)
   unfolding Shaped a_sheet
   shape_no_object f = read_as s w t ∙ checked_nine (value_at s w 0) (no_object (value_at s w 0) _ (λ q. f (tagged t.node k p ∙ q)))
 
@@ -120,14 +126,16 @@ module _ {s : Bytes} {w : List ℕ} (t : Stored s w) (k : ℕ) (p : k ≡ kind_a
     tidy_members = sym (ap (tidy max_number) the_object) ∙ ((read_exactly s (value_at s w 0)).0 t.reads).is_tidy
 
     module _ (b : Bool) (i : b ≡ is_ok (a_sheet not_null (object (members_at s w 1 e)))) where
-      pub shape_wrong : b ≡ false → Shaped s w shapes.WrongSheet
+      pub shape_wrong : b ≡ false → Shaped s w (Err misshapen.WrongSheet)
       unfolding Shaped
       shape_wrong f = read_object ∙ checked_nine (object (members_at s w 1 e)) (sym f ∙ i)
 
-      pub shape_fault : (r : Refusal) → b ≡ true → soundness_of (members_at s w 1 e) ≡ some r → read_sheet s ≡ refused r
-      shape_fault r f g = read_object ∙ checked_fault (members_at s w 1 e) (sym i ∙ f) r g
+      pub shape_fault : (r : Fault) → b ≡ true → soundness_of (members_at s w 1 e) ≡ fault_is (Err r) → Shaped s w (Err (misshapen_by r))
+      unfolding Shaped fault_is
+      shape_fault faults.Shape f g = read_object ∙ checked_fault (members_at s w 1 e) (sym i ∙ f) wrong_shape g
+      shape_fault faults.NotCarried f g = read_object ∙ checked_fault (members_at s w 1 e) (sym i ∙ f) not_carried g
 
-      pub shape_is : b ≡ true → soundness_of (members_at s w 1 e) ≡ none → (m : SheetMembers) → SheetNamed s w (members_at s w 1 e) m →
+      pub shape_is : b ≡ true → soundness_of (members_at s w 1 e) ≡ None → (m : SheetMembers) → SheetNamed s w (members_at s w 1 e) m →
           (sheet : Sheet Condition) × Accepted s w (members_of m) sheet
       unfolding members_of
       shape_is f g m n = let x = sheet_sorted (members_at s w 1 e) tidy_members g (sym i ∙ f) in (x.0, accepted_by x.0 x.1)
@@ -180,6 +188,6 @@ unfolding members_of
 same_members m x0 x1 x2 x3 x4 x5 x6 x7 x8 x9 e0 e1 e2 e3 e4 e5 e6 e7 e8 e9 = rw (e0, e1, e2, e3, e4, e5, e6, e7, e8, e9)
 
 pub accepted_at : {s : Bytes} {w : List ℕ} (m : SheetMembers) (r : SheetPlaces) → r ≡ members_of m →
-    (sheet : Sheet Condition) × Accepted s w (members_of m) sheet → Shaped s w (shapes.Is r)
+    (sheet : Sheet Condition) × Accepted s w (members_of m) sheet → Shaped s w (Ok r)
 unfolding Shaped
 accepted_at {s} {w} m r e x = (x.0, subst (λ (y : SheetPlaces). Accepted s w y x.0) (sym e) x.1)

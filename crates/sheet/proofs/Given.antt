@@ -2,7 +2,7 @@
 -- Assumes nothing.
 use mathlib.Core.Bool.{Bool, false, true, ◌&&◌}
 use mathlib.Core.List.{List, [], ◌∷◌}
-use mathlib.Core.Option.{Option, none, some}
+use Rattle.std.specs.Prelude.{Option, None, Some}
 use mathlib.Core.Path.{ap, refl, subst, sym, ◌∙◌, ◌≡◌}
 use Prim.Native.Nat.{ℕ, ◌+◌, ◌<◌, ◌≤◌}
 use native.Mathlib.Omega.{arith}
@@ -19,8 +19,6 @@ use Rattle.json_text.specs.Refusal.{Result, ok, or_else, refused, wrong_sheet, �
 use Rattle.json_text.specs.Sorted.{sorted, sorted_in, sorted_of}
 use Rattle.json_text.specs.Spans.{text_at}
 use Rattle.json_text.specs.Table.{after_at, end_at, kind_at, members_at, start_at, value_at, values_at}
-use Rattle.strings.specs.declared.rows.Found.{Found}
-use Rattle.strings.specs.declared.rows.Found.TheVariants as founds
 use Rattle.sheet.proofs.Accepted.{gives, may_give}
 use Rattle.members.proofs.Shapes.{array_at, number_at, object_at, tag, tag_at, text_at_lem}
 use Rattle.sheet.proofs.SortedKinds.{Okay, a_text_sorted, a_version_sorted, bind_inv}
@@ -178,17 +176,17 @@ module _ {A : Type 0} (kind : Value → Result A) {s : Bytes} {w : List ℕ} {k 
 
 -- ---- rules, outcomes and moves, by the nodes that were found
 given :
-    {A : Type 0} (kind : Value → Result A) {s : Bytes} {w : List ℕ} (ms : Members) (t : tidy_of max_number ms ≡ true) (k : Bytes) (r : Found)
+    {A : Type 0} (kind : Value → Result A) {s : Bytes} {w : List ℕ} (ms : Members) (t : tidy_of max_number ms ≡ true) (k : Bytes) (r : Option ℕ)
     (f : FoundTold s w (find k (entries ms)) r) (a : A) → required kind k (sorted_of ms) ≡ ok a → Given kind s w r a
 unfolding node_of found_of
 given {A} kind {s} {w} ms t k r f a e = go r refl (gives kind ms t k r f a e)
   where
-    go : (x : Found) → r ≡ x → Gives kind s w (node_of r) a → Given kind s w r a
-    go founds.Nothing i g = missing (find k (entries (sorted_of ms))) refl
+    go : (x : Option ℕ) → r ≡ x → Gives kind s w (node_of r) a → Given kind s w r a
+    go None i g = missing (find k (entries (sorted_of ms))) refl
       where
         missing : (o : Option Value) → find k (entries (sorted_of ms)) ≡ o → Given kind s w r a
         missing o q = never wrong_sheet a (sym (ap {B = Result A} (λ y. or_else y wrong_sheet >>= kind) (find_sorted k ms t ∙ ap (mapped sorted) (f.answers ∙ ap (found_of s w) i))) ∙ e)
-    go (founds.At n) i g = record { node = n; found = i; gives = subst (λ (x : ℕ). Gives kind s w x a) (ap node_of i) g }
+    go (Some n) i g = record { node = n; found = i; gives = subst (λ (x : ℕ). Gives kind s w x a) (ap node_of i) g }
 
 rule_given_by :
     {s : Bytes} {w : List ℕ} (ms : Members) → tidy_of max_number ms ≡ true → (m : RuleMembers) → RuleNamed s w ms m → (r : Rule Condition) →
@@ -295,18 +293,18 @@ move_given {s} {w} {n} {f} g =
 -- a word leaves the state; an object has its move under `moves`
 pub data EffectHere (s : Bytes) (w : List ℕ) (n : ℕ) (f : Effect) : Type 0 where
   by_word : kind_at w n ≡ 4 → f ≡ stays → EffectHere s w n f
-  by_move : ObjectHere s w n → ((r : Found) → FoundTold s w (find (ascii "moves") (entries (members_at s w (n + 1) (after_at w n)))) r → Given a_move s w r f) → EffectHere s w n f
+  by_move : ObjectHere s w n → ((r : Option ℕ) → FoundTold s w (find (ascii "moves") (entries (members_at s w (n + 1) (after_at w n)))) r → Given a_move s w r f) → EffectHere s w n f
 
 word_stays : (t : Bytes) (f : Effect) → or_else (find t effect_words) wrong_sheet ≡ ok f → f ≡ stays
 unfolding find
 word_stays t f e = one (same_bytes t (ascii "none")) refl
   where
-    three : (b : Bool) → same_bytes t (ascii "updates") ≡ b → ◌≡◌ {A = Result Effect} (or_else (elim b [ true ↦ some stays | false ↦ none ]) wrong_sheet) (ok f) → f ≡ stays
+    three : (b : Bool) → same_bytes t (ascii "updates") ≡ b → ◌≡◌ {A = Result Effect} (or_else (elim b [ true ↦ Some stays | false ↦ None ]) wrong_sheet) (ok f) → f ≡ stays
     three true q i = cc
     three false q i = never wrong_sheet f i
 
     two : (b : Bool) → same_bytes t (ascii "creates") ≡
-        b → ◌≡◌ {A = Result Effect} (or_else (elim b [ true ↦ some stays | false ↦ find t ((ascii "updates", stays) ∷ []) ]) wrong_sheet)
+        b → ◌≡◌ {A = Result Effect} (or_else (elim b [ true ↦ Some stays | false ↦ find t ((ascii "updates", stays) ∷ []) ]) wrong_sheet)
         (ok f) → f ≡ stays
     two true q i = cc
     two false q i = three (same_bytes t (ascii "updates")) refl i

@@ -2,9 +2,9 @@
 -- Assumes nothing.
 use mathlib.Core.Bool.{Bool, false, true, ◌&&◌}
 use mathlib.Core.List.{List}
-use mathlib.Core.Option.{Option, some}
+use Rattle.std.specs.Prelude.{Option, Some, None}
 use mathlib.Core.Path.{ap, refl, subst, sym, ◌∙◌, ◌≡◌}
-use Prim.Native.Nat.{ℕ, ◌*◌, ◌+◌, ◌-◌, ◌<◌, ◌≤◌}
+use Prim.Native.Nat.{ℕ, ◌*◌, ◌+◌, ◌<◌, ◌≤◌}
 use native.Mathlib.Omega.{arith}
 use lib.Dec.{eqb, ltb}
 use lib.ListN.{length}
@@ -21,8 +21,6 @@ use Rattle.json_text.specs.Refusal.{Refusal, Result, not_carried, ok, or_else, r
 use Rattle.json_text.specs.Sorted.{sorted, sorted_in, sorted_of}
 use Rattle.json_text.specs.Spans.{text_at}
 use Rattle.json_text.specs.Table.{after_at, kind_at, members_at, start_at, value_at, values_at}
-use Rattle.strings.specs.declared.rows.Found.{Found}
-use Rattle.strings.specs.declared.rows.Found.TheVariants as founds
 use Rattle.members.proofs.Conditions.{exactly, find_conditions, not_one}
 use Rattle.syntax.proofs.Faults.{alone, inner_name, inner_node, name_place}
 use Rattle.sheet.proofs.Given.{ObjectHere, object_here}
@@ -269,16 +267,16 @@ pair_here {s} {w} {m} h f c e = first (ltb (m + 1) (after_at w m)) refl
     first false i = never wrong_shape c (sym (ap (λ (vs : Values). two_of f (array (sorted_in vs))) (values_done s w ns (ltb-false (m + 1) (after_at w m) i))) ∙ two)
 
 -- a quantifier by the nodes of its members
-pub record QuantifiedHere (s : Bytes) (w : List ℕ) (m : Mode) (r_in r_as r_that : Found) (c : Condition) : Type 0 where
+pub record QuantifiedHere (s : Bytes) (w : List ℕ) (m : Mode) (r_in r_as r_that : Option ℕ) (c : Condition) : Type 0 where
   pub over : ℕ
-  pub is_in : r_in ≡ founds.At over
+  pub is_in : r_in ≡ Some over
   pub over_node : IsNode s w 64 over
   pub bind : ℕ
-  pub is_as : r_as ≡ founds.At bind
+  pub is_as : r_as ≡ Some bind
   pub name : Bytes
   pub binder : Gives a_text s w bind name
   pub body : ℕ
-  pub is_that : r_that ≡ founds.At body
+  pub is_that : r_that ≡ Some body
   pub that : Condition
   pub inside : Gives condition s w body that
   pub is : c ≡ quantified m (sorted (value_at s w over)) name that
@@ -300,30 +298,30 @@ quantifier_is m ms p =
     )
 
 -- a member of the sorted object is the sorted value at a node
-pub record At (s : Bytes) (w : List ℕ) (r : Found) (x : Value) : Type 0 where
+pub record At (s : Bytes) (w : List ℕ) (r : Option ℕ) (x : Value) : Type 0 where
   pub node : ℕ
-  pub found : r ≡ founds.At node
+  pub found : r ≡ Some node
   pub is_node : IsNode s w 64 node
   pub is_tidy : tidy max_number (value_at s w node) ≡ true
   pub is : sorted (value_at s w node) ≡ x
 
 sorted_at :
-    {s : Bytes} {w : List ℕ} (ms : Members) → tidy_of max_number ms ≡ true → (k : Bytes) (r : Found) → FoundTold s w (find k (entries ms)) r →
-    (x : Value) → find k (entries (sorted_of ms)) ≡ some x → At s w r x
+    {s : Bytes} {w : List ℕ} (ms : Members) → tidy_of max_number ms ≡ true → (k : Bytes) (r : Option ℕ) → FoundTold s w (find k (entries ms)) r →
+    (x : Value) → find k (entries (sorted_of ms)) ≡ Some x → At s w r x
 unfolding found_of FoundIn
 sorted_at {s} {w} ms t k r f x e = go r refl
   where
-    found : mapped sorted (found_of s w r) ≡ some x
+    found : mapped sorted (found_of s w r) ≡ Some x
     found = sym (find_sorted k ms t ∙ ap (mapped sorted) f.answers) ∙ e
 
-    go : (y : Found) → r ≡ y → At s w r x
-    go founds.Nothing i = let z : ◌≡◌ {A = ℕ} 0 1 = cc (sym (ap (λ (y : Found). mapped sorted (found_of s w y)) i) ∙ found) in absurd (omega arith)
-    go (founds.At n) i =
-        let z : sorted (value_at s w n) ≡ x = cc (sym (ap (λ (y : Found). mapped sorted (found_of s w y)) i) ∙ found) in
+    go : (y : Option ℕ) → r ≡ y → At s w r x
+    go None i = let z : ◌≡◌ {A = ℕ} 0 1 = cc (sym (ap (λ (y : Option ℕ). mapped sorted (found_of s w y)) i) ∙ found) in absurd (omega arith)
+    go (Some n) i =
+        let z : sorted (value_at s w n) ≡ x = cc (sym (ap (λ (y : Option ℕ). mapped sorted (found_of s w y)) i) ∙ found) in
         record { node = n; found = i; is_node = full (subst (FoundIn s w) i f.bounds); is_tidy = find_tidy k ms (value_at s w n) t (f.answers ∙ ap (found_of s w) i); is = z }
 
 quantified_by : {s : Bytes} {w : List ℕ} (ms : Members) → tidy_of max_number ms ≡ true → (m : Mode) (c : Condition) →
-    quantifier m (conditions_of (sorted_of ms)) ≡ ok c → (r_in r_as r_that : Found) → FoundTold s w (find (ascii "in") (entries ms)) r_in →
+    quantifier m (conditions_of (sorted_of ms)) ≡ ok c → (r_in r_as r_that : Option ℕ) → FoundTold s w (find (ascii "in") (entries ms)) r_in →
     FoundTold s w (find (ascii "as") (entries ms)) r_as → FoundTold s w (find (ascii "that") (entries ms)) r_that →
     QuantifiedHere s w m r_in r_as r_that c
 quantified_by {s} {w} ms t m c e r_in r_as r_that f_in f_as f_that = go (parts m (sorted_of ms) (ap fault_of e))
@@ -358,7 +356,7 @@ pub quantified_here :
     {s : Bytes} {w : List ℕ} {n : ℕ} → IsNode s w 64 n → tidy max_number (value_at s w n) ≡ true → (m : Mode) (c : Condition) →
     (condition_object (sorted (value_at s w n)) >>= quantifier m) ≡ ok c →
     ObjectHere s w n ×
-    ((r_in r_as r_that : Found) → FoundTold s w (find (ascii "in") (entries (members_at s w (n + 1) (after_at w n)))) r_in → FoundTold s w
+    ((r_in r_as r_that : Option ℕ) → FoundTold s w (find (ascii "in") (entries (members_at s w (n + 1) (after_at w n)))) r_in → FoundTold s w
     (find (ascii "as") (entries (members_at s w (n + 1) (after_at w n)))) r_as → FoundTold s w
     (find (ascii "that") (entries (members_at s w (n + 1) (after_at w n)))) r_that → QuantifiedHere s w m r_in r_as r_that c)
 unfolding condition_object sorted
@@ -366,7 +364,7 @@ quantified_here {s} {w} {n} h t m c e = go (value_at s w n) refl e
   where
     go : (v : Value) → value_at s w n ≡ v → (condition_object (sorted v) >>= quantifier m) ≡ ok c →
         ObjectHere s w n ×
-        ((r_in r_as r_that : Found) → FoundTold s w (find (ascii "in") (entries (members_at s w (n + 1) (after_at w n)))) r_in → FoundTold s w
+        ((r_in r_as r_that : Option ℕ) → FoundTold s w (find (ascii "in") (entries (members_at s w (n + 1) (after_at w n)))) r_in → FoundTold s w
         (find (ascii "as") (entries (members_at s w (n + 1) (after_at w n)))) r_as → FoundTold s w
         (find (ascii "that") (entries (members_at s w (n + 1) (after_at w n)))) r_that → QuantifiedHere s w m r_in r_as r_that c)
     go null i j = never wrong_shape c j

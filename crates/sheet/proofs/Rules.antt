@@ -2,34 +2,28 @@
 -- Assumes nothing.
 use mathlib.Core.Bool.{Bool, false, true, ◌&&◌}
 use mathlib.Core.List.{List, [], ◌∷◌}
-use mathlib.Core.Option.{Option}
+use Rattle.std.specs.Prelude.{Option}
 use mathlib.Core.Path.{ap, refl, subst, sym, ◌∙◌, ◌≡◌}
 use Prim.Native.Nat.{ℕ, ◌+◌}
 use native.Mathlib.Omega.{arith}
 use Rattle.json_text.proofs.Laws.{find_none, find_some}
 use Rattle.strings.specs.Answers.{found_of}
-use Rattle.json_text.specs.Bytes.{Bytes, ascii, find}
+use Rattle.json_text.specs.Bytes.{Bytes, ascii, find, is_one_of}
 use Rattle.json_text.specs.Cursor.{OnText}
 use Rattle.json_text.specs.Held.{AreMembers, IsNode}
 use Rattle.json_text.specs.Json.{Members, Value, array, bool, entries, keys, null, number, object, text}
 use Rattle.json_text.specs.Refusal.{Result, or_else, wrong_sheet, ◌>>=◌}
 use Rattle.json_text.specs.Spans.{text_at}
 use Rattle.json_text.specs.Table.{after_at, end_at, kind_at, members_at, start_at, value_at}
-use Rattle.strings.specs.declared.rows.Found.{Found}
-use Rattle.strings.specs.declared.rows.Found.TheVariants as founds
-use Rattle.members.proofs.Names.{listed, unlisted}
 use Rattle.members.proofs.Shapes.{object_at, tag, tagged, text_at_lem}
 use Rattle.members.proofs.Verdicts.{ok_bind, ok_last, optional_ok, required_ok}
 use Rattle.members.proofs.Walks.{full_members}
-use Rattle.members.specs.Answers.{place_of}
 use Rattle.members.specs.Kinds.{a_bool, a_text, an_object, not_null, only, optional, required, some_texts}
 use Rattle.sheet.specs.Named.{MoveNamed, OutcomeNamed, RuleNamed}
 use Rattle.members.specs.Outcome.{Effect, a_move, an_effect, an_outcome, effect_words}
 use Rattle.members.specs.Rule.{a_rule}
 use Rattle.members.specs.Verdicts.{is_ok}
-use Rattle.members.specs.Wants.{allowed, meets, needed}
-use Rattle.members.specs.Words.{position}
-use Rattle.members.specs.declared.kinds.Want.TheVariants as wants
+use Rattle.members.specs.Wants.{allowed, needed}
 use Rattle.sheet.specs.declared.outcome.MoveMembers.{MoveMembers}
 use Rattle.sheet.specs.declared.outcome.OutcomeMembers.{OutcomeMembers}
 use Rattle.sheet.specs.declared.rule.RuleMembers.{RuleMembers}
@@ -62,10 +56,9 @@ module _ (ms : Members) where
 
   pub rule_ok : is_ok (a_rule not_null (object ms)) ≡
       (((is_ok (only (ascii "assert" ∷ ascii "name" ∷ ascii "message" ∷ []) (keys ms)) &&
-      needed (meets wants.Present) (find (ascii "assert") (entries ms))) &&
-      allowed (meets wants.Text) (find (ascii "name") (entries ms))) &&
-      allowed (meets wants.Text) (find (ascii "message") (entries ms)))
-  unfolding meets
+      needed (λ v. is_ok (not_null v)) (find (ascii "assert") (entries ms))) &&
+      allowed (λ v. is_ok (a_text v)) (find (ascii "name") (entries ms))) &&
+      allowed (λ v. is_ok (a_text v)) (find (ascii "message") (entries ms)))
   rule_ok = rule_parts ∙ rw (required_ok not_null (ascii "assert") ms, optional_ok a_text (ascii "name") ms, optional_ok a_text (ascii "message") ms) (simp left3)
 
   move_parts : is_ok (a_move (object ms)) ≡
@@ -77,9 +70,8 @@ module _ (ms : Members) where
       (λ _. ok_bind (required a_text (ascii "to") ms) _ _ (λ x0. ok_last (required some_texts (ascii "from") ms) _))
 
   pub move_ok : is_ok (a_move (object ms)) ≡
-      ((is_ok (only (ascii "to" ∷ ascii "from" ∷ []) (keys ms)) && needed (meets wants.Text) (find (ascii "to") (entries ms))) &&
-      needed (meets wants.TextOrTexts) (find (ascii "from") (entries ms)))
-  unfolding meets
+      ((is_ok (only (ascii "to" ∷ ascii "from" ∷ []) (keys ms)) && needed (λ v. is_ok (a_text v)) (find (ascii "to") (entries ms))) &&
+      needed (λ v. is_ok (some_texts v)) (find (ascii "from") (entries ms)))
   move_ok = move_parts ∙ rw (required_ok a_text (ascii "to") ms, required_ok some_texts (ascii "from") ms) (simp left3)
 
   effect_parts : is_ok (an_effect (object ms)) ≡ (is_ok (only (ascii "moves" ∷ []) (keys ms)) && is_ok (required a_move (ascii "moves") ms))
@@ -87,7 +79,6 @@ module _ (ms : Members) where
   effect_parts = ok_bind (only (ascii "moves" ∷ []) (keys ms)) _ _ (λ _. refl)
 
   pub effect_ok : is_ok (an_effect (object ms)) ≡ (is_ok (only (ascii "moves" ∷ []) (keys ms)) && needed (λ v. is_ok (a_move v)) (find (ascii "moves") (entries ms)))
-  unfolding meets
   effect_ok = effect_parts ∙ rw (required_ok a_move (ascii "moves") ms)
 
   outcome_parts : is_ok (an_outcome not_null (object ms)) ≡
@@ -107,12 +98,11 @@ module _ (ms : Members) where
   pub outcome_ok : is_ok (an_outcome not_null (object ms)) ≡
       (((((is_ok
       (only (ascii "name" ∷ ascii "when" ∷ ascii "in_state" ∷ ascii "wrong_state" ∷ ascii "effect" ∷ [])
-      (keys ms)) && needed (meets wants.Text) (find (ascii "name") (entries ms))) &&
-      allowed (meets wants.Present) (find (ascii "when") (entries ms))) &&
-      allowed (meets wants.Text) (find (ascii "in_state") (entries ms))) &&
-      allowed (meets wants.Bool) (find (ascii "wrong_state") (entries ms))) &&
+      (keys ms)) && needed (λ v. is_ok (a_text v)) (find (ascii "name") (entries ms))) &&
+      allowed (λ v. is_ok (not_null v)) (find (ascii "when") (entries ms))) &&
+      allowed (λ v. is_ok (a_text v)) (find (ascii "in_state") (entries ms))) &&
+      allowed (λ v. is_ok (a_bool v)) (find (ascii "wrong_state") (entries ms))) &&
       allowed (λ v. is_ok (an_effect v)) (find (ascii "effect") (entries ms)))
-  unfolding meets
   outcome_ok =
       outcome_parts ∙
       rw (
@@ -147,8 +137,8 @@ module _ {s : Bytes} {w : List ℕ} {n : ℕ} (h : IsNode s w 64 n) (k : ℕ) (p
 
     pub is_rule : (m : RuleMembers) → RuleNamed s w (members_at s w (n + 1) e) m → (a b c d : Bool) →
         a ≡ is_ok (only (ascii "assert" ∷ ascii "name" ∷ ascii "message" ∷ []) (keys (members_at s w (n + 1) e))) →
-        b ≡ needed (meets wants.Present) (found_of s w m.assert) → c ≡ allowed (meets wants.Text) (found_of s w m.name) →
-        d ≡ allowed (meets wants.Text) (found_of s w m.message) → (((a && b) && c) && d) ≡ is_ok (a_rule not_null (value_at s w n))
+        b ≡ needed (λ v. is_ok (not_null v)) (found_of s w m.assert) → c ≡ allowed (λ v. is_ok (a_text v)) (found_of s w m.name) →
+        d ≡ allowed (λ v. is_ok (a_text v)) (found_of s w m.message) → (((a && b) && c) && d) ≡ is_ok (a_rule not_null (value_at s w n))
     is_rule m t a b c d i1 i2 i3 i4 =
         sym
         (ap (λ (v : Value). is_ok (a_rule not_null v)) object_is ∙
@@ -157,7 +147,7 @@ module _ {s : Bytes} {w : List ℕ} {n : ℕ} (h : IsNode s w 64 n) (k : ℕ) (p
 
     pub is_move : (m : MoveMembers) → MoveNamed s w (members_at s w (n + 1) e) m → (a b c : Bool) →
         a ≡ is_ok (only (ascii "to" ∷ ascii "from" ∷ []) (keys (members_at s w (n + 1) e))) →
-        b ≡ needed (meets wants.Text) (found_of s w m.to) → c ≡ needed (meets wants.TextOrTexts) (found_of s w m.from) →
+        b ≡ needed (λ v. is_ok (a_text v)) (found_of s w m.to) → c ≡ needed (λ v. is_ok (some_texts v)) (found_of s w m.from) →
         ((a && b) && c) ≡ is_ok (a_move (value_at s w n))
     is_move m t a b c i1 i2 i3 = sym (ap (λ (v : Value). is_ok (a_move v)) object_is ∙ move_ok (members_at s w (n + 1) e) ∙ rw (t.to.answers, t.from.answers, ← i1, ← i2, ← i3))
 
@@ -165,9 +155,9 @@ module _ {s : Bytes} {w : List ℕ} {n : ℕ} (h : IsNode s w 64 n) (k : ℕ) (p
         a ≡
         is_ok
         (only (ascii "name" ∷ ascii "when" ∷ ascii "in_state" ∷ ascii "wrong_state" ∷ ascii "effect" ∷ [])
-        (keys (members_at s w (n + 1) e))) → b ≡ needed (meets wants.Text) (found_of s w m.name) →
-        c ≡ allowed (meets wants.Present) (found_of s w m.when) → d ≡ allowed (meets wants.Text) (found_of s w m.in_state) →
-        f ≡ allowed (meets wants.Bool) (found_of s w m.wrong_state) → g ≡ allowed (λ v. is_ok (an_effect v)) (found_of s w m.effect) →
+        (keys (members_at s w (n + 1) e))) → b ≡ needed (λ v. is_ok (a_text v)) (found_of s w m.name) →
+        c ≡ allowed (λ v. is_ok (not_null v)) (found_of s w m.when) → d ≡ allowed (λ v. is_ok (a_text v)) (found_of s w m.in_state) →
+        f ≡ allowed (λ v. is_ok (a_bool v)) (found_of s w m.wrong_state) → g ≡ allowed (λ v. is_ok (an_effect v)) (found_of s w m.effect) →
         (((((a && b) && c) && d) && f) && g) ≡ is_ok (an_outcome not_null (value_at s w n))
     is_outcome m t a b c d f g i1 i2 i3 i4 i5 i6 =
         sym
@@ -187,21 +177,11 @@ module _ {s : Bytes} {w : List ℕ} {n : ℕ} (h : IsNode s w 64 n) (k : ℕ) (p
           ← i6,
         ))
 
-    pub effect_further : false ≡ is_ok (only (ascii "moves" ∷ []) (keys (members_at s w (n + 1) e))) → false ≡ is_ok (an_effect (value_at s w n))
-    effect_further i = sym (ap (λ (v : Value). is_ok (an_effect v)) object_is ∙ effect_ok (members_at s w (n + 1) e) ∙ rw (← i))
-
-    module _ (i : true ≡ is_ok (only (ascii "moves" ∷ []) (keys (members_at s w (n + 1) e)))) (r : Found)
-        (t : find (ascii "moves") (entries (members_at s w (n + 1) e)) ≡ found_of s w r) where
-      effect_moved : is_ok (an_effect (value_at s w n)) ≡ needed (λ v. is_ok (a_move v)) (found_of s w r)
-      effect_moved = ap (λ (v : Value). is_ok (an_effect v)) object_is ∙ effect_ok (members_at s w (n + 1) e) ∙ rw (← i, t)
-
-      pub effect_nowhere : r ≡ founds.Nothing → false ≡ is_ok (an_effect (value_at s w n))
-      unfolding found_of
-      effect_nowhere g = sym (effect_moved ∙ ap (λ (x : Found). needed (λ v. is_ok (a_move v)) (found_of s w x)) g)
-
-      pub effect_moves : (m : ℕ) (b : Bool) → r ≡ founds.At m → b ≡ is_ok (a_move (value_at s w m)) → b ≡ is_ok (an_effect (value_at s w n))
-      unfolding found_of
-      effect_moves m b g f = f ∙ sym (effect_moved ∙ ap (λ (x : Found). needed (λ v. is_ok (a_move v)) (found_of s w x)) g)
+    pub effect_moved : (r : Option ℕ) → find (ascii "moves") (entries (members_at s w (n + 1) e)) ≡ found_of s w r → (a b : Bool) →
+        a ≡ is_ok (only (ascii "moves" ∷ []) (keys (members_at s w (n + 1) e))) → b ≡ needed (λ v. is_ok (a_move v)) (found_of s w r) →
+        (a && b) ≡ is_ok (an_effect (value_at s w n))
+    effect_moved r t a b i1 i2 =
+        sym (ap (λ (v : Value). is_ok (an_effect v)) object_is ∙ effect_ok (members_at s w (n + 1) e) ∙ rw (t, ← i1, ← i2))
 
   pub not_effect : (k ≡ 4 → ⊥) → (k ≡ 6 → ⊥) → false ≡ is_ok (an_effect (value_at s w n))
   unfolding an_effect
@@ -220,15 +200,14 @@ module _ {s : Bytes} {w : List ℕ} {n : ℕ} (h : IsNode s w 64 n) (k : ℕ) (p
     pub on_text_lem : OnText s a 0
     on_text_lem = subst (λ (x : ℕ). OnText s x 0) (sym i) (record { stop = end_at w n; text = (text_at_lem h (sym p ∙ q)).1; few = omega arith })
 
-    module _ (r : Found) (t : position 0 (text_at s a) (ascii "none" ∷ ascii "creates" ∷ ascii "updates" ∷ []) ≡ place_of r) where
-      effect_word : is_ok (an_effect (value_at s w n)) ≡ is_ok (or_else (find (text_at s a) effect_words) wrong_sheet)
-      unfolding an_effect
-      effect_word = ap (λ (v : Value). is_ok (an_effect v)) ((text_at_lem h (sym p ∙ q)).0 ∙ ap (λ (x : ℕ). text (text_at s x)) (sym i))
-
-      pub no_word : r ≡ founds.Nothing → false ≡ is_ok (an_effect (value_at s w n))
-      unfolding place_of
-      no_word g = sym (effect_word ∙ ap (λ (o : Option Effect). is_ok (or_else o wrong_sheet)) (find_none (text_at s a) effect_words (unlisted 0 (text_at s a) _ (t ∙ ap place_of g))))
-
-      pub a_word : (m : ℕ) → r ≡ founds.At m → true ≡ is_ok (an_effect (value_at s w n))
-      unfolding place_of
-      a_word m g = sym (effect_word ∙ ap (λ (o : Option Effect). is_ok (or_else o wrong_sheet)) (find_some (text_at s a) effect_words (listed 0 m (text_at s a) _ (t ∙ ap place_of g))).1)
+    pub a_word : {b : Bool} → b ≡ is_one_of (text_at s a) (ascii "none" ∷ ascii "creates" ∷ ascii "updates" ∷ []) → b ≡ is_ok (an_effect (value_at s w n))
+    unfolding an_effect
+    a_word j =
+        j ∙
+        known (text_at s a) (is_one_of (text_at s a) (ascii "none" ∷ ascii "creates" ∷ ascii "updates" ∷ [])) refl ∙
+        sym (ap (λ (v : Value). is_ok (an_effect v)) ((text_at_lem h (sym p ∙ q)).0 ∙ ap (λ (x : ℕ). text (text_at s x)) (sym i)))
+      where
+        known : (k : Bytes) (b : Bool) → is_one_of k (ascii "none" ∷ ascii "creates" ∷ ascii "updates" ∷ []) ≡ b →
+            is_one_of k (ascii "none" ∷ ascii "creates" ∷ ascii "updates" ∷ []) ≡ is_ok (or_else (find k effect_words) wrong_sheet)
+        known k true e = e ∙ sym (ap (λ (o : Option Effect). is_ok (or_else o wrong_sheet)) (find_some k effect_words e).1)
+        known k false e = e ∙ sym (ap (λ (o : Option Effect). is_ok (or_else o wrong_sheet)) (find_none k effect_words e))

@@ -2,7 +2,7 @@
 -- Assumes nothing.
 use mathlib.Core.Bool.{true}
 use mathlib.Core.List.{List, [], ◌∷◌}
-use mathlib.Core.Option.{Option, none, some}
+use Rattle.std.specs.Prelude.{Option, None, Some}
 use mathlib.Core.Path.{ap, refl, subst, sym, ◌∙◌, ◌≡◌}
 use Prim.Native.Nat.{ℕ}
 use native.Mathlib.Omega.{arith}
@@ -94,7 +94,7 @@ some_texts_sorted (object ms) = refl
 -- ---- members of the sorted object
 -- a value that is one of the members, under its name
 abbrev pub Kept : {A B : Type 0} → Members → Bytes → (Value → Result A) → (Value → Result B) → Type 0
-Kept ms k kind kind' = (v : Value) → tidy max_number v ≡ true → find k (entries ms) ≡ some v → Okay (kind v) → Okay (kind' (sorted v))
+Kept ms k kind kind' = (v : Value) → tidy max_number v ≡ true → find k (entries ms) ≡ Some v → Okay (kind v) → Okay (kind' (sorted v))
 
 pub kept : {A : Type 0} (kind : Value → Result A) → ((v : Value) → kind (sorted v) ≡ kind v) → (ms : Members) (k : Bytes) → Kept ms k kind kind
 kept kind h ms k v t e o = (o.0, h v ∙ o.1)
@@ -113,23 +113,23 @@ module _ {A B : Type 0} (kind : Value → Result A) (kind' : Value → Result B)
   required_sorted o = go (find k (entries ms)) refl o
     where
       go : (f : Option Value) → find k (entries ms) ≡ f → Okay (or_else f wrong_sheet >>= kind) → Okay (required kind' k (sorted_of ms))
-      go none e x = never wrong_sheet x.0 x.1
-      go (some v) e x = let r = h v (find_tidy k ms v t e) e x in (r.0, ap {B = Result B} (λ f. or_else f wrong_sheet >>= kind') (find_sorted k ms t ∙ ap (mapped sorted) e) ∙ r.1)
+      go None e x = never wrong_sheet x.0 x.1
+      go (Some v) e x = let r = h v (find_tidy k ms v t e) e x in (r.0, ap {B = Result B} (λ f. or_else f wrong_sheet >>= kind') (find_sorted k ms t ∙ ap (mapped sorted) e) ∙ r.1)
 
   pub optional_sorted : Okay (optional kind k ms) → Okay (optional kind' k (sorted_of ms))
   optional_sorted o = go (find k (entries ms)) refl o
     where
       go : (f : Option Value) → find k (entries ms) ≡
-          f → Okay {A = Option A} (elim f [ none ↦ ok none | some v ↦ (kind v >>= (λ a. ok (some a))) ]) → Okay
+          f → Okay {A = Option A} (elim f [ None ↦ ok None | Some v ↦ (kind v >>= (λ a. ok (Some a))) ]) → Okay
           (optional kind' k (sorted_of ms))
-      go none e x = (none, ap {B = Result (Option B)} (λ f. elim f [ none ↦ ok none | some v ↦ (kind' v >>= (λ a. ok (some a))) ]) (find_sorted k ms t ∙ ap (mapped sorted) e))
-      go (some v) e x =
-          let y = bind_inv (kind v) (λ a. ok (some a)) x in
+      go None e x = (None, ap {B = Result (Option B)} (λ f. elim f [ None ↦ ok None | Some v ↦ (kind' v >>= (λ a. ok (Some a))) ]) (find_sorted k ms t ∙ ap (mapped sorted) e))
+      go (Some v) e x =
+          let y = bind_inv (kind v) (λ a. ok (Some a)) x in
           let r = h v (find_tidy k ms v t e) e (y.0, y.1) in (
-            some r.0,
-            ap {B = Result (Option B)} (λ f. elim f [ none ↦ ok none | some u ↦ (kind' u >>= (λ a. ok (some a))) ])
+            Some r.0,
+            ap {B = Result (Option B)} (λ f. elim f [ None ↦ ok None | Some u ↦ (kind' u >>= (λ a. ok (Some a))) ])
                 (find_sorted k ms t ∙ ap (mapped sorted) e) ∙
-                bind_ok (λ a. ok (some a)) r.1,
+                bind_ok (λ a. ok (Some a)) r.1,
           )
 
 pub only_okay : (names : List Bytes) (ms : Members) → Okay (only names (keys ms)) → Okay (only names (keys (sorted_of ms)))

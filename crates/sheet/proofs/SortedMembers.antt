@@ -2,7 +2,7 @@
 -- Assumes nothing.
 use mathlib.Core.Bool.{Bool, false, not, true, ◌&&◌}
 use mathlib.Core.List.{List, ◌∷◌}
-use mathlib.Core.Option.{Option, none, some}
+use Rattle.std.specs.Prelude.{Option, None, Some}
 use mathlib.Core.Path.{ap, refl, subst, sym, ◌∙◌, ◌≡◌}
 use Prim.Native.Nat.{Ordering, suc, ℕ}
 use native.Mathlib.Omega.{arith}
@@ -90,16 +90,16 @@ module _ (k : Bytes) (v : Value) where
           at Ordering.eq q below = let z : ◌≡◌ {A = ℕ} 0 1 = cc (ap (same_bytes k) (order_bytes_eq k l q), same_bytes_refl k, e) in absurd (omega arith)
           at Ordering.gt q below = rw (q, insert) (ap suc below)
 
-  find_insert : (ms : Members) → is_one_of k (keys ms) ≡ false → find k (entries (insert k v ms)) ≡ some v
+  find_insert : (ms : Members) → is_one_of k (keys ms) ≡ false → find k (entries (insert k v ms)) ≡ Some v
   unfolding is_one_of find order_bytes
   find_insert empty h = rw (same_bytes_refl k, find)
   find_insert (member l w ms) h = go (same_bytes k l) refl (find_insert ms)
     where
-      go : (b : Bool) → same_bytes k l ≡ b → (is_one_of k (keys ms) ≡ false → find k (entries (insert k v ms)) ≡ some v) → find k (entries (insert k v (member l w ms))) ≡ some v
+      go : (b : Bool) → same_bytes k l ≡ b → (is_one_of k (keys ms) ≡ false → find k (entries (insert k v ms)) ≡ Some v) → find k (entries (insert k v (member l w ms))) ≡ Some v
       go true e below = let z : ◌≡◌ {A = ℕ} 0 1 = cc (rw (e, is_one_of) at h) in absurd (omega arith)
       go false e below = at (order_bytes k l) refl (below (rw (e, is_one_of) at h))
         where
-          at : (o : Ordering) → order_bytes k l ≡ o → find k (entries (insert k v ms)) ≡ some v → find k (entries (insert k v (member l w ms))) ≡ some v
+          at : (o : Ordering) → order_bytes k l ≡ o → find k (entries (insert k v ms)) ≡ Some v → find k (entries (insert k v (member l w ms))) ≡ Some v
           at Ordering.lt q below = rw (q, insert, same_bytes_refl k, find)
           at Ordering.eq q below = let z : ◌≡◌ {A = ℕ} 0 1 = cc (ap (same_bytes k) (order_bytes_eq k l q), same_bytes_refl k, e) in absurd (omega arith)
           at Ordering.gt q below = rw (q, insert, e, find) below
@@ -140,8 +140,8 @@ module _ (k : Bytes) (v : Value) where
 
 -- ---- all members
 abbrev pub mapped : (Value → Value) → Option Value → Option Value
-mapped f none = none
-mapped f (some v) = some (f v)
+mapped f None = None
+mapped f (Some v) = Some (f v)
 
 one_of_sorted : (j : Bytes) (ms : Members) → is_one_of j (keys (sorted_of ms)) ≡ is_one_of j (keys ms)
 unfolding sorted_of is_one_of
@@ -166,7 +166,7 @@ find_sorted j (member k v ms) h = go (same_bytes j k) refl (find_sorted j ms u.o
     go true e below =
         let q : j ≡
         k = same_bytes_true j k e in rw (e, find)
-        (subst (λ (x : Bytes). find x (entries (insert k (sorted v) (sorted_of ms))) ≡ some (sorted v)) (sym q)
+        (subst (λ (x : Bytes). find x (entries (insert k (sorted v) (sorted_of ms))) ≡ Some (sorted v)) (sym q)
         (find_insert k (sorted v) (sorted_of ms) (one_of_sorted k ms ∙ u.name)))
     go false e below = rw (e, find) (find_insert_other k (sorted v) j (sorted_of ms) e ∙ below)
 
@@ -181,7 +181,7 @@ only_sorted names (member k v ms) h = go (is_one_of k names) refl (only_sorted n
     go false e below = let z : ◌≡◌ {A = ℕ} 0 1 = cc (rw (e, only) at h) in absurd (omega arith)
 
 -- a member that was found is as tidy as the members
-pub find_tidy : (j : Bytes) (ms : Members) (v : Value) → tidy_of max_number ms ≡ true → find j (entries ms) ≡ some v → tidy max_number v ≡ true
+pub find_tidy : (j : Bytes) (ms : Members) (v : Value) → tidy_of max_number ms ≡ true → find j (entries ms) ≡ Some v → tidy max_number v ≡ true
 unfolding find
 find_tidy j empty v h e = let z : ◌≡◌ {A = ℕ} 0 1 = cc in absurd (omega arith)
 find_tidy j (member k w ms) v h e = go (same_bytes j k) refl (find_tidy j ms v u.others)
@@ -189,6 +189,6 @@ find_tidy j (member k w ms) v h e = go (same_bytes j k) refl (find_tidy j ms v u
     u : Unrepeated k w ms
     u = unrepeated k w ms h
 
-    go : (b : Bool) → same_bytes j k ≡ b → (find j (entries ms) ≡ some v → tidy max_number v ≡ true) → tidy max_number v ≡ true
+    go : (b : Bool) → same_bytes j k ≡ b → (find j (entries ms) ≡ Some v → tidy max_number v ≡ true) → tidy max_number v ≡ true
     go true q below = let i : w ≡ v = cc (rw (q, find) at e) in subst (λ (x : Value). tidy max_number x ≡ true) i u.value
     go false q below = below (rw (q, find) at e)

@@ -2,7 +2,7 @@
 -- Assumes nothing.
 use mathlib.Core.Bool.{Bool, false, true, ◌&&◌}
 use mathlib.Core.List.{List, [], ◌∷◌}
-use mathlib.Core.Option.{Option, none, some}
+use Rattle.std.specs.Prelude.{Option, None, Some}
 use mathlib.Core.Path.{ap, refl, subst, sym, ◌∙◌, ◌≡◌}
 use Prim.Native.Nat.{ℕ}
 use native.Mathlib.Omega.{arith}
@@ -43,29 +43,29 @@ use Rattle.members.specs.Sheet.{Sheet, a_sheet, held_by, holders, in_array, memb
 use Rattle.members.specs.Verdicts.{fault_of, is_ok}
 
 -- no fault: a condition
-fault_okay : {A : Type 0} (x : Result A) → fault_of x ≡ none → Okay x
+fault_okay : {A : Type 0} (x : Result A) → fault_of x ≡ None → Okay x
 fault_okay (ok a) e = (a, refl)
 fault_okay (refused r) e = let z : ◌≡◌ {A = ℕ} 0 1 = cc in absurd (omega arith)
 
-condition_okay : (v : Value) → tidy max_number v ≡ true → fault_of (condition v) ≡ none → Okay (condition (sorted v))
+condition_okay : (v : Value) → tidy max_number v ≡ true → fault_of (condition v) ≡ None → Okay (condition (sorted v))
 condition_okay v t h = fault_okay (condition (sorted v)) (sound_sorted v t h)
 
 -- the condition that an element has under a name
-under_kept : (ms : Members) (k : Bytes) → soundness (member_of k (object ms)) ≡ none → Kept ms k not_null condition
+under_kept : (ms : Members) (k : Bytes) → soundness (member_of k (object ms)) ≡ None → Kept ms k not_null condition
 under_kept ms k h v t e o = condition_okay v t (sym (sound_one v) ∙ sym (ap soundness (member_of_lem k ms ∙ ap one_of e)) ∙ h)
 
 -- ---- rules and outcomes
-rule_sorted : (v : Value) → tidy max_number v ≡ true → soundness (member_of (ascii "assert") v) ≡ none → Okay (a_rule not_null v) → Okay (a_rule condition (sorted v))
+rule_sorted : (v : Value) → tidy max_number v ≡ true → soundness (member_of (ascii "assert") v) ≡ None → Okay (a_rule not_null v) → Okay (a_rule condition (sorted v))
 unfolding a_rule sorted tidy
 rule_sorted v t s o =
     subst
     (λ (x : Value). tidy max_number x ≡ true → soundness (member_of (ascii "assert") x) ≡
-    none → Okay (a_rule not_null x) → Okay (a_rule condition (sorted x))) (sym q.1) (go q.0) t s o
+    None → Okay (a_rule not_null x) → Okay (a_rule condition (sorted x))) (sym q.1) (go q.0) t s o
   where
     q : (ms : Members) × (v ≡ object ms)
     q = as_object_lem v _ o
 
-    go : (ms : Members) → tidy_of max_number ms ≡ true → soundness (member_of (ascii "assert") (object ms)) ≡ none →
+    go : (ms : Members) → tidy_of max_number ms ≡ true → soundness (member_of (ascii "assert") (object ms)) ≡ None →
         Okay (a_rule not_null (object ms)) → Okay (a_rule condition (object (sorted_of ms)))
     go ms u h x =
         let a = bind_inv (only (ascii "assert" ∷ ascii "name" ∷ ascii "message" ∷ []) (keys ms)) _ x in
@@ -78,17 +78,17 @@ rule_sorted v t s o =
         let d' = optional_sorted a_text a_text ms u (ascii "message") (kept a_text a_text_sorted ms (ascii "message")) (d.0, d.1) in
         bind_okay _ a'.0 a'.1 (bind_okay _ b'.0 b'.1 (bind_okay _ c'.0 c'.1 (bind_okay _ d'.0 d'.1 (_, refl))))
 
-outcome_sorted : (v : Value) → tidy max_number v ≡ true → soundness (member_of (ascii "when") v) ≡ none → Okay (an_outcome not_null v) → Okay (an_outcome condition (sorted v))
+outcome_sorted : (v : Value) → tidy max_number v ≡ true → soundness (member_of (ascii "when") v) ≡ None → Okay (an_outcome not_null v) → Okay (an_outcome condition (sorted v))
 unfolding an_outcome sorted tidy
 outcome_sorted v t s o =
     subst
     (λ (x : Value). tidy max_number x ≡ true → soundness (member_of (ascii "when") x) ≡
-    none → Okay (an_outcome not_null x) → Okay (an_outcome condition (sorted x))) (sym q.1) (go q.0) t s o
+    None → Okay (an_outcome not_null x) → Okay (an_outcome condition (sorted x))) (sym q.1) (go q.0) t s o
   where
     q : (ms : Members) × (v ≡ object ms)
     q = as_object_lem v _ o
 
-    go : (ms : Members) → tidy_of max_number ms ≡ true → soundness (member_of (ascii "when") (object ms)) ≡ none →
+    go : (ms : Members) → tidy_of max_number ms ≡ true → soundness (member_of (ascii "when") (object ms)) ≡ None →
         Okay (an_outcome not_null (object ms)) → Okay (an_outcome condition (object (sorted_of ms)))
     go ms u h x =
         let a = bind_inv (only (ascii "name" ∷ ascii "when" ∷ ascii "in_state" ∷ ascii "wrong_state" ∷ ascii "effect" ∷ []) (keys ms)) _ x in
@@ -110,9 +110,9 @@ outcome_sorted v t s o =
 
 -- ---- an array of them
 module _ {A B : Type 0} (kind : Value → Result A) (kind' : Value → Result B) (key : Bytes)
-    (each : (v : Value) → tidy max_number v ≡ true → soundness (member_of key v) ≡ none → Okay (kind v) → Okay (kind' (sorted v))) where
+    (each : (v : Value) → tidy max_number v ≡ true → soundness (member_of key v) ≡ None → Okay (kind v) → Okay (kind' (sorted v))) where
   elements_sorted :
-      (vs : Values) → tidy_in max_number vs ≡ true → soundness (member_of_each key (elements vs)) ≡ none → Okay (each_of kind (elements vs)) →
+      (vs : Values) → tidy_in max_number vs ≡ true → soundness (member_of_each key (elements vs)) ≡ None → Okay (each_of kind (elements vs)) →
       Okay (each_of kind' (elements (sorted_in vs)))
   unfolding tidy_in member_of_each each_of sorted_in
   elements_sorted nil t s o = ([], refl)
@@ -124,7 +124,7 @@ module _ {A B : Type 0} (kind : Value → Result A) (kind' : Value → Result B)
       let b' = elements_sorted vs (and_second (tidy max_number v) (tidy_in max_number vs) t) p.1 (b.0, b.1) in
       bind_okay _ a'.0 a'.1 (bind_okay _ b'.0 b'.1 (_, refl))
 
-  array_kept : (v : Value) → tidy max_number v ≡ true → soundness (in_array key v) ≡ none → Okay (an_array_of kind v) → Okay (an_array_of kind' (sorted v))
+  array_kept : (v : Value) → tidy max_number v ≡ true → soundness (in_array key v) ≡ None → Okay (an_array_of kind v) → Okay (an_array_of kind' (sorted v))
   unfolding tidy sorted
   array_kept null t s o = never wrong_sheet o.0 o.1
   array_kept (bool b) t s o = never wrong_sheet o.0 o.1
@@ -134,22 +134,22 @@ module _ {A B : Type 0} (kind : Value → Result A) (kind' : Value → Result B)
   array_kept (array vs) t s o = elements_sorted vs t s o
 
 -- ---- the sheet's members
-held_all : (es : List (Bytes × Value)) (k : Bytes) (v : Value) → soundness (written es) ≡ none → find k es ≡ some v → soundness (held_by (find k holders) v) ≡ none
+held_all : (es : List (Bytes × Value)) (k : Bytes) (v : Value) → soundness (written es) ≡ None → find k es ≡ Some v → soundness (held_by (find k holders) v) ≡ None
 unfolding written find
 held_all [] k v s e = let z : ◌≡◌ {A = ℕ} 0 1 = cc in absurd (omega arith)
 held_all (x ∷ es) k v s e = go (same_bytes k x.0) refl (held_all es k v p.1)
   where
-    p : (soundness (held_by (find x.0 holders) x.1) ≡ none) × (soundness (written es) ≡ none)
+    p : (soundness (held_by (find x.0 holders) x.1) ≡ None) × (soundness (written es) ≡ None)
     p = first_none (soundness (held_by (find x.0 holders) x.1)) (soundness (written es)) (sym (sound_append (held_by (find x.0 holders) x.1) (written es)) ∙ s)
 
-    go : (b : Bool) → same_bytes k x.0 ≡ b → (find k es ≡ some v → soundness (held_by (find k holders) v) ≡ none) → soundness (held_by (find k holders) v) ≡ none
+    go : (b : Bool) → same_bytes k x.0 ≡ b → (find k es ≡ Some v → soundness (held_by (find k holders) v) ≡ None) → soundness (held_by (find k holders) v) ≡ None
     go true q below =
         let i : k ≡ x.0 = same_bytes_true k x.0 q in
         let j : x.1 ≡ v = cc (rw (q, find) at e) in
         ap {B = Option Refusal} (λ y. soundness (held_by (find y holders) v)) i ∙ ap {B = Option Refusal} (λ y. soundness (held_by (find x.0 holders) y)) (sym j) ∙ p.0
     go false q below = below (rw (q, find) at e)
 
-module _ (ms : Members) (s : soundness_of ms ≡ none) where
+module _ (ms : Members) (s : soundness_of ms ≡ None) where
   condition_kept : Kept ms (ascii "condition") not_null condition
   unfolding find same_bytes
   condition_kept v t e o = condition_okay v t (sym (sound_one v) ∙ held_all (entries ms) (ascii "condition") v s e)
@@ -257,7 +257,7 @@ record Given (ms : Members) : Type 0 where
   pub invariants : Okay (required (an_array_of (a_rule condition)) (ascii "invariants") ms)
   pub outcomes : Okay (required (an_array_of (an_outcome condition)) (ascii "outcomes") ms)
 
-given_sorted : (ms : Members) → tidy_of max_number ms ≡ true → soundness_of ms ≡ none →
+given_sorted : (ms : Members) → tidy_of max_number ms ≡ true → soundness_of ms ≡ None →
     AllTrue (is_ok (only sheet_names (keys ms))) (is_ok (optional a_text (ascii "id") ms)) (is_ok (required a_text (ascii "entity") ms))
     (is_ok (required a_version (ascii "version") ms)) (is_ok (required an_object (ascii "args") ms))
     (is_ok (required an_object (ascii "fields") ms)) (is_ok (required an_object (ascii "old_fields") ms))
@@ -345,6 +345,6 @@ given_sheet ms g = (
   },
 )
 
-pub sheet_sorted : (ms : Members) → tidy_of max_number ms ≡ true → soundness_of ms ≡ none → is_ok (a_sheet not_null (object ms)) ≡ true →
+pub sheet_sorted : (ms : Members) → tidy_of max_number ms ≡ true → soundness_of ms ≡ None → is_ok (a_sheet not_null (object ms)) ≡ true →
     (sheet : Sheet Condition) × SheetParts (sorted_of ms) sheet
 sheet_sorted ms u s o = given_sheet (sorted_of ms) (given_sorted ms u s (all_true _ _ _ _ _ _ _ _ _ _ _ _ _ _ _ (sym (sheet_parts ms) ∙ o)))

@@ -1,7 +1,8 @@
 -- What is known of an accepted sheet: which node of the table gives each of its members.
 -- Assumes nothing.
-use Rattle.std.specs.Prelude.{List, Bool, true, ◌≡◌, ℕ}
-use Rattle.std.proofs.Math.Option.{Option, none, some}
+use Rattle.std.specs.Prelude.{Result as Fallible}
+use Rattle.std.specs.Prelude.{List, Bool, true, ◌≡◌, ℕ, Ok, Err}
+use Rattle.std.specs.Prelude.{Option, None, Some}
 use Rattle.json_text.specs.Bytes.{Bytes}
 use Rattle.json_text.specs.Held.{AreNodes, IsNode}
 use Rattle.json_text.specs.Json.{Value, elements}
@@ -11,8 +12,6 @@ use Rattle.json_text.specs.Reader.{json}
 use Rattle.json_text.specs.Refusal.{Result, not_carried, ok, refused, wrong_shape, wrong_sheet}
 use Rattle.json_text.specs.Sorted.{sorted, sorted_in}
 use Rattle.json_text.specs.Table.{value_at, values_at}
-use Rattle.strings.specs.declared.rows.Found.{Found}
-use Rattle.strings.specs.declared.rows.Found.TheVariants as founds
 use Rattle.members.specs.Condition.{Condition, Conditions, condition, conditions_in}
 use Rattle.members.specs.Kinds.{a_bool, a_text, a_version, an_array_of, an_object, each_of, some_texts}
 use Rattle.members.specs.Outcome.{Effect, Outcome, an_effect, an_outcome, or_false, or_stays}
@@ -22,8 +21,10 @@ use Rattle.sheet.specs.declared.outcome.MoveMembers.{MoveMembers}
 use Rattle.sheet.specs.declared.outcome.OutcomeMembers.{OutcomeMembers}
 use Rattle.sheet.specs.declared.rule.RuleMembers.{RuleMembers}
 use Rattle.sheet.specs.declared.shape.Members.{Members}
-use Rattle.sheet.specs.declared.shape.Shape.{Shape}
-use Rattle.sheet.specs.declared.shape.Shape.TheVariants as shapes
+use Rattle.sheet.specs.declared.shape.Misshapen.{Misshapen}
+use Rattle.sheet.specs.declared.shape.Misshapen.TheVariants as misshapen
+use Rattle.members.specs.declared.told.Fault.{Fault}
+use Rattle.members.specs.declared.told.Fault.TheVariants as faults
 use Rattle.sheet.specs.declared.sheet.SheetMembers.{SheetMembers}
 
 -- the table holds the tree that the sheet's text spells, and its objects' names are linked
@@ -39,14 +40,14 @@ pub record Gives {A : Type 0} (kind : Value → Result A) (s : Bytes) (w : List 
   pub is : kind (sorted (value_at s w n)) ≡ ok a
 
 -- the same of a member that may be missing
-unfoldable pub MayGive : {A : Type 0} → (Value → Result A) → Bytes → List ℕ → Found → Option A → Type 0
-MayGive kind s w founds.Nothing o = o ≡ none
-MayGive {A} kind s w (founds.At n) o = (a : A) × (o ≡ some a) × Gives kind s w n a
+unfoldable pub MayGive : {A : Type 0} → (Value → Result A) → Bytes → List ℕ → Option ℕ → Option A → Type 0
+MayGive kind s w None o = o ≡ None
+MayGive {A} kind s w (Some n) o = (a : A) × (o ≡ Some a) × Gives kind s w n a
 
 -- the node of a member that is there
-unfoldable pub node_of : Found → ℕ
-node_of founds.Nothing = 0
-node_of (founds.At n) = n
+unfoldable pub node_of : Option ℕ → ℕ
+node_of None = 0
+node_of (Some n) = n
 
 unfoldable pub members_of : SheetMembers → Members
 unfolding node_of
@@ -87,12 +88,17 @@ pub record Accepted (s : Bytes) (w : List ℕ) (m : Members) (sheet : Sheet Cond
   pub invariants : Gives (an_array_of (a_rule condition)) s w m.invariants sheet.invariants
   pub outcomes : Gives (an_array_of (an_outcome condition)) s w m.outcomes sheet.outcomes
 
+-- a condition's fault as the sheet's
+abbrev pub misshapen_by : Fault → Misshapen
+misshapen_by faults.Shape = misshapen.WrongShape
+misshapen_by faults.NotCarried = misshapen.NotCarried
+
 -- what the answer says: the refusal, or the sheet
-unfoldable pub Shaped : Bytes → List ℕ → Shape → Type 0
-Shaped s w shapes.WrongSheet = read_sheet s ≡ refused wrong_sheet
-Shaped s w shapes.WrongShape = read_sheet s ≡ refused wrong_shape
-Shaped s w shapes.NotCarried = read_sheet s ≡ refused not_carried
-Shaped s w (shapes.Is m) = (sheet : Sheet Condition) × Accepted s w m sheet
+unfoldable pub Shaped : Bytes → List ℕ → Fallible Members Misshapen → Type 0
+Shaped s w (Err misshapen.WrongSheet) = read_sheet s ≡ refused wrong_sheet
+Shaped s w (Err misshapen.WrongShape) = read_sheet s ≡ refused wrong_shape
+Shaped s w (Err misshapen.NotCarried) = read_sheet s ≡ refused not_carried
+Shaped s w (Ok m) = (sheet : Sheet Condition) × Accepted s w m sheet
 
 -- ---- further down: what a list, a rule, an outcome and a move are, node by node
 -- the nodes from k up to e give the elements of a list
@@ -102,9 +108,9 @@ pub record EachGives {A : Type 0} (kind : Value → Result A) (s : Bytes) (w : L
   pub is : each_of kind (elements (sorted_in (values_at s w k e))) ≡ ok xs
 
 -- a member that must be there
-pub record Given {A : Type 0} (kind : Value → Result A) (s : Bytes) (w : List ℕ) (f : Found) (a : A) : Type 0 where
+pub record Given {A : Type 0} (kind : Value → Result A) (s : Bytes) (w : List ℕ) (f : Option ℕ) (a : A) : Type 0 where
   pub node : ℕ
-  pub found : f ≡ founds.At node
+  pub found : f ≡ Some node
   pub gives : Gives kind s w node a
 
 pub record RuleGives (s : Bytes) (w : List ℕ) (m : RuleMembers) (r : Rule Condition) : Type 0 where

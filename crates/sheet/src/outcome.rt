@@ -1,33 +1,31 @@
 // An outcome and its effect.
 ghost use Rattle.std.specs.Prelude.{◌≡◌};
-ghost use Rattle.strings.specs.Answers.{FoundIn, found_of};
 ghost use Rattle.json_text.specs.Held.{AreMembers, IsNode};
 ghost use Rattle.json_text.specs.Table.{members_at, value_at};
-ghost use Rattle.members.specs.Kinds.{not_null};
+ghost use Rattle.members.specs.Kinds.{an_array_of, not_null};
 ghost use Rattle.sheet.specs.Named.{MoveNamed, OutcomeNamed};
 ghost use Rattle.members.specs.Outcome.{a_move, an_effect, an_outcome};
 ghost use Rattle.members.specs.Verdicts.{is_ok};
-ghost use Rattle.members.specs.Wants.{allowed};
 
-use members::kinds::Want;
-use members::member::named;
-use members::node::{OBJECT, TEXT};
-use strings::rows::Found;
+use members::kinds::{allows, is_array_of, is_bool, is_present, is_text, is_text_or_texts, needs};
+use members::member::{named, only};
+use members::word::is_one_of;
+use strings::rows::{Kind, after_at, kind_at, start_at};
 
 // The nodes of an outcome's members, and of a move's.
 #[derive(Clone, Copy)]
 pub struct OutcomeMembers {
-    pub name: Found,
-    pub when: Found,
-    pub in_state: Found,
-    pub wrong_state: Found,
-    pub effect: Found,
+    pub name: Option<usize>,
+    pub when: Option<usize>,
+    pub in_state: Option<usize>,
+    pub wrong_state: Option<usize>,
+    pub effect: Option<usize>,
 }
 
 #[derive(Clone, Copy)]
 pub struct MoveMembers {
-    pub to: Found,
-    pub from: Found,
+    pub to: Option<usize>,
+    pub from: Option<usize>,
 }
 
 // An outcome's members by name; they stand from `from` up to `end`.
@@ -60,17 +58,16 @@ pub fn is_move(s: &[u8], work: &[u32], node: usize) -> bool
     requires { IsNode s.now work.now 64 node }
     ensures { result ≡ is_ok (a_move (value_at s.now work.now node)) }
 {
-    if members::node::kind_at(work, node) != OBJECT {
+    if kind_at(work, node) != Kind::Object {
         return false;
     }
-    let first = node + 1;
-    let end = strings::rows::after_at(work, node);
-    let m = move_members(s, work, first, end);
-    let to = m.to;
-    let from = m.from;
-    members::member::only(s, work, first, end, b"to,from,")
-        & members::kinds::needs(s, work, to, Want::Text)
-        & members::kinds::needs(s, work, from, Want::TextOrTexts)
+    let from = node + 1;
+    let end = after_at(work, node);
+    let m = move_members(s, work, from, end);
+    // `&` and no `&&`: with `&&` each test is a branch of its own in the proof
+    only(s, work, from, end, &[b"to", b"from"])
+        & needs(s, work, m.to, is_text)
+        & needs(s, work, m.from, is_text_or_texts)
 }
 
 // Whether a node is an effect.
@@ -78,36 +75,15 @@ pub fn is_effect(s: &[u8], work: &[u32], node: usize) -> bool
     requires { IsNode s.now work.now 64 node }
     ensures { result ≡ is_ok (an_effect (value_at s.now work.now node)) }
 {
-    let kind = members::node::kind_at(work, node);
-    if kind == TEXT {
-        let at = strings::rows::start_at(work, node);
-        return match members::word::which(s, at, b"none,creates,updates,") {
-            Found::Nothing => false,
-            Found::At(_n) => true,
-        };
-    }
-    if kind != OBJECT {
-        return false;
-    }
-    let from = node + 1;
-    let end = strings::rows::after_at(work, node);
-    if !members::member::only(s, work, from, end, b"moves,") {
-        return false;
-    }
-    match named(s, work, from, end, b"moves") {
-        Found::Nothing => false,
-        Found::At(n) => is_move(s, work, n),
-    }
-}
-
-// Whether an effect that may be missing is one.
-pub fn allows_effect(s: &[u8], work: &[u32], found: Found) -> bool
-    requires { FoundIn s.now work.now found }
-    ensures { result ≡ allowed (λ v. is_ok (an_effect v)) (found_of s.now work.now found) }
-{
-    match found {
-        Found::Nothing => true,
-        Found::At(n) => is_effect(s, work, n),
+    match kind_at(work, node) {
+        Kind::Text => is_one_of(s, start_at(work, node), &[b"none", b"creates", b"updates"]),
+        Kind::Object => {
+            let from = node + 1;
+            let end = after_at(work, node);
+            only(s, work, from, end, &[b"moves"])
+                & needs(s, work, named(s, work, from, end, b"moves"), is_move)
+        }
+        _ => false,
     }
 }
 
@@ -116,26 +92,29 @@ pub fn is_outcome(s: &[u8], work: &[u32], node: usize) -> bool
     requires { IsNode s.now work.now 64 node }
     ensures { result ≡ is_ok (an_outcome not_null (value_at s.now work.now node)) }
 {
-    if members::node::kind_at(work, node) != OBJECT {
+    if kind_at(work, node) != Kind::Object {
         return false;
     }
     let from = node + 1;
-    let end = strings::rows::after_at(work, node);
+    let end = after_at(work, node);
     let m = members(s, work, from, end);
-    let name = m.name;
-    let when = m.when;
-    let in_state = m.in_state;
-    let wrong_state = m.wrong_state;
-    let effect = m.effect;
-    members::member::only(
+    only(
         s,
         work,
         from,
         end,
-        b"name,when,in_state,wrong_state,effect,",
-    ) & members::kinds::needs(s, work, name, Want::Text)
-        & members::kinds::allows(s, work, when, Want::Present)
-        & members::kinds::allows(s, work, in_state, Want::Text)
-        & members::kinds::allows(s, work, wrong_state, Want::Bool)
-        & allows_effect(s, work, effect)
+        &[b"name", b"when", b"in_state", b"wrong_state", b"effect"],
+    ) & needs(s, work, m.name, is_text)
+        & allows(s, work, m.when, is_present)
+        & allows(s, work, m.in_state, is_text)
+        & allows(s, work, m.wrong_state, is_bool)
+        & allows(s, work, m.effect, is_effect)
+}
+
+// Whether a node is an array of outcomes.
+pub fn are_outcomes(s: &[u8], work: &[u32], node: usize) -> bool
+    requires { IsNode s.now work.now 64 node }
+    ensures { result ≡ is_ok (an_array_of (an_outcome not_null) (value_at s.now work.now node)) }
+{
+    is_array_of(s, work, node, is_outcome)
 }

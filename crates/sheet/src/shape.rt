@@ -1,104 +1,94 @@
 // The whole shape of a sheet: 9, then 10 and 11; and where its members stand.
 ghost use Rattle.std.specs.Prelude.{◌≡◌};
-ghost use Rattle.sheet.specs.Accepted.{Shaped, Stored, members_of, node_of};
+ghost use Rattle.sheet.specs.Accepted.{Shaped, Stored, members_of, misshapen_by, node_of};
 
-use crate::sheet::SheetMembers;
-use members::node::OBJECT;
+use crate::sheet::{SheetMembers, are_sheet, members};
+use crate::written::first_fault;
 use members::told::Fault;
-use strings::rows::Found;
+use strings::rows::{Kind, after_at, kind_at};
 
 // The nodes of an accepted sheet's members. Those that may be missing are as they were found.
+// Not one generic type with `SheetMembers`: four members may be missing in both, and `placed` would still go field by field.
 #[derive(Clone, Copy)]
 pub struct Members {
-    pub id: Found,
+    pub id: Option<usize>,
     pub entity: usize,
     pub version: usize,
     pub args: usize,
     pub fields: usize,
     pub old_fields: usize,
-    pub from_state: Found,
+    pub from_state: Option<usize>,
     pub to_state: usize,
-    pub state: Found,
+    pub state: Option<usize>,
     pub states: usize,
-    pub condition: Found,
+    pub condition: Option<usize>,
     pub preconditions: usize,
     pub invariants: usize,
     pub outcomes: usize,
 }
 
-#[derive(Clone, Copy)]
-pub enum Shape {
+// Why a tree is no sheet: the refusals 9, 10 and 11.
+#[derive(Clone, Copy, PartialEq, Eq)]
+pub enum Misshapen {
     WrongSheet,
     WrongShape,
     NotCarried,
-    Is(Members),
 }
 
-// The node of a member that is there.
-pub fn node_of(found: Found) -> usize
+impl From<Fault> for Misshapen {
+    ghost from_gives = { λ fault e. e ≡ misshapen_by fault };
+
+    fn from(fault: Fault) -> Misshapen {
+        match fault {
+            Fault::Shape => Misshapen::WrongShape,
+            Fault::NotCarried => Misshapen::NotCarried,
+        }
+    }
+}
+
+// The node of a member that is there. Where it is not, no one asks for it.
+// No `unwrap`: `placed` answers for any members, so it can ask of none that it is there.
+pub fn node_of(found: Option<usize>) -> usize
     ensures { result ≡ node_of found }
 {
-    match found {
-        Found::Nothing => 0,
-        Found::At(n) => n,
-    }
+    found.unwrap_or(0)
 }
 
 // The members of a sheet whose required members are there.
 pub fn placed(m: SheetMembers) -> Members
     ensures { result ≡ members_of m }
 {
-    let id = m.id;
-    let entity = m.entity;
-    let version = m.version;
-    let args = m.args;
-    let fields = m.fields;
-    let old_fields = m.old_fields;
-    let from_state = m.from_state;
-    let to_state = m.to_state;
-    let state = m.state;
-    let states = m.states;
-    let condition = m.condition;
-    let preconditions = m.preconditions;
-    let invariants = m.invariants;
-    let outcomes = m.outcomes;
     Members {
-        id: id,
-        entity: node_of(entity),
-        version: node_of(version),
-        args: node_of(args),
-        fields: node_of(fields),
-        old_fields: node_of(old_fields),
-        from_state: from_state,
-        to_state: node_of(to_state),
-        state: state,
-        states: node_of(states),
-        condition: condition,
-        preconditions: node_of(preconditions),
-        invariants: node_of(invariants),
-        outcomes: node_of(outcomes),
+        id: m.id,
+        entity: node_of(m.entity),
+        version: node_of(m.version),
+        args: node_of(m.args),
+        fields: node_of(m.fields),
+        old_fields: node_of(m.old_fields),
+        from_state: m.from_state,
+        to_state: node_of(m.to_state),
+        state: m.state,
+        states: node_of(m.states),
+        condition: m.condition,
+        preconditions: node_of(m.preconditions),
+        invariants: node_of(m.invariants),
+        outcomes: node_of(m.outcomes),
     }
 }
 
 // The shape of the sheet that the table holds.
-pub fn shape_of(s: &[u8], work: &[u32]) -> Shape
+pub fn shape_of(s: &[u8], work: &[u32]) -> Result<Members, Misshapen>
     requires { Stored s.now work.now }
     ensures { Shaped s.now work.now result }
 {
-    if members::node::kind_at(work, 0) != OBJECT {
-        return Shape::WrongSheet;
+    if kind_at(work, 0) != Kind::Object {
+        return Err(Misshapen::WrongSheet);
     }
-    let end = strings::rows::after_at(work, 0);
-    let m = crate::sheet::members(s, work, 1, end);
-    if !crate::sheet::are_sheet(s, work, 1, end, m) {
-        return Shape::WrongSheet;
+    let end = after_at(work, 0);
+    let m = members(s, work, 1, end);
+    if !are_sheet(s, work, 1, end, m) {
+        return Err(Misshapen::WrongSheet);
     }
-    match crate::written::first_fault(s, work, 1, end) {
-        Fault::Shape => Shape::WrongShape,
-        Fault::NotCarried => Shape::NotCarried,
-        Fault::Sound => {
-            let members = placed(m);
-            Shape::Is(members)
-        }
-    }
+    first_fault(s, work, 1, end)?;
+    Ok(placed(m))
 }

@@ -11,59 +11,50 @@ ghost use Rattle.members.specs.Sheet.{held_by, holders, in_array, member_of, sou
 ghost use Rattle.members.specs.Verdicts.{fault_of};
 
 use members::member::named;
-use members::node::{ARRAY, OBJECT};
 use members::told::Fault;
 use members::word::is_word;
-use strings::rows::Found;
+use strings::rows::{Kind, after_at, kind_at, start_at};
+use syntax::condition::condition;
 
 // The fault of the condition that an element has under a name.
-pub fn under(s: &[u8], work: &[u32], node: usize, word: &[u8]) -> Fault
+pub fn under(s: &[u8], work: &[u32], node: usize, word: &[u8]) -> Result<(), Fault>
     requires { IsNode s.now work.now 64 node }
     ensures { fault_of (sound (member_of word.now (value_at s.now work.now node))) ≡ fault_is result }
 {
-    if members::node::kind_at(work, node) != OBJECT {
-        return Fault::Sound;
+    if kind_at(work, node) != Kind::Object {
+        return Ok(());
     }
-    let end = strings::rows::after_at(work, node);
-    match named(s, work, node + 1, end, word) {
-        Found::Nothing => Fault::Sound,
-        Found::At(n) => syntax::condition::condition(s, work, n, 64),
-    }
+    let Some(n) = named(s, work, node + 1, after_at(work, node), word) else {
+        return Ok(());
+    };
+    condition(s, work, n, 64)
 }
 
 // The first fault of the conditions that the elements of an array have under a name.
-pub fn under_each(s: &[u8], work: &[u32], node: usize, word: &[u8]) -> Fault
+pub fn under_each(s: &[u8], work: &[u32], node: usize, word: &[u8]) -> Result<(), Fault>
     requires { IsNode s.now work.now 64 node }
     ensures { fault_of (sound (in_array word.now (value_at s.now work.now node))) ≡ fault_is result }
 {
-    if members::node::kind_at(work, node) != ARRAY {
-        return Fault::Sound;
+    if kind_at(work, node) != Kind::Array {
+        return Ok(());
     }
-    let end = strings::rows::after_at(work, node);
+    let end = after_at(work, node);
     let mut k = node + 1;
+    // from row to row, as each row says which is next: no range counts these
     while k < end {
-        match under(s, work, k, word) {
-            Fault::Sound => {
-                k = strings::rows::after_at(work, k);
-            }
-            Fault::Shape => {
-                return Fault::Shape;
-            }
-            Fault::NotCarried => {
-                return Fault::NotCarried;
-            }
-        }
+        under(s, work, k, word)?;
+        k = after_at(work, k);
     }
-    Fault::Sound
+    Ok(())
 }
 
 // The first fault of the conditions that a member of the sheet holds, by the place of its name.
-pub fn held(s: &[u8], work: &[u32], name: usize, node: usize) -> Fault
+pub fn held(s: &[u8], work: &[u32], name: usize, node: usize) -> Result<(), Fault>
     requires { OnText s.now name 0 × IsNode s.now work.now 64 node }
     ensures { fault_of (sound (held_by (find (text_at s.now name) holders) (value_at s.now work.now node))) ≡ fault_is result }
 {
     if is_word(s, name, b"condition") {
-        return syntax::condition::condition(s, work, node, 64);
+        return condition(s, work, node, 64);
     }
     if is_word(s, name, b"preconditions") {
         return under_each(s, work, node, b"assert");
@@ -74,27 +65,19 @@ pub fn held(s: &[u8], work: &[u32], name: usize, node: usize) -> Fault
     if is_word(s, name, b"outcomes") {
         return under_each(s, work, node, b"when");
     }
-    Fault::Sound
+    Ok(())
 }
 
 // The first fault of the conditions that the sheet's members from `from` up to `end` hold.
-pub fn first_fault(s: &[u8], work: &[u32], from: usize, end: usize) -> Fault
+pub fn first_fault(s: &[u8], work: &[u32], from: usize, end: usize) -> Result<(), Fault>
     requires { AreMembers s.now work.now 64 from end }
     ensures { fault_of (sound (written (entries (members_at s.now work.now from end)))) ≡ fault_is result }
 {
     let mut k = from;
+    // from row to row, as each row says which is next: no range counts these
     while k < end {
-        match held(s, work, strings::rows::start_at(work, k), k + 1) {
-            Fault::Sound => {
-                k = strings::rows::after_at(work, k + 1);
-            }
-            Fault::Shape => {
-                return Fault::Shape;
-            }
-            Fault::NotCarried => {
-                return Fault::NotCarried;
-            }
-        }
+        held(s, work, start_at(work, k), k + 1)?;
+        k = after_at(work, k + 1);
     }
-    Fault::Sound
+    Ok(())
 }

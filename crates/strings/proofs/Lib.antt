@@ -1,3 +1,4 @@
 pub mod Leaves
 pub mod Members
 pub mod Encoding
+pub mod KindCodes

@@ -2,16 +2,19 @@
 -- Assumes nothing.
 use mathlib.Core.Path.{◌≡◌, refl, sym, ◌∙◌, ap, subst}
 use mathlib.Core.List.{List}
-use mathlib.Core.Option.{Option}
+use Rattle.std.specs.Prelude.{Option, Some, None}
 use mathlib.Core.Bool.{Bool, true, false}
 use Prim.Native.Nat.{ℕ, ◌+◌, ◌*◌, ◌≤◌, ◌<◌, Ordering}
 use native.Mathlib.Omega.{arith}
 use lib.ListN.{length}
-use Rattle.strings.specs.declared.rows.Found.TheVariants as founds
 use Rattle.json_text.proofs.Laws.{order_bytes_eq, same_bytes_refl, same_bytes_true}
 use Rattle.json_text.proofs.Sorted.{same_order}
 use Rattle.json_text.proofs.Walk.{MoreMembers, find_done, find_here, find_on, inside, members_more}
 use Rattle.strings.specs.Answers.{FoundIn, FoundTold, found_of}
+use Rattle.std.specs.declared.cmp.Ordering.{Ordering as Ordered}
+use Rattle.std.specs.declared.cmp.Ordering.TheVariants as orders
+use Rattle.std.specs.Ordering.{is_eq}
+use Rattle.json_text.specs.Orders.{order_of}
 use Rattle.json_text.specs.Bytes.{Bytes, find, order_bytes, same_bytes}
 use Rattle.json_text.specs.Cursor.{OnText}
 use Rattle.json_text.specs.Held.{HasMembers}
@@ -20,15 +23,17 @@ use Rattle.json_text.specs.Spans.{text_at}
 use Rattle.json_text.specs.Table.{after_at, end_at, members_at, start_at}
 
 -- equal texts, by their order
-pub apart : (s t : Bytes) (o : Ordering) → order_bytes s t ≡ o → (o ≡ Ordering.eq → ⊥) → false ≡ same_bytes s t
+apart : (s t : Bytes) (o : Ordering) → order_bytes s t ≡ o → (o ≡ Ordering.eq → ⊥) → false ≡ same_bytes s t
 apart s t o e g = go (same_bytes s t) refl
   where
     go : (b : Bool) → same_bytes s t ≡ b → false ≡ same_bytes s t
     go true q = absurd (g (sym e ∙ ap (order_bytes s) (sym (same_bytes_true s t q)) ∙ same_order s))
     go false q = sym q
 
-pub alike : (s t : Bytes) → order_bytes s t ≡ Ordering.eq → true ≡ same_bytes s t
-alike s t e = sym (ap (same_bytes s) (sym (order_bytes_eq s t e)) ∙ same_bytes_refl s)
+pub same_is_eq : (s t : Bytes) (o : Ordered) → order_bytes s t ≡ order_of o → is_eq o ≡ same_bytes s t
+same_is_eq s t orders.Less e = apart s t _ e (λ q. cc)
+same_is_eq s t orders.Equal e = sym (ap (same_bytes s) (sym (order_bytes_eq s t e)) ∙ same_bytes_refl s)
+same_is_eq s t orders.Greater e = apart s t _ e (λ q. cc)
 
 pub record Searching (s : Bytes) (w : List ℕ) (name e : ℕ) (whole : Option Value) (k : ℕ) : Type 0 where
   pub members : HasMembers s w k e
@@ -36,7 +41,7 @@ pub record Searching (s : Bytes) (w : List ℕ) (name e : ℕ) (whole : Option V
   pub rest : whole ≡ find (text_at s name) (entries (members_at s w k e))
 
 module _ {s : Bytes} {w : List ℕ} {name e : ℕ} {whole : Option Value} {k : ℕ} (l : Searching s w name e whole k) where
-  pub ended : e ≤ k → FoundTold s w whole founds.Nothing
+  pub ended : e ≤ k → FoundTold s w whole None
   unfolding found_of FoundIn
   ended h = record { answers = l.rest ∙ find_done s w (text_at s name) l.members.members h; bounds = tt }
 
@@ -53,7 +58,7 @@ module _ {s : Bytes} {w : List ℕ} {name e : ℕ} {whole : Option Value} {k : �
     pub on_name : (a : ℕ) → a ≡ start_at w k → OnText s a 0
     on_name a q = subst (λ (x : ℕ). OnText s x 0) (sym q) (record { stop = end_at w k; text = m.name; few = omega arith })
 
-    pub here : (a : ℕ) → a ≡ start_at w k → true ≡ same_bytes (text_at s name) (text_at s a) → FoundTold s w whole (founds.At (k + 1))
+    pub here : (a : ℕ) → a ≡ start_at w k → true ≡ same_bytes (text_at s name) (text_at s a) → FoundTold s w whole (Some (k + 1))
     unfolding found_of FoundIn
     here a q e =
         record {

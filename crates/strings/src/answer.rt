@@ -1,9 +1,11 @@
 // What reading answers.
+ghost use Rattle.std.specs.Prelude.{◌≡◌};
+ghost use Rattle.strings.specs.Answers.{number_of};
 
-// The refusals of reading, 1 to 8.
-#[derive(Clone, Copy)]
+// The refusals of reading, each with its number.
+#[derive(Clone, Copy, PartialEq, Eq)]
 pub enum Refusal {
-    WorkTooSmall,
+    WorkTooSmall = 1,
     TooLong,
     NotUtf8,
     NotJson,
@@ -13,11 +15,13 @@ pub enum Refusal {
     RepeatedName,
 }
 
-// The place behind what was scanned, or why it is refused.
-#[derive(Clone, Copy)]
-pub enum Scan {
-    Bad(Refusal),
-    End(usize),
+impl Refusal {
+    // Its number, 1 to 8.
+    pub fn number(self) -> usize
+        ensures { result ≡ number_of self }
+    {
+        self as usize
+    }
 }
 
 // The place behind a value that was read, and the nodes in use then.
@@ -25,17 +29,4 @@ pub enum Scan {
 pub struct Place {
     pub at: usize,
     pub node: usize,
-}
-
-#[derive(Clone, Copy)]
-pub enum Parsed {
-    Bad(Refusal),
-    Done(Place),
-}
-
-// The table with its nodes, or the refusal.
-#[derive(Clone, Copy)]
-pub enum Read {
-    Refused(Refusal),
-    Table(usize),
 }

@@ -1,31 +1,36 @@
 -- Where the scan of a number stands: what is left of the number decides the whole.
 -- Assumes nothing.
-use Rattle.std.specs.Prelude.{◌≡◌, ℕ, ◌+◌, ◌-◌, ◌<◌, ◌≤◌, drop, length}
-use Rattle.strings.specs.Answers.{place_by}
+use Rattle.std.specs.Prelude.{Option, None, Some, ℕ, ◌≡◌, ◌≤◌, length}
+use Rattle.std.specs.List.{AllWithin}
 use Rattle.json_text.specs.Bytes.{Bytes}
-use Rattle.json_text.specs.Numerals.{digits}
-use Rattle.json_text.specs.Placing.{digits_at, place_of}
-use Rattle.json_text.specs.Refusal.{Result, ok, ◌>>=◌}
-use Rattle.json_text.specs.Scan.{Read}
-use Rattle.tokens.specs.declared.numeral.Stand.{Stand}
+use Rattle.json_text.specs.Numerals.{Place, exp_digits, exp_sign, exponent, fraction, is_nonzero, is_zero, onward, point, sign, stop, whole, zeroed}
+use Rattle.tokens.specs.declared.numeral.Place.{Place as Standing}
+use Rattle.tokens.specs.declared.numeral.Place.TheVariants as places
 
-abbrev pub behind : Bytes → Result (Read Bytes) → Result ℕ
-behind s x = x >>= λ r. ok (place_of s r.rest)
+-- the paper's name of a place
+abbrev pub place_in : Standing → Place
+place_in places.Sign = sign
+place_in places.Zero = zeroed
+place_in places.Whole = whole
+place_in places.Point = point
+place_in places.Fraction = fraction
+place_in places.Exponent = exponent
+place_in places.ExponentSign = exp_sign
+place_in places.ExponentDigits = exp_digits
 
--- the number at `at`, read up to `here`, with `left` bytes that may still come
-pub record Numbering (s : Bytes) (at place here left : ℕ) : Type 0 where
-  pub upto : here ≤ length s
-  pub small : place < 9
-  pub few : left ≤ 254
-  pub rest : digits_at s at ≡ behind s (digits (place_by place) left (drop here s))
+abbrev pub IsDigit : ℕ → Type 0
+IsDigit c = (48 ≤ c) × (c ≤ 57)
 
-abbrev pub Standing : Bytes → ℕ → Stand → Type 0
-Standing s at r = Numbering s at r.place r.here r.left
+-- so many bytes come first that are digits
+pub record Digits (s : Bytes) (n : ℕ) : Type 0 where
+  pub within : n ≤ length s
+  pub all : AllWithin IsDigit s 0 n
 
--- a number that stands at one stands at the other
-abbrev pub Reaches : Bytes → Stand → Stand → Type 0
-Reaches s a b = (at : ℕ) → Standing s at a → Standing s at b
+-- where a byte leads, or that it is none of the number's
+abbrev pub after : Option Standing → Place
+after None = stop
+after (Some p) = place_in p
 
--- behind a point and a digit
-abbrev pub pointed : Stand → Stand
-pointed a = record { place = 4; here = a.here + 2; left = a.left - 2 }
+-- from there a digit leads to the same place
+abbrev pub StaysOnDigits : Standing → Type 0
+StaysOnDigits p = (onward (place_in p) is_zero ≡ place_in p) × (onward (place_in p) is_nonzero ≡ place_in p)

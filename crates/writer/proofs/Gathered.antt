@@ -2,14 +2,14 @@
 -- Assumes nothing.
 use mathlib.Core.Bool.{Bool, cond, false, true}
 use mathlib.Core.List.{List, append_assoc, append-nil, [], ◌++◌, ◌∷◌}
-use mathlib.Core.Option.{Option, none, some}
+use Rattle.std.specs.Prelude.{Option, None, Some}
 use mathlib.Core.Path.{ap, refl, subst, sym, ◌∙◌, ◌≡◌}
 use Prim.Native.Nat.{suc, zero, ℕ, ◌%◌, ◌+◌, ◌-◌, ◌<◌, ◌≤◌}
 use native.Mathlib.Numerals.{add-one}
 use native.Mathlib.Omega.{arith}
 use borrow.Author.Tests.{eq-eqb, ne_eqb}
-use lib.ListN.{drop, drop_of_length-le, get_or, length, length-append, length-set, set, take}
-use lib.Seq.{drop-cons, length-take-le, take-append_seam, take-suc-set}
+use lib.ListN.{drop, drop_of_length-le, get_or, length, set, take}
+use lib.Seq.{drop-cons, length-take-le, take-suc-set}
 use Rattle.order.proofs.ByText.{text_nodes_sorted}
 use Rattle.order.specs.ByText.{TextNode, TextNodes, by_key, key_at}
 use Rattle.json_text.specs.Bytes.{Bytes}
@@ -19,65 +19,50 @@ use Rattle.json_text.specs.Marks.{first_mark, is_marked, marked}
 use Rattle.json_text.specs.Spans.{text_at}
 use Rattle.json_text.specs.Table.{start_at}
 use Rattle.semantics.specs.Names.{ascending}
-use Rattle.writer.proofs.Laying.{Going, ends, goes, starts}
+use Rattle.writer.proofs.Laying.{Going, ends, goes, nothing, starts}
 use Rattle.writer.proofs.Once.{names_once}
-use Rattle.writer.specs.Laid.{Laid, Room}
+use Rattle.writer.specs.Laid.{Laid}
+use Rattle.writer.specs.declared.lay.Output.{Output}
 use Rattle.answers.specs.Line.{quoted}
 use Rattle.writer.specs.Once.{Fronted, element_after, elements, is_again, marked_nodes, marked_nodes_from, once_after, texts_of}
 use Rattle.writer.specs.Texts.{IsText, NamesHeld, text_of}
-use Rattle.writer.specs.declared.quote.Text.{Text}
-use Rattle.writer.specs.declared.quote.Text.TheVariants as texts
 
 -- ---- gathering: what was found, and the nodes from k on
-pub record Gathering (w nodes₀ nodes : List ℕ) (count k : ℕ) : Type 0 where
+pub record Gathering (w nodes : List ℕ) (count k : ℕ) : Type 0 where
   pub few : count ≤ k
-  pub upto : k ≤ 4096
-  pub long : length nodes ≡ length nodes₀
-  pub room : 4096 ≤ length nodes
   pub are : take count nodes ++ marked_nodes_from w (4096 - k) k ≡ marked_nodes w
 
 all_nodes : (w : List ℕ) → marked_nodes_from w max_nodes 0 ≡ marked_nodes w
 unfolding marked_nodes
 all_nodes w = refl
 
-pub gather : (w nodes : List ℕ) → 4096 ≤ length nodes → Gathering w nodes nodes 0 0
-gather w nodes h = record { few = omega arith; upto = omega arith; long = refl; room = h; are = all_nodes w }
+pub gather : (w nodes : List ℕ) → Gathering w nodes 0 0
+gather w nodes = record { few = omega arith; are = all_nodes w }
 
-module _ {w nodes₀ nodes : List ℕ} {count k : ℕ} (g : Gathering w nodes₀ nodes count k) where
-  pub gathered : 4096 ≤ k → Fronted w nodes count
+module _ {w nodes : List ℕ} {count k : ℕ} (g : Gathering w nodes count k) (room : 4096 ≤ length nodes) where
+  pub gathered : k ≤ 4096 → 4096 ≤ k → Fronted w nodes count
   unfolding marked_nodes_from
-  gathered h =
-      let e : 4096 - k ≡
-      0 = omega arith in
+  gathered u h =
+      let e : 4096 - k ≡ 0 = omega arith in
       record {
         are = sym (append-nil (take count nodes)) ∙ rw e at g.are;
-        few = omega (arith, g.few, g.upto);
-        fits = omega (arith, g.few, g.upto, g.room);
+        few = omega (arith, g.few);
+        fits = omega (arith, g.few, room);
       }
 
   module _ (h : k < 4096) where
     more : 4096 - k ≡ suc (4096 - (k + 1))
     more = omega arith
 
-    pub pass : (get_or w (first_mark + k) 0 % 2 ≡ 1 → ⊥) → Gathering w nodes₀ nodes count (k + 1)
+    pub pass : (get_or w (first_mark + k) 0 % 2 ≡ 1 → ⊥) → Gathering w nodes count (k + 1)
     unfolding marked_nodes_from
-    pass n =
-        record {
-          few = omega (arith, g.few);
-          upto = omega arith;
-          long = g.long;
-          room = g.room;
-          are = rw (more, ne_eqb (get_or w (first_mark + k) 0 % 2) 1 n, marked_nodes_from) at g.are;
-        }
+    pass n = record { few = omega (arith, g.few); are = rw (more, ne_eqb (get_or w (first_mark + k) 0 % 2) 1 n, marked_nodes_from) at g.are }
 
-    pub note : get_or w (first_mark + k) 0 % 2 ≡ 1 → Gathering w nodes₀ (set nodes count k) (count + 1) (k + 1)
+    pub note : get_or w (first_mark + k) 0 % 2 ≡ 1 → Gathering w (set nodes count k) (count + 1) (k + 1)
     unfolding marked_nodes_from
     note e = record {
       few = omega (arith, g.few);
-      upto = omega arith;
-      long = length-set nodes count k ∙ g.long;
-      room = rw length-set g.room;
-      are = rw (add-one, take-suc-set nodes count k (omega (arith, g.few, g.room)), append_assoc) (rw (more, eq-eqb (get_or w (first_mark + k) 0 % 2) 1 e, marked_nodes_from) at g.are);
+      are = rw (add-one, take-suc-set nodes count k (omega (arith, g.few, room)), append_assoc) (rw (more, eq-eqb (get_or w (first_mark + k) 0 % 2) 1 e, marked_nodes_from) at g.are);
     }
 
 -- ---- nodes with texts
@@ -106,44 +91,39 @@ module _ {w ns : List ℕ} {count : ℕ} (f : Fronted w ns count) where
     pub front_texts : TextNodes s w (take count ns)
     front_texts = subst (TextNodes s w) (sym f.are) (marked_texts n)
 
-    module _ {sorted : List ℕ} (is : sorted ≡ by_key (key_at s w) (take count ns)) (long : length sorted ≡ length (take count ns)) (rest : List ℕ) where
-      size : count ≡ length sorted
-      size = front_long ∙ sym long
+    module _ {sorted : List ℕ} (is : sorted ≡ by_key (key_at s w) (take count ns)) where
+      pub sorted_texts : TextNodes s w sorted
+      sorted_texts = subst (TextNodes s w) (sym is) (text_nodes_sorted s w (take count ns) front_texts)
 
-      taken : take count (sorted ++ rest) ≡ sorted
-      taken = ap (λ (x : ℕ). take x (sorted ++ rest)) size ∙ take-append_seam sorted rest
+      pub sorted_once : once_after None (texts_of s w sorted) ≡ ascending (marked s w)
+      sorted_once = ap (λ (x : List ℕ). once_after None (texts_of s w x)) (is ∙ ap (by_key (key_at s w)) f.are) ∙ names_once s w
 
-      pub sorted_fits : count ≤ length (sorted ++ rest)
-      sorted_fits = omega (arith, size, length-append sorted rest)
-
-      pub sorted_long : count ≡ length (take count (sorted ++ rest))
-      sorted_long = sym (length-take-le count (sorted ++ rest) sorted_fits)
-
-      pub sorted_texts : TextNodes s w (take count (sorted ++ rest))
-      sorted_texts = subst (TextNodes s w) (sym (taken ∙ is)) (text_nodes_sorted s w (take count ns) front_texts)
-
-      pub sorted_once : once_after none (texts_of s w (take count (sorted ++ rest))) ≡ ascending (marked s w)
-      sorted_once = ap (λ (x : List ℕ). once_after none (texts_of s w x)) (taken ∙ is ∙ ap (by_key (key_at s w)) f.are) ∙ names_once s w
-
-once_next : (last : Option Bytes) (t : Bytes) (ts : List Bytes) → elements (once_after last (t ∷ ts)) ≡ element_after last t ++ elements (once_after (some t) ts)
+once_next : (last : Option Bytes) (t : Bytes) (ts : List Bytes) → elements (once_after last (t ∷ ts)) ≡ element_after last t ++ elements (once_after (Some t) ts)
 unfolding once_after elements
 once_next last t ts = go (is_again last t)
   where
-    go : (b : Bool) → elements (cond b (once_after (some t) ts) (t ∷ once_after (some t) ts)) ≡ cond b [] (32 ∷ quoted t) ++ elements (once_after (some t) ts)
+    go : (b : Bool) → elements (cond b (once_after (Some t) ts) (t ∷ once_after (Some t) ts)) ≡ cond b [] (32 ∷ quoted t) ++ elements (once_after (Some t) ts)
     go true = refl
     go false = refl
 
 -- ---- each once: what is left to lay are the texts from i on that are not the one before them
-pub record Laying (limit : ℕ) (s : Bytes) (w ns : List ℕ) (o₀ : Bytes) (at : ℕ) (o : Bytes) (here : ℕ) (last : Text) (i : ℕ) : Type 0 where
-  pub going : Going limit o₀ at (elements (once_after none (texts_of s w ns))) o here (elements (once_after (text_of s last) (texts_of s w (drop i ns))))
+pub record Laying (s : Bytes) (w ns : List ℕ) (a b : Output) (last : Option ℕ) (i : ℕ) : Type 0 where
+  pub going : Going a (elements (once_after None (texts_of s w ns))) b (elements (once_after (text_of s last) (texts_of s w (drop i ns))))
   pub is_text : IsText s last
 
-pub laying : {limit at : ℕ} {o : Bytes} (s : Bytes) (w ns : List ℕ) → Room limit o at → Laying limit s w ns o at o at texts.Missing 0
+pub laying : (s : Bytes) (w ns : List ℕ) (a : Output) → Laying s w ns a a None 0
 unfolding text_of IsText
-laying s w ns r = record { going = starts (elements (once_after none (texts_of s w ns))) r; is_text = tt }
+laying s w ns a = record { going = starts a (elements (once_after None (texts_of s w ns))); is_text = tt }
 
-module _ {limit : ℕ} {s : Bytes} {w ns : List ℕ} {o₀ : Bytes} {at : ℕ} {o : Bytes} {here : ℕ} {last : Text} {i : ℕ} (g : Laying limit s w ns o₀ at o here last i) where
-  pub laid : length ns ≤ i → Laid limit o₀ at (elements (once_after none (texts_of s w ns))) o here
+-- a text that is the last one again, and one that isn't
+pub again_laid : (last : Option Bytes) (t : Bytes) (b : Output) → is_again last t ≡ true → Laid b (element_after last t) b
+again_laid last t b e = rw e (nothing b)
+
+pub element_laid : (last : Option Bytes) (t : Bytes) {b c : Output} → is_again last t ≡ false → Laid b (32 ∷ quoted t) c → Laid b (element_after last t) c
+element_laid last t e l = rw e l
+
+module _ {s : Bytes} {w ns : List ℕ} {a b : Output} {last : Option ℕ} {i : ℕ} (g : Laying s w ns a b last i) where
+  pub laid : length ns ≤ i → Laid a (elements (once_after None (texts_of s w ns))) b
   unfolding texts_of once_after elements
   laid h = ends (rw (drop_of_length-le ns h) at g.going)
 
@@ -152,11 +132,11 @@ module _ {limit : ℕ} {s : Bytes} {w ns : List ℕ} {o₀ : Bytes} {at : ℕ} {
     unfolding texts_of
     on = rw (drop-cons ns i 0 h, add-one, ← e)
 
-    pub lay_on : {o₁ : Bytes} {r : ℕ} → Laid limit o here (element_after (text_of s last) (text_at s p)) o₁ r → Laying limit s w ns o₀ at o₁ r (texts.At p) (i + 1)
+    pub lay_on : {c : Output} → Laid b (element_after (text_of s last) (text_at s p)) c → Laying s w ns a c (Some p) (i + 1)
     unfolding text_of IsText
     lay_on l =
         record {
-          going = goes (elements (once_after (some (text_at s p)) (texts_of s w (drop (i + 1) ns))))
+          going = goes (elements (once_after (Some (text_at s p)) (texts_of s w (drop (i + 1) ns))))
               (rw (on, once_next (text_of s last) (text_at s p) (texts_of s w (drop (i + 1) ns))) at g.going) l;
           is_text = t;
         }

@@ -11,7 +11,9 @@ use borrow.Author.Tests.{leb-false, leb-true}
 use lib.Dec.{leb}
 use lib.ListN.{drop, get_or, length, length-append, set}
 use lib.Seq.{drop-cons, length-sets, set_out, sets, sets-eq}
-use Rattle.writer.specs.Laid.{Laid, Room, Shown}
+use Rattle.writer.specs.Laid.{Begun, Laid, Shown}
+use Rattle.writer.specs.Room.{most}
+use Rattle.writer.specs.declared.lay.Output.{Output}
 use Rattle.json_text.specs.Bytes.{Bytes}
 
 -- past the end nothing is laid
@@ -26,74 +28,87 @@ sets_append (b ∷ x) y o at =
     let e : suc at + length x ≡ at + suc (length x) = omega arith in
     sets_append x y (set o at b) (suc at) ∙ ap (λ (k : ℕ). sets (sets (set o at b) (suc at) x) k y) e
 
-module _ {limit at p : ℕ} {o x o₁ : Bytes} (l : Laid limit o at x o₁ p) where
-  pub same_size : length o₁ ≡ length o
-  same_size = ap length l.bytes ∙ length-sets o at x
-
+module _ {a b : Output} {x : Bytes} (l : Laid a x b) where
   -- what is left to lay, from the place behind
-  pub bytes_left : (y : Bytes) → sets o at (x ++ y) ≡ sets o₁ p y
-  bytes_left y = sets_append x y o at ∙ ap (λ (m : Bytes). sets m (at + length x) y) (sym l.bytes) ∙ go (leb (at + length x) limit) refl
+  pub bytes_left : (y : Bytes) → sets a.bytes.now a.at (x ++ y) ≡ sets b.bytes.now b.at y
+  bytes_left y = sets_append x y a.bytes.now a.at ∙ ap (λ (m : Bytes). sets m (a.at + length x) y) (sym l.bytes) ∙ go (leb (a.at + length x) most) refl
     where
-      go : (b : Bool) → leb (at + length x) limit ≡ b → sets o₁ (at + length x) y ≡ sets o₁ p y
-      go true e = let f : at + length x ≡ p = omega (arith, leb-true (at + length x) limit e, l.place) in ap (λ (k : ℕ). sets o₁ k y) f
+      go : (t : Bool) → leb (a.at + length x) most ≡ t → sets b.bytes.now (a.at + length x) y ≡ sets b.bytes.now b.at y
+      go true e = let f : a.at + length x ≡ b.at = omega (arith, leb-true (a.at + length x) most e, l.place) in ap (λ (k : ℕ). sets b.bytes.now k y) f
       go false e =
-          let h = leb-false (at + length x) limit e in
-          sets_out y o₁ (at + length x) (omega (arith, h, l.room.size)) ∙ sym (sets_out y o₁ p (omega (arith, h, l.place, l.room.size)))
+          let h = leb-false (a.at + length x) most e in
+          sets_out y b.bytes.now (a.at + length x) (omega (arith, h, b.room.size)) ∙ sym (sets_out y b.bytes.now b.at (omega (arith, h, l.place, b.room.size)))
 
-  pub place_left : (y : Bytes) → min (at + length (x ++ y)) limit ≡ min (p + length y) limit
+  pub place_left : (y : Bytes) → min (a.at + length (x ++ y)) most ≡ min (b.at + length y) most
   place_left y = omega (arith, l.place, length-append x y)
 
   -- one after another
-  pub then : {y o₂ : Bytes} {r : ℕ} → Laid limit o₁ p y o₂ r → Laid limit o at (x ++ y) o₂ r
-  then {y} m = record { bytes = m.bytes ∙ sym (bytes_left y); place = m.place ∙ sym (place_left y); room = m.room }
+  pub then : {y : Bytes} {c : Output} → Laid b y c → Laid a (x ++ y) c
+  then {y} m = record { same = m.same ∙ l.same; bytes = m.bytes ∙ sym (bytes_left y); place = m.place ∙ sym (place_left y) }
 
 -- A loop that lays a whole: what is left to lay, from the place in hand, gives what the whole gives from the first place.
-pub record Going (limit : ℕ) (o₀ : Bytes) (at : ℕ) (whole o : Bytes) (here : ℕ) (rest : Bytes) : Type 0 where
-  pub bytes : sets o₀ at whole ≡ sets o here rest
-  pub place : min (at + length whole) limit ≡ min (here + length rest) limit
-  pub size : length o ≡ length o₀
-  pub room : Room limit o here
+pub record Going (a : Output) (whole : Bytes) (b : Output) (rest : Bytes) : Type 0 where
+  pub same : b.bytes.ghost_name ≡ a.bytes.ghost_name
+  pub bytes : sets a.bytes.now a.at whole ≡ sets b.bytes.now b.at rest
+  pub place : min (a.at + length whole) most ≡ min (b.at + length rest) most
 
-pub starts : {limit at : ℕ} {o : Bytes} (whole : Bytes) → Room limit o at → Going limit o at whole o at whole
-starts whole r = record { bytes = refl; place = refl; size = refl; room = r }
+pub starts : (a : Output) (whole : Bytes) → Going a whole a whole
+starts a whole = record { same = refl; bytes = refl; place = refl }
 
-pub goes : {limit at here p : ℕ} {o₀ whole o x o₁ : Bytes} (y : Bytes) → Going limit o₀ at whole o here (x ++ y) → Laid limit o here x o₁ p →
-    Going limit o₀ at whole o₁ p y
-goes y g l = record { bytes = g.bytes ∙ bytes_left l y; place = g.place ∙ place_left l y; size = same_size l ∙ g.size; room = l.room }
+pub goes : {a b c : Output} {whole x : Bytes} (y : Bytes) → Going a whole b (x ++ y) → Laid b x c → Going a whole c y
+goes y g l = record { same = l.same ∙ g.same; bytes = g.bytes ∙ bytes_left l y; place = g.place ∙ place_left l y }
 
-pub ends : {limit at here : ℕ} {o₀ whole o : Bytes} → Going limit o₀ at whole o here [] → Laid limit o₀ at whole o here
-ends {here} g = record { bytes = sym g.bytes; place = omega (arith, g.place, g.room.upto); room = g.room }
+pub ends : {a b : Output} {whole : Bytes} → Going a whole b [] → Laid a whole b
+ends {a} {b} g = record { same = g.same; bytes = sym g.bytes; place = omega (arith, g.place, b.room.upto) }
 
-pub ends_with : {limit at here r : ℕ} {o₀ whole o rest o₁ : Bytes} → Going limit o₀ at whole o here rest → Laid limit o here rest o₁ r → Laid limit o₀ at whole o₁ r
-ends_with g l = record { bytes = l.bytes ∙ sym g.bytes; place = l.place ∙ sym g.place; room = l.room }
+pub ends_with : {a b c : Output} {whole rest : Bytes} → Going a whole b rest → Laid b rest c → Laid a whole c
+ends_with g l = record { same = l.same ∙ g.same; bytes = l.bytes ∙ sym g.bytes; place = l.place ∙ sym g.place }
+
+-- nothing to lay
+pub nothing : (a : Output) → Laid a [] a
+nothing a = ends (starts a [])
 
 -- a whole text that has room at the start
 pub sets_front : (vs l : List ℕ) → length vs ≤ length l → sets l 0 vs ≡ vs ++ drop (length vs) l
 sets_front vs l h = sets-eq vs l 0 (rw zero-add h) ∙ rw zero-add
 
-pub shown : {limit r : ℕ} {o text o₁ : Bytes} → length text ≤ length o → Laid limit o 0 text o₁ r → Shown text o o₁ r
-shown {o} {text} h l = record { size = omega (arith, h, l.place, l.room.size, same_size l); bytes = l.bytes ∙ sets_front text o h }
-
 -- the same bytes by another name
-pub told : {limit at r : ℕ} {o bs o₁ : Bytes} {cs : Bytes} → bs ≡ cs → Laid limit o at bs o₁ r → Laid limit o at cs o₁ r
+pub told : {a b : Output} {bs cs : Bytes} → bs ≡ cs → Laid a bs b → Laid a cs b
 told e l = rw e at l
 
 -- the first of what is left of a string
 pub next_byte : (bs : Bytes) (i : ℕ) → i < length bs → drop i bs ≡ (get_or bs i 0 ∷ []) ++ drop (i + 1) bs
 next_byte bs i h = rw (add-one, drop-cons bs i 0)
 
--- nothing to lay
-pub nothing : {limit at : ℕ} {o : Bytes} → Room limit o at → Laid limit o at [] o at
-nothing {at} r = record { bytes = refl; place = omega (arith, r.upto); room = r }
+-- what is laid from the start of an output
+module _ {o bs : Bytes} {a b : Output} (e : Begun o a) (l : Laid a bs b) where
+  all_laid : b.bytes.now ≡ sets o 0 bs
+  all_laid = rw (e.bytes, e.start) at l.bytes
+
+  all_counted : b.at ≡ min (length bs) most
+  all_counted = omega (arith, l.place, e.start)
+
+  same_size : length b.bytes.now ≡ length o
+  same_size = ap length all_laid ∙ length-sets o 0 bs
+
+  pub shown : {o₁ : Bytes} → o₁ ≡ b.bytes.now → length bs ≤ length o → Shown bs o o₁ b.at
+  shown i h = rw i record { size = omega (arith, h, all_counted, b.room.size, same_size); bytes = all_laid ∙ sets_front bs o h }
+
+-- an output is no longer than a place can tell
+pub within : {o : Bytes} {a : Output} → Begun o a → length o ≤ most
+within {a} e = rw e.bytes at a.room.size
 
 -- over an empty part of an output nothing changes, and the place tells whether there is room
-module _ {limit : ℕ} {bs o₁ : Bytes} {p : ℕ} (l : Laid limit [] 0 bs o₁ p) where
-  pub measured : (o : Bytes) → o₁ ++ o ≡ o
-  measured o = ap (λ (x : Bytes). x ++ o) (l.bytes ∙ sets_out bs [] 0 (omega arith))
+module _ {bs : Bytes} {a b : Output} (e : Begun [] a) (l : Laid a bs b) where
+  pub measured : (o : Bytes) → b.bytes.now ++ o ≡ o
+  measured o = ap (λ (x : Bytes). x ++ o) (all_laid e l ∙ sets_out bs [] 0 (omega arith))
 
-  pub too_long : limit ≤ p → limit ≤ length bs
-  too_long h = omega (arith, l.place)
+  pub too_long : {limit : ℕ} → limit ≤ b.at → limit ≤ length bs
+  too_long h = omega (arith, h, all_counted e l)
 
-  -- and what is laid next is the whole
-  pub written : (o : Bytes) {o₂ : Bytes} {q : ℕ} → p < limit → Laid limit (o₁ ++ o) 0 bs o₂ q → (length bs < limit) × (o₂ ≡ sets o 0 bs) × (q ≡ length bs)
-  written o h m = (omega (arith, l.place), rw (measured o) at m.bytes, omega (arith, l.place, m.place))
+  -- and what is laid next is the whole, as long as was measured
+  pub written : {limit : ℕ} {o : Bytes} {c d : Output} → Begun o c → limit ≤ most → b.at < limit → Laid c bs d →
+      (length bs < limit) × (d.bytes.now ≡ sets o 0 bs) × (d.at ≡ length bs) × (b.at ≡ length bs)
+  written {limit} f k h m =
+      let few : length bs < limit = omega (arith, k, h, all_counted e l) in
+      (few, all_laid f m, omega (arith, few, k, all_counted f m), omega (arith, few, k, all_counted e l))

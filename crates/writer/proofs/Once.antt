@@ -2,7 +2,7 @@
 -- Assumes nothing.
 use mathlib.Core.Bool.{Bool, cond, false, true, true≢false}
 use mathlib.Core.List.{List, [], ◌∷◌}
-use mathlib.Core.Option.{none, some}
+use Rattle.std.specs.Prelude.{None, Some}
 use mathlib.Core.Path.{ap, refl, sym, ◌∙◌, ◌≡◌}
 use Prim.Native.Nat.{Ordering, suc, zero, ℕ, ◌+◌}
 use Rattle.order.specs.ByText.{by_key, insert, key_at}
@@ -54,11 +54,11 @@ module _ (s : Bytes) (w : List ℕ) where
       go false q below = rw (q, marked_nodes_from, marked_from) below
 
 -- ---- each text once
-again : {t u : Bytes} → t ≡ u → is_again (some t) u ≡ true
+again : {t u : Bytes} → t ≡ u → is_again (Some t) u ≡ true
 unfolding is_again
 again {t} {u} e = ap (same_bytes t) (sym e) ∙ same_bytes_refl t
 
-not_again : {t u : Bytes} → (t ≡ u → ⊥) → is_again (some t) u ≡ false
+not_again : {t u : Bytes} → (t ≡ u → ⊥) → is_again (Some t) u ≡ false
 unfolding is_again
 not_again {t} {u} n = go (same_bytes t u) refl
   where
@@ -70,42 +70,42 @@ apart : {t u : Bytes} → Less t u → t ≡ u → ⊥
 apart {t} l e = let z : ◌≡◌ {A = Bool} true false = cc (less_order l, ap (order_bytes t) (sym e), same_order t) in true≢false z
 
 -- a text that comes after the last one: put in among the rest, it is put among the rest once
-once_insert : (l t : Bytes) (us : List Bytes) → Less l t → once_after (some l) (insert_text t us) ≡ insert_name t (once_after (some l) us)
+once_insert : (l t : Bytes) (us : List Bytes) → Less l t → once_after (Some l) (insert_text t us) ≡ insert_name t (once_after (Some l) us)
 unfolding once_after insert_text insert_name
 once_insert l t [] h = rw (not_again (apart h))
 once_insert l t (u ∷ us) h = go (order_bytes t u) (order_view t u) refl (once_insert u t us)
   where
     rest : List Bytes
-    rest = once_after (some u) us
+    rest = once_after (Some u) us
 
-    seen : {b : Bool} → is_again (some l) u ≡ b → once_after (some l) (u ∷ us) ≡ cond b rest (u ∷ rest)
+    seen : {b : Bool} → is_again (Some l) u ≡ b → once_after (Some l) (u ∷ us) ≡ cond b rest (u ∷ rest)
     seen q = ap {B = List Bytes} (λ b. cond b rest (u ∷ rest)) q
 
-    first : once_after (some l) (t ∷ u ∷ us) ≡ t ∷ once_after (some t) (u ∷ us)
+    first : once_after (Some l) (t ∷ u ∷ us) ≡ t ∷ once_after (Some t) (u ∷ us)
     first = rw (not_again (apart h))
 
-    go : (o : Ordering) → OrderView t u o → order_bytes t u ≡ o → (Less u t → once_after (some u) (insert_text t us) ≡ insert_name t rest) →
-        once_after (some l) (insert_text t (u ∷ us)) ≡ insert_name t (once_after (some l) (u ∷ us))
+    go : (o : Ordering) → OrderView t u o → order_bytes t u ≡ o → (Less u t → once_after (Some u) (insert_text t us) ≡ insert_name t rest) →
+        once_after (Some l) (insert_text t (u ∷ us)) ≡ insert_name t (once_after (Some l) (u ∷ us))
     go o (is_lt k) e below = rw (e, insert_text, first, not_again (apart k), seen (not_again (apart (less_trans h k))), e, insert_name)
     go o (is_eq' k) e below = rw (e, insert_text, first, again k, seen (not_again (λ q. apart h (q ∙ sym k))), e, insert_name) (ap {B = List Bytes} (λ x. x ∷ rest) k)
-    go o (is_gt k) e below = by (is_again (some l) u) refl (below k)
+    go o (is_gt k) e below = by (is_again (Some l) u) refl (below k)
       where
-        by : (b : Bool) → is_again (some l) u ≡ b → once_after (some u) (insert_text t us) ≡ insert_name t rest →
-            once_after (some l) (insert_text t (u ∷ us)) ≡ insert_name t (once_after (some l) (u ∷ us))
+        by : (b : Bool) → is_again (Some l) u ≡ b → once_after (Some u) (insert_text t us) ≡ insert_name t rest →
+            once_after (Some l) (insert_text t (u ∷ us)) ≡ insert_name t (once_after (Some l) (u ∷ us))
         by true q i = rw (e, insert_text, q) i
         by false q i = rw (e, insert_text, q, e, insert_name) (ap {B = List Bytes} (λ x. u ∷ x) i)
 
-once_first : (t : Bytes) (us : List Bytes) → once_after none (insert_text t us) ≡ insert_name t (once_after none us)
+once_first : (t : Bytes) (us : List Bytes) → once_after None (insert_text t us) ≡ insert_name t (once_after None us)
 unfolding once_after insert_text insert_name is_again
 once_first t [] = refl
 once_first t (u ∷ us) = go (order_bytes t u) (order_view t u) refl
   where
-    go : (o : Ordering) → OrderView t u o → order_bytes t u ≡ o → once_after none (insert_text t (u ∷ us)) ≡ insert_name t (once_after none (u ∷ us))
+    go : (o : Ordering) → OrderView t u o → order_bytes t u ≡ o → once_after None (insert_text t (u ∷ us)) ≡ insert_name t (once_after None (u ∷ us))
     go o (is_lt k) e = rw (e, insert_text, not_again (apart k), insert_name)
-    go o (is_eq' k) e = rw (e, insert_text, again k, insert_name) (ap {B = List Bytes} (λ x. x ∷ once_after (some u) us) k)
+    go o (is_eq' k) e = rw (e, insert_text, again k, insert_name) (ap {B = List Bytes} (λ x. x ∷ once_after (Some u) us) k)
     go o (is_gt k) e = rw (e, insert_text, insert_name) (ap {B = List Bytes} (λ x. u ∷ x) (once_insert u t us k))
 
-once_sorted : (ts : List Bytes) → once_after none (in_order ts) ≡ ascending ts
+once_sorted : (ts : List Bytes) → once_after None (in_order ts) ≡ ascending ts
 unfolding once_after in_order ascending
 once_sorted [] = refl
 once_sorted (t ∷ ts) = once_first t (in_order ts) ∙ ap (insert_name t) (once_sorted ts)
@@ -115,6 +115,6 @@ unfolding marked
 all_marked s w = refl
 
 -- The marked nodes by their texts, each text once: the names, ascending.
-pub names_once : (s : Bytes) (w : List ℕ) → once_after none (texts_of s w (by_key (key_at s w) (marked_nodes w))) ≡ ascending (marked s w)
+pub names_once : (s : Bytes) (w : List ℕ) → once_after None (texts_of s w (by_key (key_at s w) (marked_nodes w))) ≡ ascending (marked s w)
 unfolding marked_nodes marked
-names_once s w = ap (once_after none) (texts_sorted s w (marked_nodes w) ∙ ap in_order (texts_marked s w max_nodes 0)) ∙ once_sorted (marked s w)
+names_once s w = ap (once_after None) (texts_sorted s w (marked_nodes w) ∙ ap in_order (texts_marked s w max_nodes 0)) ∙ once_sorted (marked s w)

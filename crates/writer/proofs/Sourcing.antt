@@ -8,7 +8,8 @@ use lib.ListN.{length}
 use Rattle.writer.proofs.Laying.{Going, ends_with, goes, starts}
 use Rattle.writer.proofs.Lists.{elements_more}
 use Rattle.writer.specs.Once.{elements}
-use Rattle.writer.specs.Laid.{Laid, Room}
+use Rattle.writer.specs.Laid.{Laid}
+use Rattle.writer.specs.declared.lay.Output.{Output}
 use Rattle.answers.specs.Line.{quoted}
 use Rattle.writer.specs.Texts.{TextsHeld, texts_in}
 use Rattle.json_text.proofs.Walk.{after_node, inside, is_array, is_object, is_plain, values_done, values_more, view, View}
@@ -110,20 +111,20 @@ module _ {s : Bytes} {w : List ℕ} {n : ℕ} (h : TextsHeld s w n) where
       go (is_array p l v m) = record { left = _; nodes = m; are = got (rw v) (rw v at e) }
       go (is_object p l v m) = let z : ◌≡◌ {A = ℕ} 0 1 = cc (rw v at e) in never z
 
-pub record Sourcing (limit : ℕ) (s : Bytes) (w : List ℕ) (whole : List Bytes) (o₀ : Bytes) (at : ℕ) (o : Bytes) (here k e : ℕ) : Type 0 where
+pub record Sourcing (s : Bytes) (w : List ℕ) (whole : List Bytes) (a b : Output) (k e : ℕ) : Type 0 where
   pub left : ℕ
   pub nodes : AreNodes s w left k e
   pub rest : List Bytes
   pub are : each_of a_text (json.elements (values_at s w k e)) ≡ ok rest
-  pub going : Going limit o₀ at (elements whole ++ (41 ∷ [])) o here (elements rest ++ (41 ∷ []))
+  pub going : Going a (elements whole ++ (41 ∷ [])) b (elements rest ++ (41 ∷ []))
 
 pub sourcing :
-    {limit at n e : ℕ} {s o : Bytes} {w : List ℕ} (h : TextsHeld s w n) → (kind_at w n ≡ 4 → ⊥) → e ≡ after_at w n → Room limit o at →
-    Sourcing limit s w (texts_in (value_at s w n)) o at o at (n + 1) e
-sourcing h k q r = let a = texts_array h k in rw q (record { left = a.left; nodes = a.nodes; rest = _; are = a.are; going = starts _ r })
+    {n e : ℕ} {s : Bytes} {w : List ℕ} (a : Output) (h : TextsHeld s w n) → (kind_at w n ≡ 4 → ⊥) → e ≡ after_at w n →
+    Sourcing s w (texts_in (value_at s w n)) a a (n + 1) e
+sourcing a h k q = let t = texts_array h k in rw q (record { left = t.left; nodes = t.nodes; rest = _; are = t.are; going = starts a _ })
 
-module _ {limit : ℕ} {s : Bytes} {w : List ℕ} {whole : List Bytes} {o₀ : Bytes} {at : ℕ} {o : Bytes} {here k e : ℕ} (g : Sourcing limit s w whole o₀ at o here k e) where
-  pub no_source : {o₁ : Bytes} {p : ℕ} → e ≤ k → Laid limit o here (41 ∷ []) o₁ p → Laid limit o₀ at (elements whole ++ (41 ∷ [])) o₁ p
+module _ {s : Bytes} {w : List ℕ} {whole : List Bytes} {a b : Output} {k e : ℕ} (g : Sourcing s w whole a b k e) where
+  pub no_source : {c : Output} → e ≤ k → Laid b (41 ∷ []) c → Laid a (elements whole ++ (41 ∷ [])) c
   unfolding elements each_of
   no_source h l =
       let z : [] ≡ g.rest = cc (rw (values_done s w g.nodes h) at g.are) in
@@ -139,9 +140,7 @@ module _ {limit : ℕ} {s : Bytes} {w : List ℕ} {whole : List Bytes} {o₀ : B
     pub source_falls : {j : ℕ} → j ≡ after_at w k → (k < j) × (j ≤ e)
     source_falls q = rw q ((values_more s w g.nodes h).past, (values_more s w g.nodes h).upto)
 
-    pub next_source :
-        {j t : ℕ} {o₁ : Bytes} {p : ℕ} → t ≡ start_at w k → j ≡ after_at w k → Laid limit o here (32 ∷ quoted (text_at s t)) o₁ p →
-        Sourcing limit s w whole o₀ at o₁ p j e
+    pub next_source : {j t : ℕ} {c : Output} → t ≡ start_at w k → j ≡ after_at w k → Laid b (32 ∷ quoted (text_at s t)) c → Sourcing s w whole a c j e
     next_source i q l =
         let f = first in
         rw q

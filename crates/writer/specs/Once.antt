@@ -1,7 +1,7 @@
 -- The marked nodes, the texts of a list in order each once, and texts as a list has them.
 -- Assumes nothing.
 use Rattle.std.specs.Prelude.{Bool, cond, false, true, List, [], ◌++◌, ◌∷◌, ◌≡◌, suc, zero, ℕ, ◌+◌, ◌≤◌, length, take}
-use Rattle.std.proofs.Math.Option.{Option, none, some}
+use Rattle.std.specs.Prelude.{Option, None, Some}
 use Rattle.order.specs.ByText.{key_at}
 use Rattle.json_text.specs.Bytes.{Bytes, same_bytes}
 use Rattle.json_text.specs.Limits.{max_nodes}
@@ -33,14 +33,14 @@ texts_of s w (n ∷ ns) = key_at s w n ∷ texts_of s w ns
 -- whether a text is the last one again
 unfoldable pub is_again : Option Bytes → Bytes → Bool
 unfolding same_bytes
-is_again none t = false
-is_again (some l) t = same_bytes l t
+is_again None t = false
+is_again (Some l) t = same_bytes l t
 
 -- the texts that are not the one before them
 unfoldable pub once_after : Option Bytes → List Bytes → List Bytes
 unfolding is_again
 once_after last [] = []
-once_after last (t ∷ ts) = cond (is_again last t) (once_after (some t) ts) (t ∷ once_after (some t) ts)
+once_after last (t ∷ ts) = cond (is_again last t) (once_after (Some t) ts) (t ∷ once_after (Some t) ts)
 
 -- a space and a quoted text, unless that is the last one again; and for each of a list
 abbrev pub element_after : Option Bytes → Bytes → Bytes

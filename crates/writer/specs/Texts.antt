@@ -1,7 +1,7 @@
 -- Texts of the sheet by their places, and what the marks must be for the names to be read from them.
 -- Assumes nothing.
 use Rattle.std.specs.Prelude.{true, List, [], ◌≡◌, ℕ, ◌<◌, ◌≤◌, length}
-use Rattle.std.proofs.Math.Option.{Option, none, some}
+use Rattle.std.specs.Prelude.{Option, None, Some}
 use Rattle.json_text.specs.Bytes.{Bytes}
 use Rattle.json_text.specs.Cursor.{OnText}
 use Rattle.json_text.specs.Held.{HasNode}
@@ -12,21 +12,19 @@ use Rattle.json_text.specs.Refusal.{Result, ok, refused}
 use Rattle.json_text.specs.Spans.{text_at}
 use Rattle.json_text.specs.Table.{start_at, value_at}
 use Rattle.members.specs.Kinds.{each_of, some_texts}
-use Rattle.writer.specs.declared.quote.Text.{Text}
-use Rattle.writer.specs.declared.quote.Text.TheVariants as texts
 
 -- a text that may be missing
-unfoldable pub text_of : Bytes → Text → Option Bytes
+unfoldable pub text_of : Bytes → Option ℕ → Option Bytes
 unfolding text_at
-text_of s texts.Missing = none
-text_of s (texts.At p) = some (text_at s p)
+text_of s None = None
+text_of s (Some p) = Some (text_at s p)
 
-unfoldable pub IsText : Bytes → Text → Type 0
-IsText s texts.Missing = Unit {0}
-IsText s (texts.At p) = OnText s p 0
+unfoldable pub IsText : Bytes → Option ℕ → Type 0
+IsText s None = Unit {0}
+IsText s (Some p) = OnText s p 0
 
 -- an answer that is a text
-pub record TextTold (s : Bytes) (whole : Option Bytes) (r : Text) : Type 0 where
+pub record TextTold (s : Bytes) (whole : Option Bytes) (r : Option ℕ) : Type 0 where
   pub is : text_of s r ≡ whole
   pub is_text : IsText s r
 

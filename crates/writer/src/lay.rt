@@ -1,42 +1,81 @@
-// Bytes laid into the output from a place on, as far as there is room. Each function answers with the place behind its bytes, held at the limit.
+// Bytes, digits and escaped bytes put into an output one behind another, as far as there is room. All are counted, so that over no room they are only counted.
 ghost use Rattle.std.specs.Prelude.{◌≡◌, [], ◌∷◌, ◌≤◌};
-ghost use Rattle.writer.specs.Laid.{Laid, Room};
+ghost use Rattle.writer.specs.Room.{Room};
 ghost use Rattle.answers.specs.Line.{decimal_digits, hex_of, quoted_byte};
 
-pub fn byte(out: &mut [u8], limit: usize, at: usize, b: u8) -> usize
-    requires { Room limit out.old at }
-    ensures { Laid limit out.old at (b ∷ []) out.new result }
-{
-    if at < out.len() {
-        out[at] = b;
-        return at + 1;
-    }
-    if at < limit { at + 1 } else { limit }
+// A buffer that the caller lends, and the place of the next byte in it or behind it. A place is held at the largest number, so that no count wraps.
+#[derive(Drop)]
+pub struct Output<'a> {
+    bytes: &'a mut [u8],
+    at: usize,
+    ghost room: { Room bytes.now at },
 }
 
-pub fn bytes(out: &mut [u8], limit: usize, at: usize, bs: &[u8]) -> usize
-    requires { Room limit out.old at }
-    ensures { Laid limit out.old at bs.now out.new result }
-{
-    let mut here = at;
-    let mut i = 0;
-    while i < bs.len() {
-        here = byte(out, limit, here, bs[i]);
-        i += 1;
-    }
-    here
-}
+impl<'a> Output<'a> {
+    ghost use Rattle.writer.specs.Laid.{Begun, Laid};
 
-// A number in decimal digits.
-pub fn decimal(out: &mut [u8], limit: usize, at: usize, n: usize) -> usize
-    requires { Room limit out.old at }
-    ensures { Laid limit out.old at (decimal_digits n) out.new result }
-{
-    if n < 10 {
-        return byte(out, limit, at, 48 + n as u8);
+    // An output that is filled from its start.
+    pub fn new(bytes: &'a mut [u8]) -> Output<'a>
+        ensures same_reference { result.bytes.ghost_name ≡ bytes.entry.ghost_name }
+        ensures empty { Begun bytes.old result }
+    {
+        Output { bytes, at: 0 }
     }
-    let here = decimal(out, limit, at, n / 10);
-    byte(out, limit, here, 48 + (n % 10) as u8)
+
+    // How many bytes were put.
+    pub fn count(&self) -> usize
+        ensures { result ≡ self.now.at }
+    {
+        self.at
+    }
+
+    pub fn byte(&mut self, b: u8)
+        ensures { Laid self.old (b ∷ []) self.new }
+    {
+        // Read once: behind the store the place would be read again, which long texts feel.
+        let at = self.at;
+        if at < self.bytes.len() {
+            self.bytes[at] = b;
+        }
+        self.at = at.saturating_add(1);
+    }
+
+    pub fn bytes(&mut self, bs: &[u8])
+        ensures { Laid self.old bs.now self.new }
+    {
+        for &b in bs {
+            self.byte(b);
+        }
+    }
+
+    // A number in decimal digits.
+    // By hand and no `write!`: each digit goes through `byte`, which also counts where there is no room.
+    pub fn decimal(&mut self, n: usize)
+        ensures { Laid self.old (decimal_digits n) self.new }
+    {
+        if n < 10 {
+            self.byte(b'0' + n as u8);
+        } else {
+            self.decimal(n / 10);
+            self.byte(b'0' + (n % 10) as u8);
+        }
+    }
+
+    // A byte of a text in quotes.
+    pub fn quoted_byte(&mut self, b: u8)
+        ensures { Laid self.old (quoted_byte b) self.new }
+    {
+        match b {
+            b'"' => self.bytes(b"\\\""),
+            b'\\' => self.bytes(b"\\\\"),
+            0..=31 => {
+                self.bytes(b"\\u00");
+                self.byte(hex(b / 16));
+                self.byte(hex(b % 16));
+            }
+            _ => self.byte(b),
+        }
+    }
 }
 
 // A lower-case hexadecimal digit.
@@ -44,24 +83,5 @@ fn hex(n: u8) -> u8
     requires { n ≤ 15 }
     ensures { result ≡ hex_of n }
 {
-    if n < 10 { 48 + n } else { 87 + n }
-}
-
-// A byte of a text in quotes.
-pub fn quoted_byte(out: &mut [u8], limit: usize, at: usize, b: u8) -> usize
-    requires { Room limit out.old at }
-    ensures { Laid limit out.old at (quoted_byte b) out.new result }
-{
-    if b == b'"' {
-        return bytes(out, limit, at, b"\\\"");
-    }
-    if b == b'\\' {
-        return bytes(out, limit, at, b"\\\\");
-    }
-    if b < 32 {
-        let x = bytes(out, limit, at, b"\\u00");
-        let y = byte(out, limit, x, hex(b / 16));
-        return byte(out, limit, y, hex(b % 16));
-    }
-    byte(out, limit, at, b)
+    if n < 10 { b'0' + n } else { b'a' + (n - 10) }
 }

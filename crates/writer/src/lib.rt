@@ -1,4 +1,4 @@
-// Bytes, digits, quoted texts and lists laid into an output, or only counted where there is no room.
+// The answers, and the output that their lines are put into: bytes, digits, quoted texts and lists, or only counted where there is no room.
 #![tactic(auto)]
 
 pub mod answer;

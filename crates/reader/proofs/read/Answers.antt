@@ -1,9 +1,9 @@
 -- `reader::read` meets its contract: each refusal and the table as the whole sheet's laws say.
 -- Assumes nothing.
 use Rattle.reader.proofs.Whole.{refused_is, spanned_bytes, spanned_long, spanned_more, spanned_refused, still_laid, told_refused, told_table, too_small}
-use Rattle.leaves.proofs.Values.{read_places}
+use Rattle.leaves.proofs.Values.{handed_on, read_places}
 use Rattle.leaves.proofs.MemberName.{skip_past}
-use Rattle.reader.proofs.ArrayLoop.{was_bad, was_done}
+use Rattle.reader.proofs.ArrayLoop.{was_done}
 use Rattle.strings.specs.declared.answer.Refusal.TheVariants as whys
 use Rattle.json_text.specs.Limits.{max_depth}
 use mathlib.Core.Path.{refl, sym, ◌∙◌}
@@ -37,40 +37,37 @@ root-requires c =
 
 pub skip-requires : goal.skip-requires
 skip-requires c =
-    let r = was_done _ _ _ _ c.in-Done.p
-    c.root.ensures c.in-Done.is in
+    let r = was_done c.in_ok-tree.ensures in
     (read_places max_depth c.args.sheet.now 0 c.skip-at.result _
     (skip_past c.args.sheet.now 0 c.skip-at.result (omega arith) c.skip-at.ensures).1 r.read).1
 
-pub returns-then-skip-sheet : goal.returns-then-skip-sheet
-returns-then-skip-sheet c =
-    let r = was_done _ _ _ _ c.in-Done.p c.root.ensures
-    c.in-Done.is in
+pub returns : goal.returns
+returns c =
+    let r = was_done c.in_ok-tree.ensures in
     told_table c.args.sheet.now c.args.work.now c.if-work-lt16384.false _
-    (still_laid c.args.sheet.now _ _ c.skip-at.result c.in-Done.p
-    (skip_past c.args.sheet.now 0 c.skip-at.result (omega arith) c.skip-at.ensures).1 r) c.in-Done.p
+    (still_laid c.args.sheet.now _ _ c.skip-at.result c.in_ok-tree.tree
+    (skip_past c.args.sheet.now 0 c.skip-at.result (omega arith) c.skip-at.ensures).1 r) c.in_ok-tree.tree
     c.skip-at.result c.skip.result c.if-sheet-gt32768.false
     (sym c.utf8-2.ensures ∙ c.if-not-utf8.false)
-    c.skip-at.ensures r c.skip.ensures c.if-skip-sheet.true
+    c.skip-at.ensures r c.skip.ensures c.if-skip-sheet.false
 
-pub returns-in-Bad : goal.returns-in-Bad
-returns-in-Bad c =
-    let b = refused_is _ _ _ _ c.in-Bad.n
-    (was_bad _ _ _ _ c.in-Bad.n c.root.ensures
-    c.in-Bad.is) in
-    told_refused c.args.sheet.now c.args.work.now c.if-work-lt16384.false _ b.1 c.in-Bad.n
+pub returns-in_err-tree : goal.returns-in_err-tree
+returns-in_err-tree c =
+    let b = refused_is _ _ _ _ c.in_err-tree.field-0.0 c.in_err-tree.ensures in
+    rw
+    (handed_on _ c.from_residual.ensures.1)
+    (told_refused c.args.sheet.now c.args.work.now c.if-work-lt16384.false _ b.1 c.in_err-tree.field-0.0
     (spanned_refused c.args.sheet.now c.if-sheet-gt32768.false
     (sym c.utf8-2.ensures ∙ c.if-not-utf8.false)
-    c.skip-at.result c.skip-at.ensures _ b.0)
+    c.skip-at.result c.skip-at.ensures _ b.0))
 
-pub returns-else-skip-sheet : goal.returns-else-skip-sheet
-returns-else-skip-sheet c =
-    let r = was_done _ _ _ _ c.in-Done.p c.root.ensures
-    c.in-Done.is in
+pub returns-then-skip-sheet : goal.returns-then-skip-sheet
+returns-then-skip-sheet c =
+    let r = was_done c.in_ok-tree.ensures in
     told_refused c.args.sheet.now c.args.work.now c.if-work-lt16384.false _
-    (still_laid c.args.sheet.now _ _ c.skip-at.result c.in-Done.p
+    (still_laid c.args.sheet.now _ _ c.skip-at.result c.in_ok-tree.tree
     (skip_past c.args.sheet.now 0 c.skip-at.result (omega arith) c.skip-at.ensures).1 r) whys.NotJson
     (spanned_more c.args.sheet.now c.if-sheet-gt32768.false
     (sym c.utf8-2.ensures ∙ c.if-not-utf8.false) c.skip-at.result
     c.skip-at.ensures _ c.skip.result r.read c.skip.ensures
-    c.if-skip-sheet.false)
+    c.if-skip-sheet.true)

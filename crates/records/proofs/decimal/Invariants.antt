@@ -3,8 +3,5 @@
 use Rattle.std.proofs.Common.{length, ◌-◌, ◌<◌}
 use Rattle.records.proofs.decimal.Given as goal
 
-abbrev pub invariant-loop-i : goal.invariant-loop-i
-invariant-loop-i l = l.n < 100000000000
-
-abbrev pub decreases-loop-i : goal.decreases-loop-i
-decreases-loop-i l = length l.text - l.i
+abbrev pub invariant-loop-c : goal.invariant-loop-c
+invariant-loop-c l = l.n < 100000000000

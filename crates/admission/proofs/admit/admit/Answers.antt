@@ -1,4 +1,4 @@
--- `calls::admit::admit` meets its contract: by the effect, then the sources, then the wrong state.
+-- `admission::admit::admit` meets its contract: by the effect, then the sources, then the wrong state.
 -- Assumes nothing.
 use native.Mathlib.Omega.{arith}
 use Rattle.members.proofs.Walks.{room}
@@ -6,30 +6,19 @@ use Rattle.members.specs.Condition.{condition}
 use Rattle.members.specs.Outcome.{an_outcome}
 use Rattle.answers.specs.Admission.{sources}
 use Rattle.admission.proofs.Admitting.{has_no_source, keeps_moving, keeps_staying, sources_of, turns_wrong}
-use Rattle.rules.proofs.Starting.{effect_known, members_behind, outcome_here, outcome_members, sources_here}
+use Rattle.rules.proofs.Starting.{effect_known, sources_here}
 use Rattle.rules.proofs.Walking.{behind_array}
 use Rattle.admission.proofs.admit.admit.Goals as goal
 
-pub after_at-after-requires : goal.after_at-after-requires
-after_at-after-requires c = room c.requires.3.known.node
-
-pub members-m-requires : goal.members-m-requires
-members-m-requires c = members_behind (outcome_here c.requires.3.known) c.after_at-after.ensures
-
 pub of_effect-requires : goal.of_effect-requires
-of_effect-requires c =
-    effect_known
-    (outcome_members c.after_at-after.ensures c.members-m.ensures
-    c.requires.3.known)
+of_effect-requires c = effect_known (c.members_at-effect.ensures c.requires.3.given c.requires.3.known)
 
 pub is_one_of-requires : goal.is_one_of-requires
 is_one_of-requires c = (
   record {
     given = sources c.requires.3.given.effect;
     known = sources_here c.args.s.now c.args.work.now c.requires.3.given.effect
-        (sources_of c.args.s.now c.args.work.now c.after_at-after.ensures
-        c.members-m.ensures _ c.of_effect.ensures c.requires.3.given
-        c.requires.3.known) c.in-At.sources c.in-At.is;
+        (sources_of c.args.s.now c.args.work.now c.members_at-effect.ensures _ c.of_effect.ensures c.requires.3.given c.requires.3.known) c.in-Some.sources c.in-Some.is;
   },
   c.requires.2,
 )
@@ -37,70 +26,44 @@ is_one_of-requires c = (
 pub returns-then-is_one_of : goal.returns-then-is_one_of
 returns-then-is_one_of c =
     λ ts os o g h k. keeps_moving c.args.s.now c.args.work.now ts os c.args.state c.args.p.place o _
-    (sources_of c.args.s.now c.args.work.now c.after_at-after.ensures
-    c.members-m.ensures _ c.of_effect.ensures o k)
-    c.in-At.sources c.in-At.is _ c.is_one_of.ensures
+    (sources_of c.args.s.now c.args.work.now c.members_at-effect.ensures _ c.of_effect.ensures o k)
+    c.in-Some.sources c.in-Some.is _ c.is_one_of.ensures
     c.if-is_one_of.true (c.entry-outcome.ensures o k)
 
-pub overflow_add-from : goal.overflow_add-from
-overflow_add-from c =
-    omega (
-      arith,
-      (room
-          c.requires.1.known.node).1,
-    )
-
 pub after_at-end-requires : goal.after_at-end-requires
-after_at-end-requires c =
-    room
-    c.requires.1.known.node
+after_at-end-requires c = room c.requires.1.known.node
 
 pub is_wrong-requires : goal.is_wrong-requires
 is_wrong-requires c = (
   c.requires.0,
-  record {
-    given = c.requires.1.given;
-    known = behind_array (an_outcome condition) c.requires.1.known c.after_at-end.ensures;
-  },
+  record { given = c.requires.1.given; known = behind_array (an_outcome condition) c.requires.1.known c.after_at-end.ensures },
   c.requires.2,
 )
 
 pub for_wrong_state-requires : goal.for_wrong_state-requires
-for_wrong_state-requires c = (
-  record {
-    given = c.requires.1.given;
-    known = behind_array (an_outcome condition) c.requires.1.known c.after_at-end.ensures;
-  },
-  c.requires.2,
-)
+for_wrong_state-requires c =
+    (record { given = c.requires.1.given; known = behind_array (an_outcome condition) c.requires.1.known c.after_at-end.ensures }, c.requires.2)
 
 pub returns-then-is_wrong : goal.returns-then-is_wrong
 returns-then-is_wrong c =
     λ ts os o g h k. turns_wrong c.args.s.now c.args.work.now ts os c.args.state c.args.p.place o _
-    (sources_of c.args.s.now c.args.work.now c.after_at-after.ensures
-    c.members-m.ensures _ c.of_effect.ensures o k)
-    c.in-At.sources c.in-At.is _ c.is_one_of.ensures
+    (sources_of c.args.s.now c.args.work.now c.members_at-effect.ensures _ c.of_effect.ensures o k)
+    c.in-Some.sources c.in-Some.is _ c.is_one_of.ensures
     c.if-is_one_of.false _
-    (c.is_wrong.ensures ts os g
-    (behind_array (an_outcome condition) h c.after_at-end.ensures))
+    (c.is_wrong.ensures ts os g (behind_array (an_outcome condition) h c.after_at-end.ensures))
     c.if-is_wrong.true
-    (c.for_wrong_state.ensures os
-    (behind_array (an_outcome condition) h c.after_at-end.ensures))
+    (c.for_wrong_state.ensures os (behind_array (an_outcome condition) h c.after_at-end.ensures))
 
-pub returns-in-Nothing : goal.returns-in-Nothing
-returns-in-Nothing c =
+pub returns-in_default : goal.returns-in_default
+returns-in_default c =
     λ ts os o g h k. keeps_staying c.args.s.now c.args.work.now ts os c.args.state c.args.p.place o _
-    (sources_of c.args.s.now c.args.work.now c.after_at-after.ensures
-    c.members-m.ensures _ c.of_effect.ensures o k)
-    c.in-Nothing.is (c.entry-outcome.ensures o k)
+    (sources_of c.args.s.now c.args.work.now c.members_at-effect.ensures _ c.of_effect.ensures o k) c.in_default.is (c.entry-outcome.ensures o k)
 
-pub returns-else-is_wrong : goal.returns-else-is_wrong
-returns-else-is_wrong c =
+pub returns : goal.returns
+returns c =
     λ ts os o g h k. has_no_source c.args.s.now c.args.work.now ts os c.args.state c.args.p.place o _
-    (sources_of c.args.s.now c.args.work.now c.after_at-after.ensures
-    c.members-m.ensures _ c.of_effect.ensures o k)
-    c.in-At.sources c.in-At.is _ c.is_one_of.ensures
+    (sources_of c.args.s.now c.args.work.now c.members_at-effect.ensures _ c.of_effect.ensures o k)
+    c.in-Some.sources c.in-Some.is _ c.is_one_of.ensures
     c.if-is_one_of.false _
-    (c.is_wrong.ensures ts os g
-    (behind_array (an_outcome condition) h c.after_at-end.ensures)) c.if-is_wrong.false
+    (c.is_wrong.ensures ts os g (behind_array (an_outcome condition) h c.after_at-end.ensures)) c.if-is_wrong.false
     c.requires.2 (c.entry-outcome.ensures o k)

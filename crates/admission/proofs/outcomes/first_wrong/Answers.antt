@@ -1,57 +1,32 @@
--- `calls::outcomes::first_wrong` meets its contract: the loop says that the search from its node on is the whole search.
+-- `admission::outcomes::first_wrong` meets its contract: the loop says that the search from its node on is the whole search.
 -- Assumes nothing.
 use native.Mathlib.Omega.{arith}
-use Rattle.admission.proofs.Seeking.{flag_known, none_wrong, passing, wrong_here, wrong_later}
-use Rattle.rules.proofs.Starting.{members_behind, outcome_here, outcome_members}
-use Rattle.rules.proofs.Walking.{element_room, falls, next}
+use Rattle.admission.proofs.Seeking.{flag_known, none_wrong, outcome_known, passing, spot_falls, wrong_here, wrong_later}
+use Rattle.rules.proofs.Walking.{element_room, next}
 use Rattle.admission.proofs.outcomes.first_wrong.Goals as goal
 
-pub loop-k-init : goal.loop-k-init
-loop-k-init c = passing c.requires
+pub loop-here-init : goal.loop-here-init
+loop-here-init c = passing c.requires
 
-pub after_at-next-requires : goal.after_at-next-requires
-after_at-next-requires c = element_room c.loop-k.invariant.walking c.loop-k-test.true
-
-pub overflow_add-k : goal.overflow_add-k
-overflow_add-k c = omega (arith, (element_room c.loop-k.invariant.walking c.loop-k-test.true).1)
-
-pub members-m-requires : goal.members-m-requires
-members-m-requires c =
-    members_behind
-    (outcome_here (next c.loop-k.invariant.walking c.loop-k-test.true).here)
-    c.after_at-next.ensures
+pub members_at-requires : goal.members_at-requires
+members_at-requires c = outcome_known c.loop-here.invariant.walking c.loop-here-test.true
 
 pub is_true-requires : goal.is_true-requires
-is_true-requires c =
-    flag_known
-    (outcome_members c.after_at-next.ensures c.members-m.ensures
-    (next c.loop-k.invariant.walking c.loop-k-test.true).here)
+is_true-requires c = let n = next c.loop-here.invariant.walking c.loop-here-test.true in flag_known (c.members_at.ensures n.first n.here)
 
 pub returns-then-is_true : goal.returns-then-is_true
-returns-then-is_true c =
-    wrong_here c.loop-k.invariant
-    c.loop-k-test.true c.after_at-next.ensures
-    c.members-m.ensures _ c.is_true.ensures c.if-is_true.true
+returns-then-is_true c = wrong_here c.loop-here.invariant c.loop-here-test.true c.members_at.ensures _ c.is_true.ensures c.if-is_true.true
 
-pub overflow_add-i : goal.overflow_add-i
-overflow_add-i c =
-    omega (
-      arith,
-      c.loop-k.invariant.low,
-      (element_room c.loop-k.invariant.walking c.loop-k-test.true).1,
-    )
+pub next-here-requires : goal.next-here-requires
+next-here-requires c = let x = element_room c.loop-here.invariant.walking c.loop-here-test.true in (c.loop-here.invariant.low, x.0, x.1)
 
-pub loop-k-smaller : goal.loop-k-smaller
-loop-k-smaller c =
-    let f = falls c.loop-k.invariant.walking
-    c.loop-k-test.true _ c.after_at-next.ensures in
+pub loop-here-smaller : goal.loop-here-smaller
+loop-here-smaller c =
+    let f = spot_falls c.loop-here.invariant.walking c.loop-here-test.true c.next-here.ensures in
     omega (arith, f.0, f.1)
 
-pub loop-k-preserved : goal.loop-k-preserved
-loop-k-preserved c =
-    wrong_later c.loop-k.invariant
-    c.loop-k-test.true c.after_at-next.ensures
-    c.members-m.ensures _ c.is_true.ensures c.if-is_true.false
+pub loop-here-preserved : goal.loop-here-preserved
+loop-here-preserved c = wrong_later c.loop-here.invariant c.loop-here-test.true c.members_at.ensures _ c.is_true.ensures c.if-is_true.false c.next-here.ensures
 
 pub returns : goal.returns
-returns c = none_wrong c.loop-k.invariant c.loop-k-test.false
+returns c = none_wrong c.loop-here.invariant c.loop-here-test.false

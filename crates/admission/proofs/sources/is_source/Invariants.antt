@@ -1,4 +1,4 @@
--- `calls::sources::is_source` meets its contract: the loop says that the outcomes from its node on decide.
+-- `admission::sources::is_source` meets its contract: the loop says that the outcomes from its node on decide.
 -- Assumes nothing.
 use Prim.Native.Nat.{◌-◌}
 use Rattle.json_text.specs.Spans.{text_at}

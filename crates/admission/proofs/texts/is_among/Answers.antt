@@ -1,4 +1,4 @@
--- `calls::texts::is_among` meets its contract: the loop says that the texts from its node on decide.
+-- `admission::texts::is_among` meets its contract: the loop says that the texts from its node on decide.
 -- Assumes nothing.
 use mathlib.Core.Path.{sym, ◌∙◌}
 use native.Mathlib.Omega.{arith}
@@ -13,21 +13,21 @@ loop-k-init c =
     starts (is_one_of (text_at c.args.s.now c.args.text))
     c.requires.0
 
-pub start_at-at-requires : goal.start_at-at-requires
-start_at-at-requires c = element_room c.loop-k.invariant c.loop-k-test.true
+pub start_at-requires : goal.start_at-requires
+start_at-requires c = element_room c.loop-k.invariant c.loop-k-test.true
 
 pub same-requires : goal.same-requires
 same-requires c = (
   c.requires.1,
   on_element c.args.text c.loop-k.invariant
-      c.loop-k-test.true _ c.start_at-at.ensures,
+      c.loop-k-test.true _ c.start_at.ensures,
 )
 
 pub returns-then-same : goal.returns-then-same
 returns-then-same c =
     found_here c.args.text
     c.loop-k.invariant c.loop-k-test.true _
-    c.start_at-at.ensures (sym c.if-same.true ∙ c.same.ensures)
+    c.start_at.ensures (sym c.if-same.true ∙ c.same.ensures)
 
 pub after_at-k-requires : goal.after_at-k-requires
 after_at-k-requires c =
@@ -43,7 +43,7 @@ pub loop-k-preserved : goal.loop-k-preserved
 loop-k-preserved c =
     not_here c.args.text
     c.loop-k.invariant c.loop-k-test.true _
-    c.start_at-at.ensures (sym c.if-same.false ∙ c.same.ensures) _
+    c.start_at.ensures (sym c.if-same.false ∙ c.same.ensures) _
     c.after_at-k.ensures
 
 pub returns : goal.returns

@@ -1,4 +1,4 @@
--- `calls::texts::is_among` meets its contract: the loop says that the texts from its node on decide.
+-- `admission::texts::is_among` meets its contract: the loop says that the texts from its node on decide.
 -- Assumes nothing.
 use Rattle.members.specs.Kinds.{a_text}
 use Prim.Native.Nat.{◌-◌}

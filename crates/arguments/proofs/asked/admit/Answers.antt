@@ -9,18 +9,18 @@ pub returns-then-count-lt2 : goal.returns-then-count-lt2
 unfolding admits
 returns-then-count-lt2 c = rw (lt-ltb _ _ c.if-count-lt2.true)
 
-pub returns-in-At : goal.returns-in-At
+pub returns-in-Some : goal.returns-in-Some
 unfolding admits admits_at
-returns-in-At c =
+returns-in-Some c =
     rw (
       le-ltb _ _ c.if-count-lt2.false,
-      sym c.place_in.ensures ∙ c.in-At.is,
+      sym c.place_in.ensures ∙ c.in-Some.is,
     ) c.with_file.ensures
 
-pub returns-in-Wrong : goal.returns-in-Wrong
+pub returns-in-None : goal.returns-in-None
 unfolding admits admits_at
-returns-in-Wrong c =
+returns-in-None c =
     rw (
       le-ltb _ _ c.if-count-lt2.false,
-      sym c.place_in.ensures ∙ c.in-Wrong.is,
+      sym c.place_in.ensures ∙ c.in-None.is,
     )

@@ -1,48 +1,39 @@
 -- `arguments::word::option` meets its contract: by the two options, and by the first byte.
 -- Assumes nothing.
 use mathlib.Core.Path.{sym, ◌∙◌}
-use native.Mathlib.Omega.{arith}
-use Rattle.arguments.proofs.First.{dash, no_dash, other_byte}
+use Rattle.arguments.proofs.Same.{by_equality}
+use Rattle.json_text.specs.Bytes.{ascii}
+use Rattle.arguments.proofs.First.{begins_by_pairs}
 use Rattle.arguments.specs.Words.{option_of}
 use Rattle.arguments.proofs.word.option.Goals as goal
 
-pub returns-then-same : goal.returns-then-same
+pub returns-then-eq : goal.returns-then-eq
 unfolding option_of
-returns-then-same c = rw (sym c.same.ensures ∙ c.if-same.true)
+returns-then-eq c =
+    rw (by_equality c.args.text.now _ (ascii "--help") c.eq.ensures c.as_slice.ensures c.if-eq.true)
 
-pub returns-then-same-2 : goal.returns-then-same-2
+pub returns-then-eq-2 : goal.returns-then-eq-2
 unfolding option_of
-returns-then-same-2 c =
+returns-then-eq-2 c =
     rw (
-      sym c.same.ensures ∙ c.if-same.false,
-      sym c.same-2.ensures ∙ c.if-same-2.true,
+      by_equality c.args.text.now _ (ascii "--help") c.eq.ensures c.as_slice.ensures c.if-eq.false,
+      by_equality c.args.text.now _ (ascii "--version") c.eq-else-eq.ensures c.as_slice-else-eq.ensures c.if-eq-2.true,
     )
 
-pub returns-then-text-eq0 : goal.returns-then-text-eq0
+pub returns-then-starts_with : goal.returns-then-starts_with
 unfolding option_of
-returns-then-text-eq0 c =
+returns-then-starts_with c =
     rw (
-      sym c.same.ensures ∙ c.if-same.false,
-      sym c.same-2.ensures ∙ c.if-same-2.false,
-      no_dash c.args.text.now c.if-text-eq0.true,
+      by_equality c.args.text.now _ (ascii "--help") c.eq.ensures c.as_slice.ensures c.if-eq.false,
+      by_equality c.args.text.now _ (ascii "--version") c.eq-else-eq.ensures c.as_slice-else-eq.ensures c.if-eq-2.false,
+      sym (begins_by_pairs 45 c.args.text.now) ∙ sym c.starts_with.ensures.value ∙ c.if-starts_with.true,
     )
 
-pub returns-then-text-eq45 : goal.returns-then-text-eq45
+pub returns-else-starts_with : goal.returns-else-starts_with
 unfolding option_of
-returns-then-text-eq45 c =
+returns-else-starts_with c =
     rw (
-      sym c.same.ensures ∙ c.if-same.false,
-      sym c.same-2.ensures ∙ c.if-same-2.false,
-      dash c.args.text.now
-          (omega (arith, c.if-text-eq0.false)) c.if-text-eq45.true,
-    )
-
-pub returns : goal.returns
-unfolding option_of
-returns c =
-    rw (
-      sym c.same.ensures ∙ c.if-same.false,
-      sym c.same-2.ensures ∙ c.if-same-2.false,
-      other_byte c.args.text.now
-          (omega (arith, c.if-text-eq0.false)) c.if-text-eq45.false,
+      by_equality c.args.text.now _ (ascii "--help") c.eq.ensures c.as_slice.ensures c.if-eq.false,
+      by_equality c.args.text.now _ (ascii "--version") c.eq-else-eq.ensures c.as_slice-else-eq.ensures c.if-eq-2.false,
+      sym (begins_by_pairs 45 c.args.text.now) ∙ sym c.starts_with.ensures.value ∙ c.if-starts_with.false,
     )

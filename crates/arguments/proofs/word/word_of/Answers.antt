@@ -1,93 +1,97 @@
 -- `arguments::word::word_of` meets its contract: the first word that is the text, or else an option or a file.
 -- Assumes nothing.
-use mathlib.Core.Path.{sym, ◌∙◌}
-use Rattle.json_text.specs.Bytes.{find}
+use Rattle.arguments.proofs.Same.{by_equality}
+use Rattle.json_text.specs.Bytes.{ascii, find}
 use Rattle.arguments.specs.Words.{option_of, word_of}
 use Rattle.arguments.proofs.word.word_of.Goals as goal
 
-pub returns-then-same : goal.returns-then-same
+pub returns-then-eq : goal.returns-then-eq
 unfolding word_of find
-returns-then-same c = rw (sym c.same.ensures ∙ c.if-same.true, find)
-
-pub returns-then-same-2 : goal.returns-then-same-2
-unfolding word_of find
-returns-then-same-2 c =
+returns-then-eq c =
     rw (
-      sym c.same.ensures ∙ c.if-same.false,
-      sym c.same-2.ensures ∙ c.if-same-2.true,
+      by_equality c.args.text.now _ (ascii "evaluate") c.eq.ensures c.as_slice.ensures c.if-eq.true,
       find,
     )
 
-pub returns-then-same-3 : goal.returns-then-same-3
+pub returns-then-eq-2 : goal.returns-then-eq-2
 unfolding word_of find
-returns-then-same-3 c =
+returns-then-eq-2 c =
     rw (
-      sym c.same.ensures ∙ c.if-same.false,
-      sym c.same-2.ensures ∙ c.if-same-2.false,
-      sym c.same-3.ensures ∙ c.if-same-3.true,
+      by_equality c.args.text.now _ (ascii "evaluate") c.eq.ensures c.as_slice.ensures c.if-eq.false,
+      by_equality c.args.text.now _ (ascii "preconditions") c.eq-else-eq.ensures c.as_slice-else-eq.ensures c.if-eq-2.true,
       find,
     )
 
-pub returns-then-same-4 : goal.returns-then-same-4
+pub returns-then-eq-3 : goal.returns-then-eq-3
 unfolding word_of find
-returns-then-same-4 c =
+returns-then-eq-3 c =
     rw (
-      sym c.same.ensures ∙ c.if-same.false,
-      sym c.same-2.ensures ∙ c.if-same-2.false,
-      sym c.same-3.ensures ∙ c.if-same-3.false,
-      sym c.same-4.ensures ∙ c.if-same-4.true,
+      by_equality c.args.text.now _ (ascii "evaluate") c.eq.ensures c.as_slice.ensures c.if-eq.false,
+      by_equality c.args.text.now _ (ascii "preconditions") c.eq-else-eq.ensures c.as_slice-else-eq.ensures c.if-eq-2.false,
+      by_equality c.args.text.now _ (ascii "invariants") c.eq-else-eq-2.ensures c.as_slice-else-eq-2.ensures c.if-eq-3.true,
       find,
     )
 
-pub returns-then-same-5 : goal.returns-then-same-5
+pub returns-then-eq-4 : goal.returns-then-eq-4
 unfolding word_of find
-returns-then-same-5 c =
+returns-then-eq-4 c =
     rw (
-      sym c.same.ensures ∙ c.if-same.false,
-      sym c.same-2.ensures ∙ c.if-same-2.false,
-      sym c.same-3.ensures ∙ c.if-same-3.false,
-      sym c.same-4.ensures ∙ c.if-same-4.false,
-      sym c.same-5.ensures ∙ c.if-same-5.true,
+      by_equality c.args.text.now _ (ascii "evaluate") c.eq.ensures c.as_slice.ensures c.if-eq.false,
+      by_equality c.args.text.now _ (ascii "preconditions") c.eq-else-eq.ensures c.as_slice-else-eq.ensures c.if-eq-2.false,
+      by_equality c.args.text.now _ (ascii "invariants") c.eq-else-eq-2.ensures c.as_slice-else-eq-2.ensures c.if-eq-3.false,
+      by_equality c.args.text.now _ (ascii "select") c.eq-else-eq-3.ensures c.as_slice-else-eq-3.ensures c.if-eq-4.true,
       find,
     )
 
-pub returns-then-same-6 : goal.returns-then-same-6
+pub returns-then-eq-5 : goal.returns-then-eq-5
 unfolding word_of find
-returns-then-same-6 c =
+returns-then-eq-5 c =
     rw (
-      sym c.same.ensures ∙ c.if-same.false,
-      sym c.same-2.ensures ∙ c.if-same-2.false,
-      sym c.same-3.ensures ∙ c.if-same-3.false,
-      sym c.same-4.ensures ∙ c.if-same-4.false,
-      sym c.same-5.ensures ∙ c.if-same-5.false,
-      sym c.same-6.ensures ∙ c.if-same-6.true,
+      by_equality c.args.text.now _ (ascii "evaluate") c.eq.ensures c.as_slice.ensures c.if-eq.false,
+      by_equality c.args.text.now _ (ascii "preconditions") c.eq-else-eq.ensures c.as_slice-else-eq.ensures c.if-eq-2.false,
+      by_equality c.args.text.now _ (ascii "invariants") c.eq-else-eq-2.ensures c.as_slice-else-eq-2.ensures c.if-eq-3.false,
+      by_equality c.args.text.now _ (ascii "select") c.eq-else-eq-3.ensures c.as_slice-else-eq-3.ensures c.if-eq-4.false,
+      by_equality c.args.text.now _ (ascii "admit") c.eq-else-eq-4.ensures c.as_slice-else-eq-4.ensures c.if-eq-5.true,
       find,
     )
 
-pub returns-then-same-7 : goal.returns-then-same-7
+pub returns-then-eq-6 : goal.returns-then-eq-6
 unfolding word_of find
-returns-then-same-7 c =
+returns-then-eq-6 c =
     rw (
-      sym c.same.ensures ∙ c.if-same.false,
-      sym c.same-2.ensures ∙ c.if-same-2.false,
-      sym c.same-3.ensures ∙ c.if-same-3.false,
-      sym c.same-4.ensures ∙ c.if-same-4.false,
-      sym c.same-5.ensures ∙ c.if-same-5.false,
-      sym c.same-6.ensures ∙ c.if-same-6.false,
-      sym c.same-7.ensures ∙ c.if-same-7.true,
+      by_equality c.args.text.now _ (ascii "evaluate") c.eq.ensures c.as_slice.ensures c.if-eq.false,
+      by_equality c.args.text.now _ (ascii "preconditions") c.eq-else-eq.ensures c.as_slice-else-eq.ensures c.if-eq-2.false,
+      by_equality c.args.text.now _ (ascii "invariants") c.eq-else-eq-2.ensures c.as_slice-else-eq-2.ensures c.if-eq-3.false,
+      by_equality c.args.text.now _ (ascii "select") c.eq-else-eq-3.ensures c.as_slice-else-eq-3.ensures c.if-eq-4.false,
+      by_equality c.args.text.now _ (ascii "admit") c.eq-else-eq-4.ensures c.as_slice-else-eq-4.ensures c.if-eq-5.false,
+      by_equality c.args.text.now _ (ascii "decide") c.eq-else-eq-5.ensures c.as_slice-else-eq-5.ensures c.if-eq-6.true,
       find,
     )
 
-pub returns : goal.returns
-unfolding word_of find option_of
-returns c =
+pub returns-then-eq-7 : goal.returns-then-eq-7
+unfolding word_of find
+returns-then-eq-7 c =
     rw (
-      sym c.same.ensures ∙ c.if-same.false,
-      sym c.same-2.ensures ∙ c.if-same-2.false,
-      sym c.same-3.ensures ∙ c.if-same-3.false,
-      sym c.same-4.ensures ∙ c.if-same-4.false,
-      sym c.same-5.ensures ∙ c.if-same-5.false,
-      sym c.same-6.ensures ∙ c.if-same-6.false,
-      sym c.same-7.ensures ∙ c.if-same-7.false,
+      by_equality c.args.text.now _ (ascii "evaluate") c.eq.ensures c.as_slice.ensures c.if-eq.false,
+      by_equality c.args.text.now _ (ascii "preconditions") c.eq-else-eq.ensures c.as_slice-else-eq.ensures c.if-eq-2.false,
+      by_equality c.args.text.now _ (ascii "invariants") c.eq-else-eq-2.ensures c.as_slice-else-eq-2.ensures c.if-eq-3.false,
+      by_equality c.args.text.now _ (ascii "select") c.eq-else-eq-3.ensures c.as_slice-else-eq-3.ensures c.if-eq-4.false,
+      by_equality c.args.text.now _ (ascii "admit") c.eq-else-eq-4.ensures c.as_slice-else-eq-4.ensures c.if-eq-5.false,
+      by_equality c.args.text.now _ (ascii "decide") c.eq-else-eq-5.ensures c.as_slice-else-eq-5.ensures c.if-eq-6.false,
+      by_equality c.args.text.now _ (ascii "lines") c.eq-else-eq-6.ensures c.as_slice-else-eq-6.ensures c.if-eq-7.true,
+      find,
+    )
+
+pub returns-else-eq-7 : goal.returns-else-eq-7
+unfolding word_of find
+returns-else-eq-7 c =
+    rw (
+      by_equality c.args.text.now _ (ascii "evaluate") c.eq.ensures c.as_slice.ensures c.if-eq.false,
+      by_equality c.args.text.now _ (ascii "preconditions") c.eq-else-eq.ensures c.as_slice-else-eq.ensures c.if-eq-2.false,
+      by_equality c.args.text.now _ (ascii "invariants") c.eq-else-eq-2.ensures c.as_slice-else-eq-2.ensures c.if-eq-3.false,
+      by_equality c.args.text.now _ (ascii "select") c.eq-else-eq-3.ensures c.as_slice-else-eq-3.ensures c.if-eq-4.false,
+      by_equality c.args.text.now _ (ascii "admit") c.eq-else-eq-4.ensures c.as_slice-else-eq-4.ensures c.if-eq-5.false,
+      by_equality c.args.text.now _ (ascii "decide") c.eq-else-eq-5.ensures c.as_slice-else-eq-5.ensures c.if-eq-6.false,
+      by_equality c.args.text.now _ (ascii "lines") c.eq-else-eq-6.ensures c.as_slice-else-eq-6.ensures c.if-eq-7.false,
       find,
     ) c.option.ensures

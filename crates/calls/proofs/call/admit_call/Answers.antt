@@ -14,47 +14,37 @@ outcome_at-requires c =
       known =
           record {
             given = c.requires.given.outcomes;
-            known = each_outcome c.args.s.now c.args.work.now c.args.m c.requires.given c.requires.known
-                c.after_at-end.ensures;
+            known = each_outcome c.args.s.now c.args.work.now c.args.m c.requires.given c.requires.known c.after_at-end.ensures;
           };
     }
 
-pub start_at-at-requires : goal.start_at-at-requires
-start_at-at-requires c =
+pub start_at-requires : goal.start_at-requires
+start_at-requires c =
     state_room c.args.s.now c.args.work.now c.args.m c.requires.given c.requires.known c.args.place _
     (c.outcome_at.ensures c.args.s.now c.requires.given.outcomes
-    (each_outcome c.args.s.now c.args.work.now c.args.m c.requires.given c.requires.known
-    c.after_at-end.ensures)) c.in-At.p c.in-At.is
-    c.in-At-state.n c.in-At-state.is
+    (each_outcome c.args.s.now c.args.work.now c.args.m c.requires.given c.requires.known c.after_at-end.ensures)) c.in-Some.p c.in-Some.is
+    c.in-Some-state.n c.in-Some-state.is
 
 pub admit-requires : goal.admit-requires
 admit-requires c =
     admits c.args.s.now c.args.work.now c.args.m c.requires.given c.requires.known c.args.place _
     (c.outcome_at.ensures c.args.s.now c.requires.given.outcomes
-    (each_outcome c.args.s.now c.args.work.now c.args.m c.requires.given c.requires.known
-    c.after_at-end.ensures)) c.in-At.p c.in-At.is
-    c.in-At-state.n c.in-At-state.is _ c.start_at-at.ensures
+    (each_outcome c.args.s.now c.args.work.now c.args.m c.requires.given c.requires.known c.after_at-end.ensures)) c.in-Some.p c.in-Some.is
+    c.in-Some-state.n c.in-Some-state.is _ c.start_at.ensures
 
-pub returns-in-Nothing : goal.returns-in-Nothing
-returns-in-Nothing c =
+pub returns-in_default : goal.returns-in_default
+returns-in_default c =
     λ sheet a. told_unplaced c.args.s.now c.args.work.now c.args.m sheet a c.args.place _
-    (c.outcome_at.ensures c.args.s.now sheet.outcomes
-    (each_outcome c.args.s.now c.args.work.now c.args.m sheet a
-    c.after_at-end.ensures)) c.in-Nothing.is
+    (c.outcome_at.ensures c.args.s.now sheet.outcomes (each_outcome c.args.s.now c.args.work.now c.args.m sheet a c.after_at-end.ensures)) c.in_default.is
 
-pub returns-in-Nothing-state : goal.returns-in-Nothing-state
-returns-in-Nothing-state c =
+pub returns-in_default-state : goal.returns-in_default-state
+returns-in_default-state c =
     λ sheet a. told_stateless c.args.s.now c.args.work.now c.args.m sheet a c.args.place _
-    (c.outcome_at.ensures c.args.s.now sheet.outcomes
-    (each_outcome c.args.s.now c.args.work.now c.args.m sheet a
-    c.after_at-end.ensures)) c.in-At.p c.in-At.is
-    c.in-Nothing-state.is
+    (c.outcome_at.ensures c.args.s.now sheet.outcomes (each_outcome c.args.s.now c.args.work.now c.args.m sheet a c.after_at-end.ensures)) c.in-Some.p c.in-Some.is
+    c.in_default-state.is
 
-pub returns-in-At-state : goal.returns-in-At-state
-returns-in-At-state c =
+pub returns : goal.returns
+returns c =
     λ sheet a. told_admission c.args.s.now c.args.work.now c.args.m sheet a c.args.place _
-    (c.outcome_at.ensures c.args.s.now sheet.outcomes
-    (each_outcome c.args.s.now c.args.work.now c.args.m sheet a
-    c.after_at-end.ensures)) c.in-At.p c.in-At.is
-    c.in-At-state.n c.in-At-state.is _
-    c.start_at-at.ensures c.admit.ensures
+    (c.outcome_at.ensures c.args.s.now sheet.outcomes (each_outcome c.args.s.now c.args.work.now c.args.m sheet a c.after_at-end.ensures)) c.in-Some.p c.in-Some.is
+    c.in-Some-state.n c.in-Some-state.is _ c.start_at.ensures c.admit.ensures

@@ -8,15 +8,15 @@ pub admit-requires : goal.admit-requires
 admit-requires c =
     admits_selected c.requires.1.given
     (c.select.ensures c.requires.1.given c.requires.1.known)
-    c.in-At.p c.in-At.is c.requires.1.known c.requires.2
+    c.in-Ok.p c.in-Ok.is c.requires.1.known c.requires.2
 
-pub returns-in-At : goal.returns-in-At
-returns-in-At c =
+pub returns-in-Ok : goal.returns-in-Ok
+returns-in-Ok c =
     λ sheet a. admission_of sheet (c.select.ensures sheet a)
-    c.in-At.p c.in-At.is a
+    c.in-Ok.p c.in-Ok.is a
     c.args.state c.admit.ensures
 
-pub returns-in-Refused : goal.returns-in-Refused
-returns-in-Refused c =
+pub returns-in-Err : goal.returns-in-Err
+returns-in-Err c =
     λ sheet a. admission_refused sheet (c.select.ensures sheet a)
-    (text_at c.args.s.now c.args.state) c.in-Refused.a c.in-Refused.is
+    (text_at c.args.s.now c.args.state) c.in-Err.a c.in-Err.is

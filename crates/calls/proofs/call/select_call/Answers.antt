@@ -7,14 +7,14 @@ pub entry-requires : goal.entry-requires
 entry-requires c =
     selected_node c.requires.1.given
     (c.select.ensures c.requires.1.given c.requires.1.known)
-    c.in-At.p c.in-At.is
+    c.in-Ok.p c.in-Ok.is
 
-pub returns-in-At : goal.returns-in-At
-returns-in-At c =
+pub returns-in-Ok : goal.returns-in-Ok
+returns-in-Ok c =
     λ sheet a. select_chosen sheet (c.select.ensures sheet a)
-    c.in-At.p c.in-At.is c.entry.ensures
+    c.in-Ok.p c.in-Ok.is c.entry.ensures
 
-pub returns-in-Refused : goal.returns-in-Refused
-returns-in-Refused c =
+pub returns-in-Err : goal.returns-in-Err
+returns-in-Err c =
     λ sheet a. select_refused sheet (c.select.ensures sheet a)
-    c.in-Refused.a c.in-Refused.is
+    c.in-Err.a c.in-Err.is

@@ -4,15 +4,10 @@ use Rattle.calls.proofs.Trying.{guard_passes, guard_stops, guard_takes}
 use Rattle.calls.proofs.select.by_truth.Goals as goal
 
 pub returns-in-True : goal.returns-in-True
-returns-in-True c =
-    λ o w x g a. guard_takes c.args.s.now c.args.work.now c.args.p.place o.name a c.in-True.is
+returns-in-True c = λ o x g j. guard_takes c.args.s.now c.args.work.now c.args.p.place o.name j c.in-True.is
 
 pub returns-in-False : goal.returns-in-False
-returns-in-False c =
-    λ o w x g a. guard_passes c.args.s.now c.args.work.now c.args.p.place o.name a
-    c.in-False.is
+returns-in-False c = λ o x g j. guard_passes c.args.s.now c.args.work.now c.args.p.place o.name j c.in-False.is
 
 pub returns-in-Unknown : goal.returns-in-Unknown
-returns-in-Unknown c =
-    λ o w x g a. guard_stops c.args.s.now c.args.work.now c.args.p.place o.name a
-    c.in-Unknown.is (c.entry.ensures o g)
+returns-in-Unknown c = λ o x g j. guard_stops c.args.s.now c.args.work.now c.args.p.place o.name j c.in-Unknown.is (c.entry.ensures o g)

@@ -1,61 +1,39 @@
 -- `calls::select::select` meets its contract: the loop says that the selection from its node on is the whole selection.
 -- Assumes nothing.
 use native.Mathlib.Omega.{arith}
+use mathlib.Core.Path.{ap, ◌∙◌}
+use Rattle.std.specs.Prelude.{Ok}
 use Rattle.members.proofs.Walks.{room}
 use Rattle.calls.proofs.Trying.{falls_after, none_left, outcome_known, refuses, room_after, takes, tries_on, trying}
-use Rattle.rules.proofs.Walking.{element_room}
 use Rattle.calls.proofs.select.select.Goals as goal
 
 pub after_at-end-requires : goal.after_at-end-requires
 after_at-end-requires c = room c.requires.1.known.outcomes.node
 
-pub overflow_add-k : goal.overflow_add-k
-overflow_add-k c = omega (arith, (room c.requires.1.known.outcomes.node).1)
-
-pub loop-k-init : goal.loop-k-init
-loop-k-init c =
-    trying c.requires.0 c.requires.1 c.after_at-end.ensures
+pub loop-here-init : goal.loop-here-init
+loop-here-init c = trying c.requires.0 c.requires.1 c.after_at-end.ensures
 
 pub try_outcome-requires : goal.try_outcome-requires
-try_outcome-requires c = outcome_known c.loop-k.invariant c.loop-k-test.true
+try_outcome-requires c = outcome_known c.loop-here.invariant c.loop-here-test.true
 
-pub returns-in-Taken : goal.returns-in-Taken
-returns-in-Taken c =
-    takes c.loop-k.invariant
-    c.loop-k-test.true
-    c.try_outcome.ensures c.in-Taken.is
+pub returns-in_err-try_outcome : goal.returns-in_err-try_outcome
+returns-in_err-try_outcome c =
+    refuses c.loop-here.invariant c.loop-here-test.true c.try_outcome.ensures c.in_err-try_outcome.field-0.0 c.in_err-try_outcome.was _ c.from_residual.ensures.1
 
-pub returns-in-Refused : goal.returns-in-Refused
-returns-in-Refused c =
-    refuses c.loop-k.invariant
-    c.loop-k-test.true c.try_outcome.ensures
-    c.in-Refused.a c.in-Refused.is
+pub returns-then-branch : goal.returns-then-branch
+returns-then-branch c = takes c.loop-here.invariant c.loop-here-test.true c.try_outcome.ensures (c.in_ok-try_outcome.was ∙ ap Ok c.if-branch.true)
 
-pub overflow_add-i : goal.overflow_add-i
-overflow_add-i c =
-    omega (
-      arith,
-      c.loop-k.invariant.low,
-      (element_room c.loop-k.invariant.walking c.loop-k-test.true).1,
-    )
+pub next-here-requires : goal.next-here-requires
+next-here-requires c = room_after c.loop-here.invariant c.loop-here-test.true c.try_outcome.ensures
 
-pub after_at-k-requires : goal.after_at-k-requires
-after_at-k-requires c =
-    room_after c.loop-k.invariant
-    c.loop-k-test.true c.try_outcome.ensures
-
-pub loop-k-smaller : goal.loop-k-smaller
-loop-k-smaller c =
-    let f = falls_after c.loop-k.invariant
-    c.loop-k-test.true c.try_outcome.ensures _
-    c.after_at-k.ensures in
+pub loop-here-smaller : goal.loop-here-smaller
+loop-here-smaller c =
+    let f = falls_after c.loop-here.invariant c.loop-here-test.true c.try_outcome.ensures c.next-here.ensures in
     omega (arith, f.0, f.1)
 
-pub loop-k-preserved : goal.loop-k-preserved
-loop-k-preserved c =
-    tries_on c.loop-k.invariant
-    c.loop-k-test.true c.try_outcome.ensures
-    c.in-Passed.is _ c.after_at-k.ensures
+pub loop-here-preserved : goal.loop-here-preserved
+loop-here-preserved c =
+    tries_on c.loop-here.invariant c.loop-here-test.true c.try_outcome.ensures c.next-here.ensures (c.in_ok-try_outcome.was ∙ ap Ok c.if-branch.false)
 
 pub returns : goal.returns
-returns c = none_left c.loop-k.invariant c.loop-k-test.false
+returns c = none_left c.loop-here.invariant c.loop-here-test.false

@@ -4,8 +4,8 @@ use Prim.Native.Nat.{◌-◌}
 use Rattle.calls.proofs.Trying.{Trying}
 use Rattle.calls.proofs.select.select.Given as goal
 
-abbrev pub invariant-loop-k : goal.invariant-loop-k
-invariant-loop-k l = Trying l.s l.m l.initial.work l.end l.work l.i l.k
+abbrev pub invariant-loop-here : goal.invariant-loop-here
+invariant-loop-here l = Trying l.s l.m l.initial.work l.end l.work l.here.place l.here.node
 
-abbrev pub decreases-loop-k : goal.decreases-loop-k
-decreases-loop-k l = l.end - l.k
+abbrev pub decreases-loop-here : goal.decreases-loop-here
+decreases-loop-here l = l.end - l.here.node

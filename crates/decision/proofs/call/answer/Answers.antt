@@ -11,12 +11,12 @@ returns-in-Evaluate c = by_case c.in-Evaluate.is c.evaluate_call.ensures
 pub returns-in-Preconditions : goal.returns-in-Preconditions
 returns-in-Preconditions c =
     by_case c.in-Preconditions.is
-    c.preconditions_call.ensures
+    c.rules_call.ensures
 
 pub returns-in-Invariants : goal.returns-in-Invariants
 returns-in-Invariants c =
     by_case c.in-Invariants.is
-    c.invariants_call.ensures
+    c.rules_call-in-Invariants.ensures
 
 pub returns-in-Select : goal.returns-in-Select
 returns-in-Select c =

@@ -4,19 +4,19 @@ use Rattle.decision.proofs.Entries.{called_refused, called_sheet, held_answer, o
 use Rattle.decision.proofs.call.run.Goals as goal
 
 pub answer-a-requires : goal.answer-a-requires
-answer-a-requires c = opened_large c.«open».ensures c.«open».auto.work c.in-Sheet.m c.in-Sheet.is
+answer-a-requires c = opened_large c.«open».ensures c.«open».auto.work c.in-Ok.m c.in-Ok.is
 
 pub emit-sent-requires : goal.emit-sent-requires
-emit-sent-requires c = held_answer c.«open».ensures c.«open».auto.work c.in-Sheet.m c.in-Sheet.is c.args.call c.answer-a.ensures
+emit-sent-requires c = held_answer c.«open».ensures c.«open».auto.work c.in-Ok.m c.in-Ok.is c.args.call c.answer-a.ensures
 
 pub clear_rows-requires : goal.clear_rows-requires
-clear_rows-requires c = still_bounded c.«open».ensures c.«open».auto.work c.in-Sheet.m c.in-Sheet.is c.args.call c.answer-a.ensures
+clear_rows-requires c = still_bounded c.«open».ensures c.«open».auto.work c.in-Ok.m c.in-Ok.is c.args.call c.answer-a.ensures
 
-pub returns-in-Refused : goal.returns-in-Refused
-returns-in-Refused c =
-    called_refused c.«open».ensures c.«open».auto.work c.args.call c.clear.ensures c.in-Refused.n c.in-Refused.is c.args.out.now
+pub returns-in-Err : goal.returns-in-Err
+returns-in-Err c =
+    called_refused c.«open».ensures c.«open».auto.work c.args.call c.clear.ensures c.in-Err.why c.in-Err.is c.number.ensures c.args.out.now
 
-pub returns-in-Sheet : goal.returns-in-Sheet
-returns-in-Sheet c =
-    called_sheet c.«open».ensures c.«open».auto.work c.in-Sheet.m c.in-Sheet.is c.args.call c.answer-a.ensures c.emit-sent.ensures
+pub returns-in-Ok : goal.returns-in-Ok
+returns-in-Ok c =
+    called_sheet c.«open».ensures c.«open».auto.work c.in-Ok.m c.in-Ok.is c.args.call c.answer-a.ensures c.emit-sent.ensures
     c.clear_rows.ensures

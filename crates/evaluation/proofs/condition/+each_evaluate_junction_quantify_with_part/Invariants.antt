@@ -1,7 +1,6 @@
 -- A condition, a junction, a quantifier, the walk over what it binds and its body for one part meet their contracts. What falls is the brackets left.
 -- Assumes nothing.
 use Prim.Native.Nat.{◌*◌, ◌+◌, ◌-◌}
-use lib.Dec.{eqb}
 use Rattle.members.specs.Answers.{mode_of}
 use Rattle.members.specs.Sheet.{sheet_in}
 use Rattle.paths.specs.Stored.{frames_of, table}
@@ -26,14 +25,14 @@ decreases-with_part l = 3 * l.left + 1
 
 abbrev pub invariant-each-loop-x : goal.invariant-each-loop-x
 invariant-each-loop-x l =
-    Turning l.s l.initial.work (sheet_in l.s) l.frames (mode_of l.mode) l.name l.body l.o (eqb l.class 6) l.work l.truth l.c
+    Turning l.s l.initial.work (sheet_in l.s) l.scope.frames (mode_of l.q.mode) l.q.name l.q.body l.o l.named l.work l.truth l.c
 
 abbrev pub decreases-each-loop-x : goal.decreases-each-loop-x
 decreases-each-loop-x l = l.c.left
 
 abbrev pub invariant-junction-loop-k : goal.invariant-junction-loop-k
 invariant-junction-loop-k l =
-    Collecting l.s l.initial.work (sheet_in l.s) (frames_of l.s (table l.initial.work) l.frames) (mode_of l.mode) l.node (l.left - 1) l.end l.work
+    Collecting l.s l.initial.work (sheet_in l.s) (frames_of l.s (table l.initial.work) l.scope.frames) (mode_of l.mode) l.node (l.left - 1) l.end l.work
     l.truth l.k
 
 abbrev pub decreases-junction-loop-k : goal.decreases-junction-loop-k

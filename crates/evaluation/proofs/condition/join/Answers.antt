@@ -1,4 +1,4 @@
--- `evaluation::condition::join` meets its contract: by the mode.
+-- `join` meets its contract: by the mode.
 -- Assumes nothing.
 use Rattle.members.specs.Answers.{mode_of}
 use Rattle.evaluation.proofs.condition.join.Goals as goal

@@ -1,4 +1,4 @@
--- `evaluation::condition::start` meets its contract: by the mode.
+-- `start` meets its contract: by the mode.
 -- Assumes nothing.
 use borrow.Author.Rules.{rules}
 use Rattle.members.specs.Answers.{mode_of}

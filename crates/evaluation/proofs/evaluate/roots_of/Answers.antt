@@ -1,7 +1,9 @@
--- `evaluation::evaluate::roots_of` meets its contract: each member by its node.
+-- `roots_of` meets its contract: each member by its node.
 -- Assumes nothing.
-use Rattle.evaluation.proofs.Entering.{same_roots}
+use mathlib.Core.Path.{refl}
+use Rattle.comparison.specs.Entry.{roots_of}
 use Rattle.evaluation.proofs.evaluate.roots_of.Goals as goal
 
 pub returns : goal.returns
-returns c = same_roots c.args.m _ _ c.node_of.ensures c.node_of-2.ensures
+unfolding roots_of
+returns c = refl

@@ -1,4 +1,4 @@
--- `line::form::guard_unknown` meets its contract: its parts, one after another.
+-- `forms::form::guard_unknown` meets its contract: its parts, one after another.
 -- Assumes nothing.
 use mathlib.Core.List.{append_assoc}
 use Rattle.writer.proofs.Laying.{then, told}
@@ -9,5 +9,5 @@ pub returns : goal.returns
 unfolding spaced
 returns c =
     told (simp append_assoc)
-    (then c.refused_outcome-here.ensures
+    (then c.refused_outcome.ensures
     c.close_named.ensures)

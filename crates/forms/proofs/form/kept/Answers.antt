@@ -1,4 +1,4 @@
--- `line::form::kept` meets its contract: its parts, one after another.
+-- `forms::form::kept` meets its contract: its parts, one after another.
 -- Assumes nothing.
 use mathlib.Core.List.{append_assoc}
 use Rattle.writer.proofs.Laying.{then, told}
@@ -12,7 +12,7 @@ returns c =
     (then
     (then
     (then
-    (then c.byte-a.ensures
-    c.bytes-b.ensures) c.number-c.ensures)
-    c.element-d.ensures)
-    c.byte.ensures)
+    (then c.byte.ensures
+    c.bytes.ensures) c.number.ensures)
+    c.element.ensures)
+    c.byte-2.ensures)

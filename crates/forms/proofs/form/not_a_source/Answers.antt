@@ -1,4 +1,4 @@
--- `line::form::not_a_source` meets its contract: its parts, one after another.
+-- `forms::form::not_a_source` meets its contract: its parts, one after another.
 -- Assumes nothing.
 use mathlib.Core.List.{[], ◌++◌, ◌∷◌}
 use Rattle.forms.proofs.Forms.{closed_with, opened_further}
@@ -20,8 +20,8 @@ returns c =
     (ws ++ (state ∷ [])))
     (then
     (told (opened_further state (ascii "refused") ws)
-    (then c.refused_outcome-a.ensures
-    c.element-b.ensures))
+    (then c.refused_outcome.ensures
+    c.element.ensures))
     (then
-    (then c.byte-c.ensures c.sources-d.ensures)
-    c.byte.ensures))
+    (then c.byte.ensures c.sources.ensures)
+    c.byte-2.ensures))

@@ -1,4 +1,4 @@
--- `line::form::refused_outcome` meets its contract: its parts, one after another.
+-- `forms::form::refused_outcome` meets its contract: its parts, one after another.
 -- Assumes nothing.
 use mathlib.Core.List.{append_assoc}
 use Rattle.writer.proofs.Laying.{then, told}
@@ -11,6 +11,6 @@ returns c =
     told (simp append_assoc)
     (then
     (then
-    c.refused-a.ensures
-    c.number-b.ensures)
+    c.refused.ensures
+    c.number.ensures)
     c.element.ensures)

@@ -1,4 +1,4 @@
--- `line::form::refused_rule` meets its contract: its parts, one after another.
+-- `forms::form::refused_rule` meets its contract: its parts, one after another.
 -- Assumes nothing.
 use mathlib.Core.List.{append_assoc}
 use Rattle.writer.proofs.Laying.{then, told}
@@ -10,6 +10,6 @@ unfolding spaced
 returns c =
     told (simp append_assoc)
     (then
-    (then (then c.refused-a.ensures c.number-b.ensures)
-    c.element_or-c.ensures)
+    (then (then c.refused.ensures c.number.ensures)
     c.element_or.ensures)
+    c.element_or-2.ensures)

@@ -1,4 +1,4 @@
--- `line::form::rule_false` meets its contract: its parts, one after another.
+-- `forms::form::rule_false` meets its contract: its parts, one after another.
 -- Assumes nothing.
 use Rattle.writer.proofs.Laying.{then, told}
 use Rattle.answers.specs.Line.{quoted_bytes}
@@ -8,6 +8,6 @@ pub returns : goal.returns
 unfolding quoted_bytes
 returns c =
     told
-    (rw c.false_number-n.ensures)
-    (then c.refused_rule-here.ensures
+    (rw c.false_number.ensures)
+    (then c.refused_rule.ensures
     c.byte.ensures)

@@ -1,4 +1,4 @@
--- `line::form::rule_unknown` meets its contract: its parts, one after another.
+-- `forms::form::rule_unknown` meets its contract: its parts, one after another.
 -- Assumes nothing.
 use mathlib.Core.List.{[], ◌∷◌}
 use Rattle.forms.proofs.Forms.{closed_with}
@@ -14,9 +14,9 @@ pub returns : goal.returns
 unfolding quoted_bytes
 returns c =
     told
-    (rw c.unknown_number-n.ensures at
+    (rw c.unknown_number.ensures at
     (closed_with (names (names_in c.args.s.now c.args.work.now)) (ascii "refused")
-    (decimal_digits c.unknown_number-n.result ∷ decimal_digits c.args.r.place ∷ name_or (text_of c.args.s.now c.args.r.name) ∷ message_or
-    (ascii "condition could not be evaluated") (text_of c.args.s.now c.args.r.message) ∷ [])))
-    (then (rw c.unknown_number-n.ensures at c.refused_rule-here.ensures)
+    (decimal_digits c.unknown_number.result ∷ decimal_digits c.args.rule.place ∷ name_or (text_of c.args.s.now c.args.rule.name) ∷ message_or
+    (ascii "condition could not be evaluated") (text_of c.args.s.now c.args.rule.message) ∷ [])))
+    (then (rw c.unknown_number.ensures at c.refused_rule.ensures)
     c.close_named.ensures)

@@ -1,4 +1,4 @@
--- `line::form::truth` meets its contract: its parts, one after another.
+-- `forms::form::truth` meets its contract: its parts, one after another.
 -- Assumes nothing.
 use mathlib.Core.List.{append_assoc}
 use Rattle.writer.proofs.Laying.{then, told}
@@ -11,6 +11,6 @@ returns c =
     told (simp append_assoc)
     (then
     (then
-    c.bytes-first.ensures
-    c.bytes-here.ensures)
+    c.bytes.ensures
+    c.bytes-2.ensures)
     c.close_named.ensures)

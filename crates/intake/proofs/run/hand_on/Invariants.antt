@@ -3,9 +3,9 @@
 use Rattle.std.proofs.Common.{length, ◌-◌, ◌≡◌, ◌≤◌}
 use Rattle.intake.proofs.run.hand_on.Given as goal
 
-abbrev pub invariant-loop-error : goal.invariant-loop-error
-invariant-loop-error g l =
+abbrev pub invariant-loop-at : goal.invariant-loop-at
+invariant-loop-at g l =
     (length l.work ≡ length l.initial.work) × (length l.out ≡ length l.initial.out) × (l.at ≤ length l.input)
 
-abbrev pub decreases-loop-error : goal.decreases-loop-error
-decreases-loop-error g l = length l.input - l.at
+abbrev pub decreases-loop-at : goal.decreases-loop-at
+decreases-loop-at g l = length l.input - l.at

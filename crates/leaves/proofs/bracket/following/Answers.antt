@@ -1,40 +1,14 @@
--- `reader::bracket::following` meets its contract: by the byte behind the value.
+-- `leaves::bracket::following` meets its contract: by the byte behind the value.
 -- Assumes nothing.
 use Rattle.leaves.proofs.Values.{continues_not, continues_on, continues_shut}
-use Rattle.leaves.proofs.MemberName.{byte_inside}
 use mathlib.Core.Path.{sym, ◌∙◌}
-use native.Mathlib.Omega.{arith}
 use Rattle.leaves.proofs.bracket.following.Goals as goal
-
-pub overflow_add-here : goal.overflow_add-here
-overflow_add-here c =
-    omega (
-      arith,
-      byte_inside c.args.s.now c.skip-here.result 44
-          (sym c.byte_at-c.ensures ∙ c.if-c-eq44.true) (omega arith),
-    )
-
-pub skip-requires : goal.skip-requires
-skip-requires c =
-    omega (
-      arith,
-      byte_inside c.args.s.now c.skip-here.result 44
-          (sym c.byte_at-c.ensures ∙ c.if-c-eq44.true) (omega arith),
-    )
 
 pub returns-then-c-eq44 : goal.returns-then-c-eq44
 returns-then-c-eq44 c =
     continues_on c.args.s.now c.args.at c.args.close c.skip-here.result c.requires.1
     c.requires.0 c.skip-here.ensures
     (sym c.byte_at-c.ensures ∙ c.if-c-eq44.true) c.skip.result c.skip.ensures
-
-pub overflow_add-result : goal.overflow_add-result
-overflow_add-result c =
-    omega (
-      arith,
-      byte_inside c.args.s.now c.skip-here.result c.args.close
-          (sym c.byte_at-c.ensures ∙ c.if-c-close.true) c.requires.1,
-    )
 
 pub returns-then-c-close : goal.returns-then-c-close
 returns-then-c-close c =

@@ -1,18 +1,8 @@
--- `reader::bracket::opening` meets its contract: by the byte behind the bracket.
+-- `leaves::bracket::opening` meets its contract: by the byte behind the bracket.
 -- Assumes nothing.
 use Rattle.leaves.proofs.Values.{opens_on, opens_shut}
-use Rattle.leaves.proofs.MemberName.{byte_inside}
 use mathlib.Core.Path.{sym, ◌∙◌}
-use native.Mathlib.Omega.{arith}
 use Rattle.leaves.proofs.bracket.opening.Goals as goal
-
-pub overflow_add-result : goal.overflow_add-result
-overflow_add-result c =
-    omega (
-      arith,
-      byte_inside c.args.s.now c.skip-here.result c.args.close
-          (sym c.byte_at.ensures ∙ c.if-byte_at-close.true) c.requires.1,
-    )
 
 pub returns-then-byte_at-close : goal.returns-then-byte_at-close
 returns-then-byte_at-close c =

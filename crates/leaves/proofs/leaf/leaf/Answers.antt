@@ -1,118 +1,123 @@
--- `reader::leaf::leaf` meets its contract: step by step as `read_at` with no bracket left.
+-- `leaves::leaf::leaf` meets its contract: step by step as `read_at` with no bracket left.
 -- Assumes nothing.
-use Rattle.leaves.proofs.Values.{leaf_bad, leaf_deep, leaf_full, leaf_is, leaf_none, leaf_text, read_places, told_bad, told_leaf}
-use Rattle.leaves.proofs.Loops.{past_end}
-use Rattle.strings.specs.declared.answer.Refusal.TheVariants as whys
-use Rattle.json_text.specs.Spans.{leaf}
-use Rattle.json_text.specs.Refusal.{ok}
-use Rattle.json_text.specs.Placing.{read_at}
-use Rattle.leaves.specs.Laid.{plain_by, start_by}
-use Rattle.strings.specs.Answers.{scan_of}
+use mathlib.Core.Path.{ap, refl, sym, ◌∙◌, ◌≡◌}
 use Prim.Native.Nat.{◌+◌, ◌-◌}
-use mathlib.Core.Path.{ap, refl, ◌∙◌, ◌≡◌}
 use native.Mathlib.Omega.{arith}
-use Rattle.leaves.proofs.leaf.leaf.Goals.{Then-k-eq4, Else-k-eq4}
+use Rattle.json_text.specs.Placing.{read_at}
+use Rattle.json_text.specs.Reader.{start}
+use Rattle.json_text.specs.Refusal.{ok}
+use Rattle.json_text.specs.Spans.{leaf}
+use Rattle.leaves.proofs.Values.{
+  PlainAt,
+  leaf_array,
+  leaf_bad,
+  leaf_full,
+  leaf_is,
+  leaf_none,
+  leaf_object,
+  leaf_text,
+  plain_at,
+  read_places,
+  code_small,
+  handed_on,
+  same_kind,
+  starts_inside,
+  told_bad,
+  told_leaf,
+}
+use Rattle.leaves.specs.Laid.{kind_by, plain_by}
+use Rattle.std.specs.Prelude.{Some, get_or, ℕ}
+use Rattle.strings.specs.Answers.{scan_of}
+use Rattle.strings.specs.declared.answer.Refusal.TheVariants as whys
+use Rattle.leaves.proofs.leaf.leaf.Goals.{Else-node-ge4096, Then-eq-3, Else-eq-3, then-eq-via-then-eq, then-eq-via-else-eq+then-eq-2}
 use Rattle.leaves.proofs.leaf.leaf.Goals as goal
 
+-- a value without brackets starts here
+plain_here : (c : Else-node-ge4096) → PlainAt c.args.s.now c.args.node c.args.at c.in-Some.kind
+plain_here c =
+    plain_at c.args.s.now c.args.node c.args.at c.in-Some.kind
+    (sym c.in-Some.is ∙ c.kind.ensures ∙ ap (λ (b : ℕ). kind_by (start b)) c.byte_at.ensures) (sym c.if-eq.ensures) (sym c.if-eq-2.ensures)
+
 -- a text was scanned
-is_text_lem : (c : Then-k-eq4) → read_at 0 c.args.s.now c.args.node c.args.at ≡ ok (record {
-  tree = leaf
-      (plain_by c.kind-k.result)
-      (c.args.at + 1) (c.in-End.e - 1);
-  place = c.in-End.e;
-  count = c.args.node + 1;
-})
+text_here : (c : Then-eq-3) → PlainAt c.args.s.now c.args.node c.args.at c.in-Some.kind → read_at 0 c.args.s.now c.args.node c.args.at ≡
+    ok (record { tree = leaf (plain_by c.in-Some.kind) (c.args.at + 1) (c.in_ok-end.end - 1); place = c.in_ok-end.end; count = c.args.node + 1 })
 unfolding scan_of
-is_text_lem c =
-    leaf_text c.args.s.now c.args.node c.args.at c.kind-k.result c.kind-k.ensures.0 (omega arith)
-    (omega arith) c.in-End.e c.if-k-eq4.true (c.scan.ensures ∙ ap scan_of c.in-End.is)
+text_here c l = leaf_text c.args.s.now c.args.node c.args.at c.in-Some.kind l c.if-node-ge4096.false c.in_ok-end.end (sym c.if-eq-3.ensures) c.in_ok-end.ensures
 
 -- another value was scanned
-is_other : (c : Else-k-eq4) → read_at 0 c.args.s.now c.args.node c.args.at ≡ ok (record {
-  tree = leaf
-      (plain_by c.kind-k.result)
-      c.args.at c.in-End.e;
-  place = c.in-End.e;
-  count = c.args.node + 1;
-})
+other_here : (c : Else-eq-3) → PlainAt c.args.s.now c.args.node c.args.at c.in-Some.kind → read_at 0 c.args.s.now c.args.node c.args.at ≡
+    ok (record { tree = leaf (plain_by c.in-Some.kind) c.args.at c.in_ok-end.end; place = c.in_ok-end.end; count = c.args.node + 1 })
 unfolding scan_of
-is_other c =
-    leaf_is c.args.s.now c.args.node c.args.at c.kind-k.result c.kind-k.ensures.0 (omega arith)
-    (omega arith) c.in-End.e c.if-k-eq4.false (c.scan.ensures ∙ ap scan_of c.in-End.is)
+other_here c l = leaf_is c.args.s.now c.args.node c.args.at c.in-Some.kind l c.if-node-ge4096.false c.in_ok-end.end (sym c.if-eq-3.ensures) c.in_ok-end.ensures
 
-pub returns-then-s-at : goal.returns-then-s-at
-returns-then-s-at c =
+pub returns-in_default : goal.returns-in_default
+returns-in_default c =
     told_bad _ c.args.work.now _ c.args.node whys.NotJson
-    (past_end 0 c.args.s.now c.args.node c.args.at c.if-s-at.true) refl
+    (leaf_none c.args.s.now c.args.node c.args.at (sym c.in_default.is ∙ c.kind.ensures ∙ ap (λ (b : ℕ). kind_by (start b)) c.byte_at.ensures)) refl
 
-pub returns-then-k-eq7 : goal.returns-then-k-eq7
-returns-then-k-eq7 c =
-    told_bad _ c.args.work.now _ c.args.node whys.NotJson
-    (leaf_none c.args.s.now c.args.node c.args.at (c.kind-k.ensures.0 ∙ ap start_by c.if-k-eq7.true)) refl
-
-pub returns-then-k-gt4 : goal.returns-then-k-gt4
-returns-then-k-gt4 c =
+pub returns-then-eq : goal.returns-then-eq
+returns-then-eq c =
+    let k : Some c.in-Some.kind ≡ kind_by (start (get_or c.args.s.now c.args.at 0)) =
+    sym c.in-Some.is ∙ c.kind.ensures ∙ ap (λ (b : ℕ). kind_by (start b)) c.byte_at.ensures in
     told_bad _ c.args.work.now _ c.args.node whys.TooDeep
-    (leaf_deep c.args.s.now c.args.node c.args.at c.kind-k.result c.kind-k.ensures.0 c.if-k-gt4.true
-    c.kind-k.ensures.1 c.if-k-eq7.false) refl
+    (elim c.then-eq.branch [
+      | then-eq-via-then-eq w ↦ leaf_array c.args.s.now c.args.node c.args.at c.in-Some.kind k (same_kind _ _ (sym w.if-eq.ensures))
+      | then-eq-via-else-eq+then-eq-2 w ↦ leaf_object c.args.s.now c.args.node c.args.at c.in-Some.kind k (same_kind _ _ (sym w.if-eq-2.ensures))
+    ]) refl
 
 pub returns-then-node-ge4096 : goal.returns-then-node-ge4096
 returns-then-node-ge4096 c =
     told_bad _ c.args.work.now _ c.args.node whys.TooManyNodes
-    (leaf_full c.args.s.now c.args.node c.args.at c.kind-k.result
-    c.kind-k.ensures.0 (omega (arith, c.if-k-gt4.false)) c.if-node-ge4096.true) refl
+    (leaf_full c.args.s.now c.args.node c.args.at c.in-Some.kind (plain_at c.args.s.now c.args.node c.args.at c.in-Some.kind
+    (sym c.in-Some.is ∙ c.kind.ensures ∙ ap (λ (b : ℕ). kind_by (start b)) c.byte_at.ensures) (sym c.if-eq.ensures) (sym c.if-eq-2.ensures)) c.if-node-ge4096.true) refl
 
-pub overflow_sub-e : goal.overflow_sub-e
-overflow_sub-e c =
-    omega (
-      arith,
-      (read_places 0 c.args.s.now c.args.node c.args.at _ c.requires.upto (is_text_lem (goal.at.overflow_sub-e c).Then-k-eq4)).0,
-    )
+pub scan-requires : goal.scan-requires
+scan-requires c = starts_inside c.args.s.now c.args.at c.in-Some.kind
+    (sym c.in-Some.is ∙ c.kind.ensures ∙ ap (λ (b : ℕ). kind_by (start b)) c.byte_at.ensures)
+
+pub returns-in_err-end : goal.returns-in_err-end
+unfolding scan_of
+returns-in_err-end c =
+    rw
+    (handed_on _ c.from_residual.ensures.1)
+    (told_bad _ c.args.work.now _ c.args.node c.in_err-end.field-0.0
+    (leaf_bad c.args.s.now c.args.node c.args.at c.in-Some.kind
+    (plain_here (goal.at.returns-in_err-end c).Else-node-ge4096) c.if-node-ge4096.false _ c.in_err-end.ensures) refl)
+
+pub overflow_sub-end : goal.overflow_sub-end
+overflow_sub-end c =
+    omega (arith, (read_places 0 c.args.s.now c.args.node c.args.at _ c.requires.upto (text_here (goal.at.overflow_sub-end c).Then-eq-3 (plain_here (goal.at.overflow_sub-end c).Else-node-ge4096))).0)
 
 pub lay-requires : goal.lay-requires
 lay-requires c =
-    let f = read_places 0 c.args.s.now c.args.node c.args.at _ c.requires.upto (is_text_lem (goal.at.lay-requires c).Then-k-eq4) in
+    let f = read_places 0 c.args.s.now c.args.node c.args.at _ c.requires.upto (text_here (goal.at.lay-requires c).Then-eq-3 (plain_here (goal.at.lay-requires c).Else-node-ge4096)) in
     record {
       long = c.requires.long;
       room = c.if-node-ge4096.false;
-      kind_fits = c.kind-k.ensures.1;
+      kind_fits = code_small c.in-Some.kind;
       start_fits = omega (arith, f.0, f.1, c.requires.bytes);
       end_fits = omega (arith, f.1, c.requires.bytes);
       after_fits = omega (arith, c.if-node-ge4096.false);
     }
 
-pub returns-then-k-eq4 : goal.returns-then-k-eq4
-returns-then-k-eq4 c =
-    told_leaf
-    (omega (
-      arith,
-      c.if-k-gt4.false,
-    )) (is_text_lem (goal.at.returns-then-k-eq4 c).Then-k-eq4) c.lay.ensures
+pub returns-then-eq-3 : goal.returns-then-eq-3
+returns-then-eq-3 c =
+    let l = plain_here (goal.at.returns-then-eq-3 c).Else-node-ge4096 in
+    told_leaf c.in-Some.kind l.coded (text_here (goal.at.returns-then-eq-3 c).Then-eq-3 l) c.lay.ensures
 
-pub lay-requires-in-End : goal.lay-requires-in-End
-lay-requires-in-End c =
-    let f = read_places 0 c.args.s.now c.args.node c.args.at _ c.requires.upto (is_other (goal.at.lay-requires-in-End c).Else-k-eq4) in
+pub lay-requires-2 : goal.lay-requires-2
+lay-requires-2 c =
+    let f = read_places 0 c.args.s.now c.args.node c.args.at _ c.requires.upto (other_here (goal.at.lay-requires-2 c).Else-eq-3 (plain_here (goal.at.lay-requires-2 c).Else-node-ge4096)) in
     record {
       long = c.requires.long;
       room = c.if-node-ge4096.false;
-      kind_fits = c.kind-k.ensures.1;
+      kind_fits = code_small c.in-Some.kind;
       start_fits = omega (arith, f.0, f.1, c.requires.bytes);
       end_fits = omega (arith, f.1, c.requires.bytes);
       after_fits = omega (arith, c.if-node-ge4096.false);
     }
 
-pub returns-in-Bad : goal.returns-in-Bad
-unfolding scan_of
-returns-in-Bad c =
-    told_bad _ c.args.work.now _ c.args.node c.in-Bad.n
-    (leaf_bad c.args.s.now c.args.node c.args.at c.kind-k.result c.kind-k.ensures.0
-    (omega (arith, c.if-k-gt4.false)) c.if-node-ge4096.false _
-    (c.scan.ensures ∙ ap scan_of c.in-Bad.is)) refl
-
-pub returns-else-k-eq4 : goal.returns-else-k-eq4
-returns-else-k-eq4 c =
-    told_leaf
-    (omega (
-      arith,
-      c.if-k-gt4.false,
-    )) (is_other (goal.at.returns-else-k-eq4 c).Else-k-eq4) c.lay-in-End.ensures
+pub returns : goal.returns
+returns c =
+    let l = plain_here (goal.at.returns c).Else-node-ge4096 in
+    told_leaf c.in-Some.kind l.coded (other_here (goal.at.returns c).Else-eq-3 l) c.lay-2.ensures

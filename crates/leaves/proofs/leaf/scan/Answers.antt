@@ -1,30 +1,25 @@
--- `reader::leaf::scan` meets its contract: by the kind.
+-- `leaves::leaf::scan` meets its contract: by the kind.
 -- Assumes nothing.
-use native.Mathlib.Omega.{arith}
-use Rattle.leaves.proofs.Values.{last}
+use Rattle.leaves.proofs.Values.{is_text_by}
 use Rattle.leaves.specs.Laid.{scan_by}
-use mathlib.Core.Path.{◌≡◌}
 use Rattle.leaves.proofs.leaf.scan.Goals as goal
 
-pub returns-in-0 : goal.returns-in-0
+pub returns-in-Null : goal.returns-in-Null
 unfolding scan_by
-returns-in-0 c = rw c.in-0.is c.word.ensures
+returns-in-Null c = rw c.in-Null.is c.word.ensures
 
-pub returns-in-1 : goal.returns-in-1
+pub returns-in-True : goal.returns-in-True
 unfolding scan_by
-returns-in-1 c = rw c.in-1.is c.word-in-1.ensures
+returns-in-True c = rw c.in-True.is c.word-in-True.ensures
 
-pub returns-in-2 : goal.returns-in-2
+pub returns-in-False : goal.returns-in-False
 unfolding scan_by
-returns-in-2 c = rw c.in-2.is c.word-in-2.ensures
+returns-in-False c = rw c.in-False.is c.word-in-False.ensures
 
-pub returns-in-3 : goal.returns-in-3
+pub returns-in-Number : goal.returns-in-Number
 unfolding scan_by
-returns-in-3 c = rw c.in-3.is c.number.ensures
+returns-in-Number c = rw c.in-Number.is c.number.ensures
 
 pub returns-in_default : goal.returns-in_default
 unfolding scan_by
-returns-in_default c =
-    let k : c.args.kind ≡ 4 = last c.args.kind c.requires.1 (λ e. omega arith) (λ e. omega arith)
-    (λ e. omega arith) (λ e. omega arith) in
-    rw k c.string.ensures
+returns-in_default c = rw (is_text_by c.args.kind c.in_default.not-Null c.in_default.not-True c.in_default.not-False c.in_default.not-Number) c.string.ensures

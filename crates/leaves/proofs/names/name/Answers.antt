@@ -1,7 +1,8 @@
--- `reader::names::name` meets its contract: step by step as `name_at`.
+-- `leaves::names::name` meets its contract: step by step as `name_at`.
 -- Assumes nothing.
 use Rattle.leaves.proofs.MemberName.{Quoted, again, bad_text, byte_inside, marks_grow, no_colon, no_quote, no_room, on_text_lem, quoted, spelt}
 use Rattle.leaves.proofs.Marks.{unmarked}
+use Rattle.leaves.proofs.Values.{handed_on}
 use Rattle.json_text.specs.Spans.{text_at}
 use Rattle.json_text.specs.Refusal.{Result, ok}
 use Rattle.json_text.specs.Placing.{skip_at}
@@ -14,23 +15,23 @@ use Prim.Native.Nat.{ℕ, ◌+◌, ◌-◌, ◌<◌}
 use mathlib.Core.Bool.{false, true}
 use mathlib.Core.Path.{ap, refl, sym, ◌∙◌, ◌≡◌}
 use native.Mathlib.Omega.{arith}
-use Rattle.leaves.proofs.names.name.Goals.{In-End, Else-byte_at-ne58}
+use Rattle.leaves.proofs.names.name.Goals.{In_ok-end, Else-byte_at-ne58}
 use Rattle.leaves.proofs.names.name.Goals as goal
 
 -- the text was scanned
-scanned : (c : In-End) → Quoted c.args.s.now c.args.at c.args.count c.in-End.e
+scanned : (c : In_ok-end) → Quoted c.args.s.now c.args.at c.args.count c.in_ok-end.end
 unfolding scan_of
 scanned c =
-    quoted c.args.s.now c.args.at c.args.count c.in-End.e
+    quoted c.args.s.now c.args.at c.args.count c.in_ok-end.end
     (sym c.byte_at.ensures ∙ c.if-byte_at-ne34.false) c.if-count-ge4096.false
-    (c.string.ensures ∙ ap scan_of c.in-End.is)
+    (c.string.ensures ∙ ap scan_of c.in_ok-end.was)
 
 -- a colon stands behind it
 colon : (c : Else-byte_at-ne58) → c.skip-colon.result < length c.args.s.now
 colon c =
     byte_inside
     c.args.s.now c.skip-colon.result 58
-    (sym c.byte_at-in-End.ensures ∙ c.if-byte_at-ne58.false) (omega arith)
+    (sym c.byte_at-2.ensures ∙ c.if-byte_at-ne58.false) (omega arith)
 
 pub returns-then-byte_at-ne34 : goal.returns-then-byte_at-ne34
 unfolding NameTold
@@ -49,17 +50,9 @@ returns-then-count-ge4096 c = (
   refl,
 )
 
-pub string-requires : goal.string-requires
-string-requires c =
-    omega (
-      arith,
-      byte_inside c.args.s.now c.args.at 34 (sym c.byte_at.ensures ∙ c.if-byte_at-ne34.false)
-          (omega arith),
-    )
-
-pub slot-k-requires : goal.slot-k-requires
-slot-k-requires c = (
-  on_text_lem (scanned (goal.at.slot-k-requires c).In-End),
+pub slot-mark-requires : goal.slot-mark-requires
+slot-mark-requires c = (
+  on_text_lem (scanned (goal.at.slot-mark-requires c).In_ok-end),
   omega (
     arith,
     c.requires.under,
@@ -70,17 +63,17 @@ pub repeated-requires : goal.repeated-requires
 repeated-requires c =
     record {
       members = c.requires.members;
-      text = on_text_lem (scanned (goal.at.repeated-requires c).In-End);
+      text = on_text_lem (scanned (goal.at.repeated-requires c).In_ok-end);
       sure = λ z. unmarked c.args.seen.now c.args.object
           (earlier c.args.s.now c.args.work.now c.args.object c.args.count) (text_at c.args.s.now (c.args.at + 1))
           c.requires.noted
-          (ap (λ (i : ℕ). get_or c.args.seen.now i false) (sym c.slot-k.ensures.0) ∙ z);
+          (ap (λ (i : ℕ). get_or c.args.seen.now i false) (sym c.slot-mark.ensures.0) ∙ z);
     }
 
 pub returns-then-repeated : goal.returns-then-repeated
 unfolding NameTold
 returns-then-repeated c =
-    let q = scanned (goal.at.returns-then-repeated c).In-End in (
+    let q = scanned (goal.at.returns-then-repeated c).In_ok-end in (
       again c.args.s.now (earlier c.args.s.now c.args.work.now c.args.object c.args.count) c.args.count c.args.at
           q.is_quote q.room _ q.is_text (sym c.repeated.ensures ∙ c.if-repeated.true),
       refl,
@@ -88,28 +81,28 @@ returns-then-repeated c =
     )
 
 pub skip-colon-requires : goal.skip-colon-requires
-skip-colon-requires c = (scanned (goal.at.skip-colon-requires c).In-End).upto
+skip-colon-requires c = (scanned (goal.at.skip-colon-requires c).In_ok-end).upto
 
 pub returns-then-byte_at-ne58 : goal.returns-then-byte_at-ne58
 unfolding NameTold
 returns-then-byte_at-ne58 c =
-    let q = scanned (goal.at.returns-then-byte_at-ne58 c).In-End in (
+    let q = scanned (goal.at.returns-then-byte_at-ne58 c).In_ok-end in (
       no_colon c.args.s.now (earlier c.args.s.now c.args.work.now c.args.object c.args.count) c.args.count c.args.at
           q.is_quote q.room _ q.is_text (sym c.repeated.ensures ∙ c.if-repeated.false)
           (λ z. c.if-byte_at-ne58.true
-          (c.byte_at-in-End.ensures ∙ ap (λ (i : ℕ). get_or c.args.s.now i 0)
+          (c.byte_at-2.ensures ∙ ap (λ (i : ℕ). get_or c.args.s.now i 0)
           c.skip-colon.ensures ∙ z)),
       refl,
       refl,
     )
 
-pub overflow_sub-e : goal.overflow_sub-e
-overflow_sub-e c =
-    omega (arith, (scanned (goal.at.overflow_sub-e c).In-End).order)
+pub overflow_sub-end : goal.overflow_sub-end
+overflow_sub-end c =
+    omega (arith, (scanned (goal.at.overflow_sub-end c).In_ok-end).order)
 
 pub put_row-requires : goal.put_row-requires
 put_row-requires c =
-    let q = scanned (goal.at.put_row-requires c).In-End in
+    let q = scanned (goal.at.put_row-requires c).In_ok-end in
     record {
       long = c.requires.long;
       room = q.room;
@@ -124,39 +117,34 @@ overflow_sub-result c =
     omega (
       arith,
       (scanned
-          (goal.at.overflow_sub-result c).In-End).order,
+          (goal.at.overflow_sub-result c).In_ok-end).order,
     )
 
-pub overflow_add-colon : goal.overflow_add-colon
-overflow_add-colon c = omega (arith, colon (goal.at.overflow_add-colon c).Else-byte_at-ne58)
-
-pub skip-requires : goal.skip-requires
-skip-requires c = omega (arith, colon (goal.at.skip-requires c).Else-byte_at-ne58)
-
-pub returns-in-Bad : goal.returns-in-Bad
+pub returns-in_err-end : goal.returns-in_err-end
 unfolding NameTold scan_of
-returns-in-Bad c = (
-  bad_text c.args.s.now (earlier c.args.s.now c.args.work.now c.args.object c.args.count) c.args.count c.args.at
-      (sym c.byte_at.ensures ∙ c.if-byte_at-ne34.false) c.if-count-ge4096.false _
-      (c.string.ensures ∙ ap scan_of c.in-Bad.is),
-  refl,
-  refl,
-)
+returns-in_err-end c =
+    rw
+    (handed_on _ c.from_residual.ensures.1) (
+      bad_text c.args.s.now (earlier c.args.s.now c.args.work.now c.args.object c.args.count) c.args.count c.args.at
+          (sym c.byte_at.ensures ∙ c.if-byte_at-ne34.false) c.if-count-ge4096.false _ c.in_err-end.ensures,
+      refl,
+      refl,
+    )
 
-pub returns-else-byte_at-ne58 : goal.returns-else-byte_at-ne58
+pub returns : goal.returns
 unfolding NameTold
-returns-else-byte_at-ne58 c =
-    let q = scanned (goal.at.returns-else-byte_at-ne58 c).In-End in
-    let v : skip_at c.args.s.now (skip_at c.args.s.now c.in-End.e + 1) ≡ c.skip.result = sym
+returns c =
+    let q = scanned (goal.at.returns c).In_ok-end in
+    let v : skip_at c.args.s.now (skip_at c.args.s.now c.in_ok-end.end + 1) ≡ c.skip.result = sym
     (c.skip.ensures ∙ ap (λ (i : ℕ). skip_at c.args.s.now (i + 1)) c.skip-colon.ensures) in
     record {
       read = spelt c.args.s.now (earlier c.args.s.now c.args.work.now c.args.object c.args.count) c.args.count c.args.at q.is_quote
           q.room _ q.is_text (sym c.repeated.ensures ∙ c.if-repeated.false)
-          (sym (c.byte_at-in-End.ensures ∙ ap (λ (i : ℕ). get_or c.args.s.now i 0) c.skip-colon.ensures) ∙
+          (sym (c.byte_at-2.ensures ∙ ap (λ (i : ℕ). get_or c.args.s.now i 0) c.skip-colon.ensures) ∙
           c.if-byte_at-ne58.false) ∙ ap {B = Result NameSpan}
-          (λ (i : ℕ). ok (record { stop = c.in-End.e - 1; value = i })) v;
+          (λ (i : ℕ). ok (record { stop = c.in_ok-end.end - 1; value = i })) v;
       words = c.put_row.ensures;
-      marked = ap (λ (i : ℕ). get_or (set c.args.seen.now c.slot-k.result true) i false) (sym c.slot-k.ensures.0) ∙
-          get_or-set_same c.args.seen.now c.slot-k.result true false (omega (arith, c.requires.marks, c.slot-k.ensures.1));
-      grown = marks_grow c.args.seen.now c.slot-k.result (omega (arith, c.requires.marks, c.slot-k.ensures.1));
+      marked = ap (λ (i : ℕ). get_or (set c.args.seen.now c.slot-mark.result true) i false) (sym c.slot-mark.ensures.0) ∙
+          get_or-set_same c.args.seen.now c.slot-mark.result true false (omega (arith, c.requires.marks, c.slot-mark.ensures.1));
+      grown = marks_grow c.args.seen.now c.slot-mark.result (omega (arith, c.requires.marks, c.slot-mark.ensures.1));
     }

@@ -1,34 +1,18 @@
--- `reader::names::repeated` meets its contract: a name whose mark is not set is none of the earlier ones.
+-- `leaves::names::repeated` meets its contract: a name whose mark is not set is none of the earlier ones.
 -- Assumes nothing.
-use Rattle.leaves.proofs.Marks.{found_none, found_some}
-use Rattle.leaves.specs.Laid.{earlier}
-use Rattle.strings.specs.Answers.{found_of}
+use mathlib.Core.Path.{ap, sym, ◌∙◌}
 use Prim.Native.Nat.{◌+◌}
+use Rattle.std.specs.Option.{is_some}
 use Rattle.json_text.specs.Spans.{text_at}
 use Rattle.json_text.specs.Table.{members_at}
-use mathlib.Core.Path.{ap, sym, ◌∙◌}
+use Rattle.leaves.proofs.Marks.{found_is, was_found}
+use Rattle.leaves.specs.Laid.{earlier}
 use Rattle.leaves.proofs.names.repeated.Goals as goal
 
-pub returns-then-not-marked : goal.returns-then-not-marked
-returns-then-not-marked c = sym (c.requires.sure c.if-not-marked.true)
-
-pub find-requires : goal.find-requires
-find-requires c = (c.requires.members, c.requires.text)
-
-pub returns-in-Nothing : goal.returns-in-Nothing
-unfolding found_of earlier
-returns-in-Nothing c =
-    sym
-    (found_none (text_at c.args.s.now c.args.name)
-    (members_at c.args.s.now c.args.work.now (c.args.object + 1) c.args.count)
-    (c.find.ensures.answers ∙ ap (found_of c.args.s.now c.args.work.now)
-    c.in-Nothing.is))
-
-pub returns-in-At : goal.returns-in-At
-unfolding found_of earlier
-returns-in-At c =
-    sym
-    (found_some (text_at c.args.s.now c.args.name)
-    (members_at c.args.s.now c.args.work.now (c.args.object + 1) c.args.count) _
-    (c.find.ensures.answers ∙ ap (found_of c.args.s.now c.args.work.now)
-    c.in-At.is))
+pub returns-then-marked : goal.returns-then-marked
+unfolding earlier
+returns-then-marked c =
+    c.is_some.ensures ∙
+    sym (was_found c.args.s.now c.args.work.now c.find.result) ∙
+    ap is_some (sym c.find.ensures.answers) ∙
+    found_is (text_at c.args.s.now c.args.name) (members_at c.args.s.now c.args.work.now (c.args.object + 1) c.args.count)

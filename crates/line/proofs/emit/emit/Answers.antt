@@ -1,35 +1,29 @@
 -- `line::emit::emit` meets its contract: what the first pass measured is what the second lays.
 -- Assumes nothing.
-use mathlib.Core.Path.{ap, refl, ◌∙◌}
-use lib.ListN.{length, length-set}
-use Rattle.line.proofs.Answers.{emitted_23, emitted_line, emitted_none}
-use Rattle.writer.proofs.Laying.{measured, same_size, too_long, written}
+use mathlib.Core.List.{[], ◌∷◌}
+use mathlib.Core.Path.{◌∙◌}
 use native.Mathlib.Omega.{arith}
+use lib.ListN.{length-append}
+use Rattle.std.proofs.Common.{rules}
+use Rattle.answers.specs.Reply.{form_of, or_empty}
+use Rattle.writer.specs.Meaning.{meaning}
+use Rattle.line.proofs.Answers.{emitted_23, emitted_line, emitted_none}
+use Rattle.writer.proofs.Laying.{shown, then, too_long, within, written}
 use Rattle.line.proofs.emit.emit.Goals as goal
 
-pub returns-then-n-eq12 : goal.returns-then-n-eq12
-returns-then-n-eq12 c =
-    emitted_none c.args.s.now c.args.work.now c.args.a c.args.out.now
-    (c.number-n.ensures c.args.s.now c.args.work.now) c.if-n-eq12.true
+pub returns-then-number-eq12 : goal.returns-then-number-eq12
+returns-then-number-eq12 c =
+    emitted_none c.args.s.now c.args.work.now c.args.a c.args.out.now (c.number-number.ensures c.args.s.now c.args.work.now) c.if-number-eq12.true
 
-pub returns-then-limit-size : goal.returns-then-limit-size
-returns-then-limit-size c =
-    rw (measured c.form-size.ensures c.args.out.now)
-    (emitted_23 c.args.s.now c.args.work.now c.args.a c.args.out.now
-    (c.number-n.ensures c.args.s.now c.args.work.now)
-    c.if-n-eq12.false (too_long c.form-size.ensures (omega arith)))
-
-pub shape_of-out : goal.shape_of-out
-shape_of-out c =
-    simp length-set
-    (same_size c.form-end.ensures ∙ ap length
-    (measured c.form-size.ensures
-    c.args.out.now))
+pub returns-then-out-size : goal.returns-then-out-size
+returns-then-out-size c =
+    emitted_23 c.args.s.now c.args.work.now c.args.a c.args.out.now (c.number-number.ensures c.args.s.now c.args.work.now) c.if-number-eq12.false
+    (too_long c.new-measure.ensures.empty c.form.ensures (omega (arith, c.if-out-size.true, c.count-size.ensures)))
 
 pub returns : goal.returns
 returns c =
-    let r = written c.form-size.ensures c.args.out.now (omega arith)
-    c.form-end.ensures in
-    emitted_line c.args.s.now c.args.work.now c.args.a c.args.out.now
-    (c.number-n.ensures c.args.s.now c.args.work.now)
-    c.if-n-eq12.false r.0 r.1 r.2 refl
+    let w = written c.new-measure.ensures.empty c.form.ensures c.new-line.ensures.empty (within c.new-line.ensures.empty) (omega (arith, c.if-out-size.false, c.count-size.ensures)) c.form-2.ensures in
+    let l = length-append (or_empty (form_of (meaning c.args.s.now c.args.work.now c.args.a))) (10 ∷ []) in
+    emitted_line c.args.s.now c.args.work.now c.args.a c.args.out.now (c.number-number.ensures c.args.s.now c.args.work.now) c.if-number-eq12.false w.0
+    (shown c.new-line.ensures.empty (then c.form-2.ensures c.byte.ensures) (search rules) (omega (arith, w.0, l)))
+    (c.count-size.ensures ∙ w.3)

@@ -1,35 +1,14 @@
 -- `line::emit::number` meets its contract: by the case of the answer.
 -- Assumes nothing.
 use mathlib.Core.Path.{refl}
-use Rattle.line.proofs.Answers.{numbered}
+use Rattle.line.proofs.Answers.{numbered, unnumbered}
 use Rattle.answers.specs.Line.{refusal_number}
 use Rattle.writer.specs.Meaning.{meaning}
 use Rattle.answers.specs.Reply.{number_of}
 use Rattle.line.proofs.emit.number.Goals as goal
 
 pub returns-in-True : goal.returns-in-True
-unfolding meaning number_of refusal_number
-returns-in-True c = numbered c.in-True.is (λ s w. refl)
-
-pub returns-in-False : goal.returns-in-False
-unfolding meaning number_of refusal_number
-returns-in-False c = numbered c.in-False.is (λ s w. refl)
-
-pub returns-in-Unknown : goal.returns-in-Unknown
-unfolding meaning number_of refusal_number
-returns-in-Unknown c = numbered c.in-Unknown.is (λ s w. refl)
-
-pub returns-in-Passed : goal.returns-in-Passed
-unfolding meaning number_of refusal_number
-returns-in-Passed c = numbered c.in-Passed.is (λ s w. refl)
-
-pub returns-in-Selected : goal.returns-in-Selected
-unfolding meaning number_of refusal_number
-returns-in-Selected c = numbered c.in-Selected.is (λ s w. refl)
-
-pub returns-in-Admitted : goal.returns-in-Admitted
-unfolding meaning number_of refusal_number
-returns-in-Admitted c = numbered c.in-Admitted.is (λ s w. refl)
+returns-in-True c = unnumbered c.in-True.is
 
 pub returns-in-NoInput : goal.returns-in-NoInput
 unfolding meaning number_of refusal_number

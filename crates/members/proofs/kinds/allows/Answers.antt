@@ -1,19 +1,13 @@
--- `sheet::kinds::allows` meets its contract: from what `fits` says of the node.
+-- `allows` meets its contract: from what the test says of the node.
 -- Assumes nothing.
-use Rattle.members.proofs.Wanted.{allows_found, allows_nothing, found_node}
-use Rattle.members.specs.Wants.{meets}
+use Rattle.members.proofs.Wanted.{allows_nothing, allows_found, found_node}
 use Rattle.members.proofs.kinds.allows.Goals as goal
 
-pub fits-requires : goal.fits-requires
-fits-requires c =
-    found_node c.in-At.n c.in-At.is
-    c.requires
+pub test-requires : goal.test-requires
+test-requires g c = c.requires.test _ _ _ (found_node c.in-Some.n c.in-Some.is c.requires.node)
 
-pub returns-in-Nothing : goal.returns-in-Nothing
-returns-in-Nothing c =
-    allows_nothing c.args.s.now c.args.work.now (meets c.args.want) _ c.in-Nothing.is
+pub returns-in-None : goal.returns-in-None
+returns-in-None g c = λ p h. allows_nothing c.args.s.now c.args.work.now p _ c.in-None.is
 
-pub returns-in-At : goal.returns-in-At
-returns-in-At c =
-    allows_found c.args.s.now c.args.work.now (meets c.args.want) _ c.in-At.n _
-    c.in-At.is c.fits.ensures
+pub returns : goal.returns
+returns g c = λ p h. allows_found c.args.s.now c.args.work.now p _ c.in-Some.n _ c.in-Some.is (h _ _ _ _ c.test.ensures)

@@ -1,46 +1,37 @@
--- `sheet::kinds::is_version` meets its contract: the loop says that the digits from here on decide, after the number that was read.
+-- `is_version` meets its contract: a number, by its characters.
 -- Assumes nothing.
-use native.Mathlib.Omega.{arith}
-use Rattle.members.proofs.Digits.{a_digit, above_digits, below_digits, counting, digits_ended, no_digit, one_more, too_many}
+use mathlib.Core.Path.{sym, ◌∙◌}
+use Rattle.strings.specs.declared.rows.Kind.TheVariants as kinds
+use Rattle.members.proofs.Shapes.{alike, no_version, tagged, unlike}
+use Rattle.members.proofs.Walks.{room}
+use Rattle.members.proofs.Wanted.{version_places, version_told}
 use Rattle.members.proofs.kinds.is_version.Goals as goal
 
-pub loop-i-init : goal.loop-i-init
-loop-i-init c = counting c.args.s.now c.args.from c.args.end c.requires.0 c.requires.1
+pub kind_at-requires : goal.kind_at-requires
+kind_at-requires c = room c.requires
 
-pub bounds-s-i : goal.bounds-s-i
-bounds-s-i c = omega (arith, c.loop-i.invariant.upto)
+pub returns-then-ne : goal.returns-then-ne
+returns-then-ne c = no_version _ (λ e. unlike c.kind_at.result kinds.Number c.ne.ensures c.if-ne.true (tagged c.requires _ c.kind_at.ensures ∙ e))
 
-pub returns-then-c-lt48 : goal.returns-then-c-lt48
-returns-then-c-lt48 c =
-    no_digit c.loop-i.invariant c.loop-i-test.true
-    (below_digits _ c.if-c-lt48.true)
+pub start_at-requires : goal.start_at-requires
+start_at-requires c = room c.requires
 
-pub returns-then-c-gt57 : goal.returns-then-c-gt57
-returns-then-c-gt57 c =
-    no_digit c.loop-i.invariant c.loop-i-test.true
-    (above_digits _ c.if-c-gt57.true)
+pub end_at-requires : goal.end_at-requires
+end_at-requires c = room c.requires
 
-pub overflow_mul-n : goal.overflow_mul-n
-overflow_mul-n c = omega (arith, c.loop-i.invariant.small)
+pub slice_bounds-is_version_number-count : goal.slice_bounds-is_version_number-count
+slice_bounds-is_version_number-count c =
+    (version_places c.requires (sym (alike c.kind_at.result kinds.Number c.ne.ensures c.if-ne.false) ∙ c.kind_at.ensures) _ _ c.start_at.ensures c.end_at.ensures).0
 
-pub overflow_add-n : goal.overflow_add-n
-overflow_add-n c =
-    omega (arith, c.loop-i.invariant.small)
+pub slice_bounds-is_version_number-start : goal.slice_bounds-is_version_number-start
+slice_bounds-is_version_number-start c =
+    (version_places c.requires (sym (alike c.kind_at.result kinds.Number c.ne.ensures c.if-ne.false) ∙ c.kind_at.ensures) _ _ c.start_at.ensures c.end_at.ensures).0
 
-pub returns-then-n-gt4294967295 : goal.returns-then-n-gt4294967295
-returns-then-n-gt4294967295 c =
-    too_many c.loop-i.invariant
-    c.loop-i-test.true
-    (a_digit _ c.if-c-lt48.false c.if-c-gt57.false) c.if-n-gt4294967295.true
-
-pub overflow_add-i : goal.overflow_add-i
-overflow_add-i c = omega (arith, c.loop-i.invariant.upto)
-
-pub loop-i-preserved : goal.loop-i-preserved
-loop-i-preserved c =
-    one_more c.loop-i.invariant
-    c.loop-i-test.true
-    (a_digit _ c.if-c-lt48.false c.if-c-gt57.false) c.if-n-gt4294967295.false
+pub slice_bounds-is_version_number-end : goal.slice_bounds-is_version_number-end
+slice_bounds-is_version_number-end c =
+    (version_places c.requires (sym (alike c.kind_at.result kinds.Number c.ne.ensures c.if-ne.false) ∙ c.kind_at.ensures) _ _ c.start_at.ensures c.end_at.ensures).1
 
 pub returns : goal.returns
-returns c = digits_ended c.loop-i.invariant c.loop-i-test.false
+returns c =
+    version_told c.requires (sym (alike c.kind_at.result kinds.Number c.ne.ensures c.if-ne.false) ∙ c.kind_at.ensures) _ _ c.start_at.ensures c.end_at.ensures
+    c.is_version_number.ensures

@@ -1,54 +1,28 @@
 -- `matches` meets its contract: up to the first escape a byte of the text is one of the sheet, and from there on `spells` answers.
 -- Assumes nothing.
 use native.Mathlib.Omega.{arith}
-use Rattle.members.proofs.Words.{plain_ended, plain_escape, plain_in, plain_like, plain_long, plain_unlike, plainly}
+use Rattle.members.proofs.Words.{plain_ended, plain_escape, plain_like, plain_spelled, plain_unlike, plainly}
+use Rattle.members.proofs.word.matches.Goals.{then-b-eq34-via-else-b-eq34+then-b-w, then-b-eq34-via-then-b-eq34}
 use Rattle.members.proofs.word.matches.Goals as goal
 
-pub loop-at-init : goal.loop-at-init
-loop-at-init c =
-    plainly c.args.s.now c.args.at c.args.word.now c.requires
-
-pub overflow_add-b : goal.overflow_add-b
-overflow_add-b c = omega (arith, plain_in c.loop-at.invariant)
-
-pub bounds-s-at : goal.bounds-s-at
-bounds-s-at c = plain_in c.loop-at.invariant
-
-pub returns-then-b-eq34 : goal.returns-then-b-eq34
-returns-then-b-eq34 c = plain_ended c.loop-at.invariant c.if-b-eq34.true
-
-pub overflow_add-at : goal.overflow_add-at
-overflow_add-at c = omega (arith, plain_in c.loop-at.invariant)
-
-pub slice_bounds-spells-count : goal.slice_bounds-spells-count
-slice_bounds-spells-count c = omega (arith, c.loop-at.invariant.upto)
-
-pub spells-requires : goal.spells-requires
-spells-requires c = c.loop-at.invariant.on
+pub loop-i-init : goal.loop-i-init
+loop-i-init c = plainly c.args.s.now c.args.at c.args.word.now c.requires
 
 pub returns-then-b-eq92 : goal.returns-then-b-eq92
-returns-then-b-eq92 c = plain_escape c.loop-at.invariant c.spells.ensures
+returns-then-b-eq92 c = plain_escape c.loop-i.invariant c.spells.ensures
 
-pub returns-then-i-word : goal.returns-then-i-word
-returns-then-i-word c =
-    plain_long c.loop-at.invariant c.if-b-eq34.false
-    c.if-b-eq92.false c.if-i-word.true
+pub returns-then-b-eq34 : goal.returns-then-b-eq34
+returns-then-b-eq34 c =
+    elim c.then-b-eq34.branch [
+      | then-b-eq34-via-then-b-eq34 w ↦
+          plain_ended c.loop-i.invariant w.if-b-eq34.true c.loop-i-test.true
+      | then-b-eq34-via-else-b-eq34+then-b-w w ↦
+          plain_unlike c.loop-i.invariant w.if-b-eq34.false c.if-b-eq92.false c.loop-i-test.true w.if-b-w.true
+    ]
 
-pub bounds-word-i : goal.bounds-word-i
-bounds-word-i c = omega (arith, c.loop-at.invariant.upto)
+pub loop-i-preserved : goal.loop-i-preserved
+loop-i-preserved c =
+    plain_like c.loop-i.invariant c.if-b-eq34.false c.if-b-eq92.false c.loop-i-test.true c.if-b-w.false
 
-pub returns-then-b-word : goal.returns-then-b-word
-returns-then-b-word c =
-    plain_unlike c.loop-at.invariant c.if-b-eq34.false c.if-b-eq92.false
-    c.if-i-word.false c.if-b-word.true
-
-pub overflow_add-i : goal.overflow_add-i
-overflow_add-i c = omega (arith, c.loop-at.invariant.upto)
-
-pub loop-at-smaller : goal.loop-at-smaller
-loop-at-smaller c = omega (arith, c.loop-at.invariant.upto)
-
-pub loop-at-preserved : goal.loop-at-preserved
-loop-at-preserved c =
-    plain_like c.loop-at.invariant c.if-b-eq34.false c.if-b-eq92.false
-    c.if-i-word.false c.if-b-word.false
+pub returns : goal.returns
+returns c = plain_spelled c.loop-i.invariant (omega arith)

@@ -16,12 +16,12 @@ decreases-equal_parts l = 2 * l.left + 1
 
 abbrev pub invariant-equal_parts-loop-p : goal.invariant-equal_parts-loop-p
 invariant-equal_parts-loop-p l =
-    Comparing l.s (table l.work) (alike (sheet_in l.s) l.left (frames_of l.s (table l.work) l.frames)) l.named
-    (part_at (sheet_in l.s) l.s (table l.work) (frames_of l.s (table l.work) l.frames) l.a)
-    (part_at (sheet_in l.s) l.s (table l.work) (frames_of l.s (table l.work) l.frames) l.b)
-    (alike_nodes l.s (table l.work) (alike (sheet_in l.s) l.left (frames_of l.s (table l.work) l.frames)) l.named
-    (part_at (sheet_in l.s) l.s (table l.work) (frames_of l.s (table l.work) l.frames) l.a)
-    (part_at (sheet_in l.s) l.s (table l.work) (frames_of l.s (table l.work) l.frames) l.b)
+    Comparing l.s (table l.work) (alike (sheet_in l.s) l.left (frames_of l.s (table l.work) l.scope.frames)) l.named
+    (part_at (sheet_in l.s) l.s (table l.work) (frames_of l.s (table l.work) l.scope.frames) l.a)
+    (part_at (sheet_in l.s) l.s (table l.work) (frames_of l.s (table l.work) l.scope.frames) l.b)
+    (alike_nodes l.s (table l.work) (alike (sheet_in l.s) l.left (frames_of l.s (table l.work) l.scope.frames)) l.named
+    (part_at (sheet_in l.s) l.s (table l.work) (frames_of l.s (table l.work) l.scope.frames) l.a)
+    (part_at (sheet_in l.s) l.s (table l.work) (frames_of l.s (table l.work) l.scope.frames) l.b)
     (kids l.s (table l.work) l.a.node l.named) (kids l.s (table l.work) l.b.node l.named)) l.x l.y
 
 abbrev pub decreases-equal_parts-loop-p : goal.decreases-equal_parts-loop-p

@@ -19,9 +19,9 @@ loop-x-init c = look_begins true c.requires.2 c.requires.3 c.of-c.ensures
 pub next-requires : goal.next-requires
 next-requires c = (c.requires.0, c.loop-x.invariant.walk.within)
 
-pub returns-in-End : goal.returns-in-End
-returns-in-End c =
-    looked_all c.loop-x.invariant (child_end c.loop-x.invariant.walk c.next.ensures c.in-End.is)
+pub returns : goal.returns
+returns c =
+    looked_all c.loop-x.invariant (child_end c.loop-x.invariant.walk c.next.ensures c.in_default.is)
     (key_none c.args.s.now (table c.args.work.now) (text_at c.args.s.now c.args.key))
 
 pub start_at-requires : goal.start_at-requires
@@ -29,8 +29,8 @@ start_at-requires c =
     name_room c.args.s.now c.args.work.now c.requires.0.rows
     (child_named c.args.s.now (table c.args.work.now)
     (looked_at c.loop-x.invariant
-    (child_given c.loop-x.invariant.walk c.next.ensures c.in-Is.x
-    c.in-Is.is)))
+    (child_given c.loop-x.invariant.walk c.next.ensures c.in-Some.x
+    c.in-Some.is)))
 
 pub same-requires : goal.same-requires
 same-requires c = (
@@ -39,24 +39,24 @@ same-requires c = (
       (child_named c.args.s.now (table c.args.work.now)
       (looked_at c.loop-x.invariant
       (child_given c.loop-x.invariant.walk c.next.ensures
-      c.in-Is.x c.in-Is.is))) c.start_at.ensures,
+      c.in-Some.x c.in-Some.is))) c.start_at.ensures,
 )
 
 pub returns-then-same : goal.returns-then-same
 returns-then-same c =
     looked_here c.loop-x.invariant
-    (child_given c.loop-x.invariant.walk c.next.ensures c.in-Is.x c.in-Is.is)
+    (child_given c.loop-x.invariant.walk c.next.ensures c.in-Some.x c.in-Some.is)
     (key_here c.args.s.now (table c.args.work.now) (text_at c.args.s.now c.args.key) _ _
     c.start_at.ensures c.same.ensures c.if-same.true)
 
 pub loop-x-smaller : goal.loop-x-smaller
 loop-x-smaller c =
     (child_given c.loop-x.invariant.walk c.next.ensures
-    c.in-Is.x c.in-Is.is).falls
+    c.in-Some.x c.in-Some.is).falls
 
 pub loop-x-preserved : goal.loop-x-preserved
 loop-x-preserved c =
     looked_on c.loop-x.invariant
-    (child_given c.loop-x.invariant.walk c.next.ensures c.in-Is.x c.in-Is.is)
+    (child_given c.loop-x.invariant.walk c.next.ensures c.in-Some.x c.in-Some.is)
     (key_on c.args.s.now (table c.args.work.now) (text_at c.args.s.now c.args.key) _ _
     c.start_at.ensures c.same.ensures c.if-same.false)

@@ -12,11 +12,11 @@ use Rattle.operands.proofs.holds.is_element.Given as goal
 abbrev pub invariant-loop-x : goal.invariant-loop-x
 invariant-loop-x l =
     Looking l.s (table l.work) false
-    (one_alike (alike (sheet_in l.s) l.left (frames_of l.s (table l.work) l.frames)) (operand_of l.s (table l.work) l.o)
-    (each_node (part_at (sheet_in l.s) l.s (table l.work) (frames_of l.s (table l.work) l.frames) l.whole)
+    (one_alike (alike (sheet_in l.s) l.left (frames_of l.s (table l.work) l.scope.frames)) (operand_of l.s (table l.work) l.o)
+    (each_node (part_at (sheet_in l.s) l.s (table l.work) (frames_of l.s (table l.work) l.scope.frames) l.whole)
     (kids l.s (table l.work) l.whole.node false)))
-    (λ ks. one_alike (alike (sheet_in l.s) l.left (frames_of l.s (table l.work) l.frames)) (operand_of l.s (table l.work) l.o)
-    (each_node (part_at (sheet_in l.s) l.s (table l.work) (frames_of l.s (table l.work) l.frames) l.whole) ks)) l.c
+    (λ ks. one_alike (alike (sheet_in l.s) l.left (frames_of l.s (table l.work) l.scope.frames)) (operand_of l.s (table l.work) l.o)
+    (each_node (part_at (sheet_in l.s) l.s (table l.work) (frames_of l.s (table l.work) l.scope.frames) l.whole) ks)) l.c
 
 abbrev pub decreases-loop-x : goal.decreases-loop-x
 decreases-loop-x l = l.c.left

@@ -1,4 +1,4 @@
--- `order::links::chain` meets its contract: the links that are written, and those still to be, are the whole chain.
+-- `chain` meets its contract: the links that are written, and those still to be, are the whole chain.
 -- Assumes nothing.
 use native.Mathlib.Omega.{arith}
 use mathlib.Core.Path.{ap, refl, ◌∙◌}
@@ -6,36 +6,36 @@ use lib.ListN.{length, length-set}
 use Rattle.order.proofs.Chains.{chained_end, chained_step}
 use Rattle.order.proofs.links.chain.Goals as goal
 
-pub loop-i-init : goal.loop-i-init
-loop-i-init c = record { long = refl; here = c.requires.0.here; within = omega arith; same = refl }
+pub loop-name-init : goal.loop-name-init
+loop-name-init c = record { long = refl; here = c.requires.0.here; within = omega arith; same = refl }
 
 pub link-requires : goal.link-requires
 link-requires c =
     record {
-      long = omega (arith, c.loop-i.invariant.long, c.requires.0.long);
-      here = c.loop-i.invariant.here;
-      there = omega (arith, c.requires.1 c.loop-i.i c.loop-i-test.true);
+      long = omega (arith, c.loop-name.invariant.long, c.requires.0.long);
+      here = c.loop-name.invariant.here;
+      there = omega (arith, c.requires.1 c.loop-name.name-index c.loop-name-test.true);
     }
 
-pub loop-i-preserved : goal.loop-i-preserved
-loop-i-preserved c =
+pub loop-name-preserved : goal.loop-name-preserved
+loop-name-preserved c =
     rw c.link.ensures
-    (chained_step c.loop-i.invariant c.loop-i-test.true
+    (chained_step c.loop-name.invariant c.loop-name-test.true
     c.requires.1)
 
 pub link-requires-2 : goal.link-requires-2
 link-requires-2 c =
     record {
-      long = omega (arith, c.loop-i.invariant.long, c.requires.0.long);
-      here = c.loop-i.invariant.here;
+      long = omega (arith, c.loop-name.invariant.long, c.requires.0.long);
+      here = c.loop-name.invariant.here;
       there = c.requires.0.there;
     }
 
 pub shape_of-work : goal.shape_of-work
 shape_of-work c =
-    ap length c.link-2.ensures ∙ length-set c.loop-i.work _ _ ∙ c.loop-i.invariant.long
+    ap length c.link-2.ensures ∙ length-set c.loop-name.work _ _ ∙ c.loop-name.invariant.long
 
 pub returns : goal.returns
 returns c =
-    c.link-2.ensures ∙ chained_end c.loop-i.invariant
-    c.loop-i-test.false
+    c.link-2.ensures ∙ chained_end c.loop-name.invariant
+    c.loop-name-test.false

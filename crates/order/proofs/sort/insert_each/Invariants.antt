@@ -8,6 +8,3 @@ use Rattle.order.proofs.sort.insert_each.Given as goal
 
 abbrev pub invariant-loop-i : goal.invariant-loop-i
 invariant-loop-i l = (l.i ≤ length l.initial.nodes) × (l.nodes ≡ sorted_from l.s l.work l.initial.nodes l.i)
-
-abbrev pub decreases-loop-i : goal.decreases-loop-i
-decreases-loop-i l = l.i

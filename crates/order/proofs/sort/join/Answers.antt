@@ -1,11 +1,10 @@
--- `order::sort::join` meets its contract: it is in order, or the first part is copied and merged with the other.
+-- `join` meets its contract: it is in order, or the first part is copied and merged with the other.
 -- Assumes nothing.
-use mathlib.Core.Path.{ap, sym, ◌∙◌}
+use mathlib.Core.Path.{sym, ◌∙◌}
 use Prim.Native.Nat.{◌-◌}
 use native.Mathlib.Omega.{arith}
-use lib.ListN.{length}
 use Rattle.order.proofs.ByText.{text_get_d}
-use Rattle.order.proofs.Joining.{copied, front, halves, in_order_lem, merged}
+use Rattle.order.proofs.Joining.{halves, in_order_lem, merged}
 use Rattle.order.proofs.sort.join.Goals as goal
 
 pub is_after-requires : goal.is_after-requires
@@ -15,35 +14,13 @@ is_after-requires c = (
   text_get_d c.args.s.now c.args.work.now c.args.nodes.now c.args.mid c.requires.0.texts c.requires.0.within,
 )
 
-pub slice_bounds-copy-end-then-is_after : goal.slice_bounds-copy-end-then-is_after
-slice_bounds-copy-end-then-is_after c =
-    sym (front c.args.s.now c.args.work.now c.args.nodes.now c.args.mid c.requires.0)
-
-pub copy-requires : goal.copy-requires
-copy-requires c =
-    rw (front c.args.s.now c.args.work.now c.args.nodes.now c.args.mid c.requires.0) c.requires.1
-
-pub slice_bounds-merge-end-then-is_after : goal.slice_bounds-merge-end-then-is_after
-slice_bounds-merge-end-then-is_after c =
-    sym
-    (ap length
-    (copied c.args.s.now c.args.work.now c.args.nodes.now c.args.mid c.requires.0
-    c.copy.new.to _ c.copy.ensures) ∙ front
-    c.args.s.now c.args.work.now c.args.nodes.now c.args.mid c.requires.0)
-
 pub merge-requires : goal.merge-requires
-merge-requires c =
-    halves c.args.s.now c.args.work.now c.args.nodes.now c.args.mid c.requires.0 _
-    (copied c.args.s.now c.args.work.now c.args.nodes.now c.args.mid c.requires.0 c.copy.new.to _
-    c.copy.ensures)
+merge-requires c = halves c.args.s.now c.args.work.now c.args.nodes.now c.args.mid c.requires.0 _ c.copy_from_slice.ensures.after
 
 pub returns-then-is_after : goal.returns-then-is_after
 returns-then-is_after c =
-    merged c.args.s.now c.args.work.now c.args.nodes.now c.args.mid c.requires.0 _
-    (copied c.args.s.now c.args.work.now c.args.nodes.now c.args.mid c.requires.0 c.copy.new.to _
-    c.copy.ensures) _ c.merge.ensures
+    merged c.args.s.now c.args.work.now c.args.nodes.now c.args.mid c.requires.0 _ c.copy_from_slice.ensures.after _ c.merge.ensures
 
 pub returns-else-is_after : goal.returns-else-is_after
 returns-else-is_after c =
-    in_order_lem c.args.s.now c.args.work.now c.args.nodes.now c.args.mid c.requires.0
-    (sym c.is_after.ensures ∙ c.if-is_after.false)
+    in_order_lem c.args.s.now c.args.work.now c.args.nodes.now c.args.mid c.requires.0 (sym c.is_after.ensures ∙ c.if-is_after.false)

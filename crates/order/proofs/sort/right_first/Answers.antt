@@ -1,8 +1,9 @@
 -- `order::sort::right_first` meets its contract: where the right has a node left, by the two nodes.
 -- Assumes nothing.
 use native.Mathlib.Omega.{arith}
-use lib.ListN.{drop_of_length-le}
+use lib.ListN.{length, drop_of_length-le}
 use lib.Seq.{drop-cons}
+use borrow.Author.Tests.{le-ltb}
 use Rattle.order.proofs.ByText.{text_get_d, text_next}
 use Rattle.order.specs.ByText.{is_above}
 use Rattle.order.proofs.sort.right_first.Goals as goal
@@ -22,4 +23,4 @@ returns-then-j-right c =
 pub returns-else-j-right : goal.returns-else-j-right
 unfolding is_above
 returns-else-j-right c =
-    rw (drop_of_length-le c.args.right.now {i = c.args.j} (omega arith), is_above)
+    rw (drop_of_length-le c.args.right.now {i = c.args.j} (omega arith), is_above) (le-ltb c.args.j (length c.args.right.now) c.if-j-right.false)

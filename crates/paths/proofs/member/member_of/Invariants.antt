@@ -1,4 +1,4 @@
--- `operands::member::member_of_lem` meets its contract: what is found further on, or else what was found before, is the member.
+-- `paths::member::member_of` meets its contract: what is found further on, or else what was found before, is the member.
 -- Assumes nothing.
 use Prim.Native.Nat.{◌-◌}
 use Rattle.paths.proofs.Lookup.{Picking}

@@ -1,22 +1,18 @@
--- `operands::operand::or_null` meets its contract: by what was found.
+-- `paths::operand::or_null` meets its contract: by what was found.
 -- Assumes nothing.
-use mathlib.Core.Path.{refl}
-use Rattle.paths.proofs.Reaching.{null_at, null_none}
-use Rattle.paths.specs.Lazy.{or_null}
-use Rattle.paths.specs.Reached.{looked_of}
+use borrow.Author.Rules.{rules}
+use mathlib.Core.Path.{◌≡◌}
+use Rattle.std.specs.Prelude.{Ok, Some}
+use Rattle.paths.proofs.Reaching.{null_at, null_other}
 use Rattle.paths.proofs.operand.or_null.Goals as goal
+use Rattle.paths.proofs.operand.or_null.Goals.{in_default-via-in-Ok+in_default, in_default-via-in_default}
 
-pub returns-in-At : goal.returns-in-At
-returns-in-At c = null_at c.in-At.is
+pub returns-in-Ok-Some : goal.returns-in-Ok-Some
+returns-in-Ok-Some c = let q : c.args.found ≡ Ok (Some c.in-Ok-Some.o) = search rules in null_at q
 
-pub returns-in-Nothing : goal.returns-in-Nothing
-unfolding or_null looked_of
-returns-in-Nothing c = null_none c.in-Nothing.is c.nothing.ensures (λ s t e. refl)
-
-pub returns-in-Unknown : goal.returns-in-Unknown
-unfolding or_null looked_of
-returns-in-Unknown c = null_none c.in-Unknown.is c.nothing-in-Unknown.ensures (λ s t e. refl)
-
-pub returns-in-NoId : goal.returns-in-NoId
-unfolding or_null looked_of
-returns-in-NoId c = null_none c.in-NoId.is c.nothing-in-NoId.ensures (λ s t e. refl)
+pub returns-in_default : goal.returns-in_default
+returns-in_default c =
+    elim c.in_default.branch [
+      | in_default-via-in-Ok+in_default w ↦ null_other (λ p e. search rules) c.nothing.ensures
+      | in_default-via-in_default w ↦ null_other (λ p e. search rules) c.nothing.ensures
+    ]

@@ -6,8 +6,8 @@ use lib.ListN.{length}
 use Rattle.paths.proofs.Matching.{Alongside}
 use Rattle.paths.proofs.path.part_is.Given as goal
 
-abbrev pub invariant-loop-name : goal.invariant-loop-name
-invariant-loop-name l = Alongside l.path l.s l.name l.n
+abbrev pub invariant-loop-n : goal.invariant-loop-n
+invariant-loop-n l = Alongside l.path l.s l.name l.n
 
-abbrev pub decreases-loop-name : goal.decreases-loop-name
-decreases-loop-name l = length l.path - l.n
+abbrev pub decreases-loop-n : goal.decreases-loop-n
+decreases-loop-n l = length l.path - l.n

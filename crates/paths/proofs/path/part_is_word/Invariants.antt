@@ -1,12 +1,7 @@
--- `operands::path::part_is_word` meets its contract: up to the first escape or difference the part's bytes are those that stand there, and the word's.
+-- `paths::path::part_is_word` meets its contract: up to the first escape or difference the part's bytes are those that stand there, and the word's.
 -- Assumes nothing.
-use Prim.Native.Nat.{◌-◌}
-use lib.ListN.{length}
 use Rattle.paths.proofs.Matching.{Spelled}
 use Rattle.paths.proofs.path.part_is_word.Given as goal
 
 abbrev pub invariant-loop-n : goal.invariant-loop-n
 invariant-loop-n l = Spelled l.path l.word l.n
-
-abbrev pub decreases-loop-n : goal.decreases-loop-n
-decreases-loop-n l = length l.path - l.n

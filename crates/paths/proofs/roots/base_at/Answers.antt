@@ -1,25 +1,10 @@
--- `operands::roots::base_at` meets its contract: by the root.
+-- `paths::roots::base_at` meets its contract: by the root.
 -- Assumes nothing.
 use Rattle.paths.proofs.Unbound.{base_args, base_fields, base_none, base_old}
 use Rattle.paths.proofs.roots.base_at.Goals as goal
 
-pub returns-in-Unknown : goal.returns-in-Unknown
-returns-in-Unknown c = base_none c.args.roots c.args.root (rw c.in-Unknown.is)
-
-pub returns-in-Id : goal.returns-in-Id
-returns-in-Id c = base_none c.args.roots c.args.root (rw c.in-Id.is)
-
-pub returns-in-Entity : goal.returns-in-Entity
-returns-in-Entity c = base_none c.args.roots c.args.root (rw c.in-Entity.is)
-
-pub returns-in-Version : goal.returns-in-Version
-returns-in-Version c = base_none c.args.roots c.args.root (rw c.in-Version.is)
-
-pub returns-in-FromState : goal.returns-in-FromState
-returns-in-FromState c = base_none c.args.roots c.args.root (rw c.in-FromState.is)
-
-pub returns-in-ToState : goal.returns-in-ToState
-returns-in-ToState c = base_none c.args.roots c.args.root (rw c.in-ToState.is)
+pub returns-in_default : goal.returns-in_default
+returns-in_default c = base_none c.args.roots c.args.root c.in_default.not-Args c.in_default.not-Fields c.in_default.not-OldFields
 
 pub returns-in-Args : goal.returns-in-Args
 returns-in-Args c =

@@ -1,26 +1,28 @@
--- `operands::roots::root_at` meets its contract: by the root.
+-- `paths::roots::root_at` meets its contract: by the root.
 -- Assumes nothing.
-use Rattle.paths.proofs.Unbound.{told_args, told_entity, told_fields, told_from, told_id, told_no_from, told_no_id, told_old, told_to, told_unknown, told_version}
+use borrow.Author.Rules.{rules}
+use mathlib.Core.Path.{◌≡◌}
+use Rattle.std.specs.Prelude.{Err, None, Some}
+use Rattle.paths.specs.declared.operand.LookupError.TheVariants as lookups
+use Rattle.paths.proofs.Unbound.{told_args, told_entity, told_fields, told_from, told_id, told_no_id, told_old, told_to, told_unknown, told_version}
 use Rattle.paths.proofs.roots.root_at.Goals as goal
 
-pub returns-then-roots-eq0 : goal.returns-then-roots-eq0
-returns-then-roots-eq0 c =
-    told_no_id c.args.roots c.in-Id.is
-    c.if-roots-eq0.true
+pub returns-in_err-ok_or-in-Id : goal.returns-in_err-ok_or-in-Id
+returns-in_err-ok_or-in-Id c =
+    let e : c.args.roots.id ≡ None = search rules in
+    let r : c.from_residual.result ≡ Err lookups.NoId = search rules in
+    rw r (told_no_id c.args.roots c.in-Id.is e)
 
-pub returns-then-roots-eq0-2 : goal.returns-then-roots-eq0-2
-returns-then-roots-eq0-2 c =
-    told_no_from c.args.roots c.in-FromState.is
-    c.if-roots-eq0-2.true
+pub returns-in_ok-ok_or-in-Id : goal.returns-in_ok-ok_or-in-Id
+returns-in_ok-ok_or-in-Id c =
+    let e : c.args.roots.id ≡ Some c.in_ok-ok_or-in-Id.field-0 = search rules in
+    rw c.text_at.ensures (told_id c.args.roots c.in-Id.is c.in_ok-ok_or-in-Id.field-0 e)
+
+pub returns-in-FromState : goal.returns-in-FromState
+returns-in-FromState c = told_from c.args.roots c.in-FromState.is (λ q. search rules) (λ n q. search rules)
 
 pub returns-in-Unknown : goal.returns-in-Unknown
 returns-in-Unknown c = told_unknown c.args.roots c.in-Unknown.is
-
-pub returns-else-roots-eq0 : goal.returns-else-roots-eq0
-returns-else-roots-eq0 c =
-    rw c.text_at.ensures
-    (told_id c.args.roots
-    c.in-Id.is c.if-roots-eq0.false)
 
 pub returns-in-Entity : goal.returns-in-Entity
 returns-in-Entity c =
@@ -28,13 +30,7 @@ returns-in-Entity c =
     (told_entity c.args.roots c.in-Entity.is)
 
 pub returns-in-Version : goal.returns-in-Version
-returns-in-Version c = told_version c.args.roots c.in-Version.is
-
-pub returns-else-roots-eq0-2 : goal.returns-else-roots-eq0-2
-returns-else-roots-eq0-2 c =
-    rw c.text_at-in-FromState.ensures
-    (told_from c.args.roots
-    c.in-FromState.is c.if-roots-eq0-2.false)
+returns-in-Version c = rw c.at.ensures (told_version c.args.roots c.in-Version.is)
 
 pub returns-in-ToState : goal.returns-in-ToState
 returns-in-ToState c =

@@ -1,134 +1,21 @@
--- `operands::roots::root_named` meets its contract: the first word that is the path's first part.
+-- `paths::roots::root_named` meets its contract: the first word that is the path's first part.
 -- Assumes nothing.
-use mathlib.Core.Path.{sym, ◌∙◌}
+use mathlib.Core.Path.{refl, sym, ◌∙◌}
 use Rattle.paths.specs.Rooted.{root_of}
-use Rattle.json_text.specs.Bytes.{find}
+use Rattle.paths.proofs.Naming.{named_here, named_none, named_on}
 use Rattle.paths.proofs.roots.root_named.Goals as goal
 
+pub loop-word-init : goal.loop-word-init
+unfolding root_of
+loop-word-init c = (refl, refl)
+
 pub returns-then-part_is_word : goal.returns-then-part_is_word
-unfolding root_of find
-returns-then-part_is_word c = rw (sym c.part_is_word.ensures ∙ c.if-part_is_word.true, find)
+returns-then-part_is_word c =
+    sym (named_here _ _ c.loop-word.word-index c.loop-word.invariant.1 _ c.loop-word-test.true (sym c.part_is_word.ensures ∙ c.if-part_is_word.true))
 
-pub returns-then-part_is_word-2 : goal.returns-then-part_is_word-2
-unfolding root_of find
-returns-then-part_is_word-2 c =
-    rw (
-      sym c.part_is_word.ensures ∙ c.if-part_is_word.false,
-      sym c.part_is_word-2.ensures ∙ c.if-part_is_word-2.true,
-      find,
-    )
-
-pub returns-then-part_is_word-3 : goal.returns-then-part_is_word-3
-unfolding root_of find
-returns-then-part_is_word-3 c =
-    rw (
-      sym c.part_is_word.ensures ∙
-          c.if-part_is_word.false,
-      sym c.part_is_word-2.ensures ∙ c.if-part_is_word-2.false,
-      sym c.part_is_word-3.ensures ∙ c.if-part_is_word-3.true,
-      find,
-    )
-
-pub returns-then-part_is_word-4 : goal.returns-then-part_is_word-4
-unfolding root_of find
-returns-then-part_is_word-4 c =
-    rw (
-      sym c.part_is_word.ensures ∙
-          c.if-part_is_word.false,
-      sym c.part_is_word-2.ensures ∙ c.if-part_is_word-2.false,
-      sym c.part_is_word-3.ensures ∙ c.if-part_is_word-3.false,
-      sym c.part_is_word-4.ensures ∙ c.if-part_is_word-4.true,
-      find,
-    )
-
-pub returns-then-part_is_word-5 : goal.returns-then-part_is_word-5
-unfolding root_of find
-returns-then-part_is_word-5 c =
-    rw (
-      sym c.part_is_word.ensures ∙
-          c.if-part_is_word.false,
-      sym c.part_is_word-2.ensures ∙ c.if-part_is_word-2.false,
-      sym c.part_is_word-3.ensures ∙ c.if-part_is_word-3.false,
-      sym c.part_is_word-4.ensures ∙ c.if-part_is_word-4.false,
-      sym c.part_is_word-5.ensures ∙ c.if-part_is_word-5.true,
-      find,
-    )
-
-pub returns-then-part_is_word-6 : goal.returns-then-part_is_word-6
-unfolding root_of find
-returns-then-part_is_word-6 c =
-    rw (
-      sym c.part_is_word.ensures ∙
-          c.if-part_is_word.false,
-      sym c.part_is_word-2.ensures ∙ c.if-part_is_word-2.false,
-      sym c.part_is_word-3.ensures ∙ c.if-part_is_word-3.false,
-      sym c.part_is_word-4.ensures ∙ c.if-part_is_word-4.false,
-      sym c.part_is_word-5.ensures ∙ c.if-part_is_word-5.false,
-      sym c.part_is_word-6.ensures ∙ c.if-part_is_word-6.true,
-      find,
-    )
-
-pub returns-then-part_is_word-7 : goal.returns-then-part_is_word-7
-unfolding root_of find
-returns-then-part_is_word-7 c =
-    rw (
-      sym c.part_is_word.ensures ∙
-          c.if-part_is_word.false,
-      sym c.part_is_word-2.ensures ∙ c.if-part_is_word-2.false,
-      sym c.part_is_word-3.ensures ∙ c.if-part_is_word-3.false,
-      sym c.part_is_word-4.ensures ∙ c.if-part_is_word-4.false,
-      sym c.part_is_word-5.ensures ∙ c.if-part_is_word-5.false,
-      sym c.part_is_word-6.ensures ∙ c.if-part_is_word-6.false,
-      sym c.part_is_word-7.ensures ∙ c.if-part_is_word-7.true,
-      find,
-    )
-
-pub returns-then-part_is_word-8 : goal.returns-then-part_is_word-8
-unfolding root_of find
-returns-then-part_is_word-8 c =
-    rw (
-      sym c.part_is_word.ensures ∙
-          c.if-part_is_word.false,
-      sym c.part_is_word-2.ensures ∙ c.if-part_is_word-2.false,
-      sym c.part_is_word-3.ensures ∙ c.if-part_is_word-3.false,
-      sym c.part_is_word-4.ensures ∙ c.if-part_is_word-4.false,
-      sym c.part_is_word-5.ensures ∙ c.if-part_is_word-5.false,
-      sym c.part_is_word-6.ensures ∙ c.if-part_is_word-6.false,
-      sym c.part_is_word-7.ensures ∙ c.if-part_is_word-7.false,
-      sym c.part_is_word-8.ensures ∙ c.if-part_is_word-8.true,
-      find,
-    )
-
-pub returns-then-part_is_word-9 : goal.returns-then-part_is_word-9
-unfolding root_of find
-returns-then-part_is_word-9 c =
-    rw (
-      sym c.part_is_word.ensures ∙
-          c.if-part_is_word.false,
-      sym c.part_is_word-2.ensures ∙ c.if-part_is_word-2.false,
-      sym c.part_is_word-3.ensures ∙ c.if-part_is_word-3.false,
-      sym c.part_is_word-4.ensures ∙ c.if-part_is_word-4.false,
-      sym c.part_is_word-5.ensures ∙ c.if-part_is_word-5.false,
-      sym c.part_is_word-6.ensures ∙ c.if-part_is_word-6.false,
-      sym c.part_is_word-7.ensures ∙ c.if-part_is_word-7.false,
-      sym c.part_is_word-8.ensures ∙ c.if-part_is_word-8.false,
-      sym c.part_is_word-9.ensures ∙ c.if-part_is_word-9.true,
-      find,
-    )
+pub loop-word-preserved : goal.loop-word-preserved
+loop-word-preserved c =
+    (refl, named_on _ _ c.loop-word.word-index c.loop-word.invariant.1 _ c.loop-word-test.true (sym c.part_is_word.ensures ∙ c.if-part_is_word.false))
 
 pub returns : goal.returns
-unfolding root_of find
-returns c =
-    rw (
-      sym c.part_is_word.ensures ∙
-          c.if-part_is_word.false,
-      sym c.part_is_word-2.ensures ∙ c.if-part_is_word-2.false,
-      sym c.part_is_word-3.ensures ∙ c.if-part_is_word-3.false,
-      sym c.part_is_word-4.ensures ∙ c.if-part_is_word-4.false,
-      sym c.part_is_word-5.ensures ∙ c.if-part_is_word-5.false,
-      sym c.part_is_word-6.ensures ∙ c.if-part_is_word-6.false,
-      sym c.part_is_word-7.ensures ∙ c.if-part_is_word-7.false,
-      sym c.part_is_word-8.ensures ∙ c.if-part_is_word-8.false,
-      sym c.part_is_word-9.ensures ∙ c.if-part_is_word-9.false,
-      find,
-    )
+returns c = sym (named_none _ _ c.loop-word.word-index c.loop-word.invariant.1 c.loop-word-test.false)

@@ -8,9 +8,8 @@ use lib.ListN.{get_or}
 use Rattle.json_text.specs.Placing.{read_at}
 use Rattle.strings.specs.declared.answer.Refusal.TheVariants as whys
 use Rattle.leaves.specs.declared.bracket.Sep.TheVariants as seps
-use Rattle.reader.proofs.ArrayLoop.{array_end, array_here, array_laid, array_long, array_neither, array_on, array_past, array_refused, array_starts, array_turn, reach_falls, was_bad, was_done}
+use Rattle.reader.proofs.ArrayLoop.{array_end, array_here, array_laid, array_long, array_neither, array_on, array_past, array_refused, array_starts, array_turn, reach_falls, was_done}
 use Rattle.leaves.proofs.Loops.{array_full, object_full}
-use Rattle.leaves.proofs.MemberName.{byte_inside}
 use Rattle.reader.proofs.ObjectLoop.{
   name_was_bad,
   name_was,
@@ -30,7 +29,7 @@ use Rattle.reader.proofs.ObjectLoop.{
   object_value_here,
   object_value_long,
 }
-use Rattle.leaves.proofs.Values.{told_bad, value_array, value_leaf, value_object}
+use Rattle.leaves.proofs.Values.{handed_on, told_bad, value_array, value_leaf, value_object}
 use Rattle.reader.proofs.tree.+array_object_value.Goals as goal
 
 pub array-returns-then-node-ge4096 : goal.array-returns-then-node-ge4096
@@ -41,9 +40,6 @@ array-returns-then-node-ge4096 t c =
       grown = λ i e. e;
     }
 
-pub array-opening-sep-requires : goal.array-opening-sep-requires
-array-opening-sep-requires t c = (c.requires.1, omega arith)
-
 pub array-loop-sep-init : goal.array-loop-sep-init
 array-loop-sep-init t c =
     record {
@@ -51,21 +47,6 @@ array-loop-sep-init t c =
           c.requires.1 c.if-node-ge4096.false c.opening-sep.ensures;
       grown = λ i e. e;
       marks = refl;
-    }
-
-pub array-shape_of-work-in-Neither : goal.array-shape_of-work-in-Neither
-array-shape_of-work-in-Neither t c =
-    array_long c.args.s.now c.args.left c.args.at c.args.node c.loop-sep.invariant.state
-
-pub array-shape_of-seen-in-Neither : goal.array-shape_of-seen-in-Neither
-array-shape_of-seen-in-Neither t c = c.loop-sep.invariant.marks
-
-pub array-returns-in-Neither : goal.array-returns-in-Neither
-array-returns-in-Neither t c =
-    record {
-      parsed = array_neither c.args.s.now c.args.left c.args.at c.args.node
-          (array_turn seps.Neither c.loop-sep.invariant c.in-Neither.is);
-      grown = c.loop-sep.invariant.grown;
     }
 
 pub array-lay-requires : goal.array-lay-requires
@@ -81,14 +62,6 @@ array-lay-requires t c =
       end_fits = omega (arith, h, c.requires.0.ready.bytes);
       after_fits = c.loop-sep.invariant.state.below;
     }
-
-pub array-shape_of-work-in-Shut : goal.array-shape_of-work-in-Shut
-array-shape_of-work-in-Shut t c =
-    c.lay.auto.work ∙ array_long c.args.s.now c.args.left c.args.at c.args.node
-    c.loop-sep.invariant.state
-
-pub array-shape_of-seen-in-Shut : goal.array-shape_of-seen-in-Shut
-array-shape_of-seen-in-Shut t c = c.loop-sep.invariant.marks
 
 pub array-returns-in-Shut : goal.array-returns-in-Shut
 array-returns-in-Shut t c =
@@ -117,54 +90,52 @@ array-value-requires t c =
       },
     )
 
-pub array-shape_of-work-in-Bad : goal.array-shape_of-work-in-Bad
-array-shape_of-work-in-Bad t c =
-    c.value.auto.work ∙ array_long c.args.s.now c.args.left c.args.at c.args.node
-    c.loop-sep.invariant.state
-
-pub array-shape_of-seen-in-Bad : goal.array-shape_of-seen-in-Bad
-array-shape_of-seen-in-Bad t c =
-    c.value.auto.seen ∙
-    c.loop-sep.invariant.marks
-
-pub array-returns-in-Bad : goal.array-returns-in-Bad
-array-returns-in-Bad t c =
-    record {
+pub array-returns-in_err-element-in-On : goal.array-returns-in_err-element-in-On
+array-returns-in_err-element-in-On t c =
+    rw
+    (handed_on _ c.from_residual.ensures.1)
+    (record {
       parsed = array_refused c.args.s.now c.args.left c.args.at c.args.node
-          (array_turn (seps.On c.in-On.here) c.loop-sep.invariant c.in-On.is) _
-          c.in-Bad.n
-          (was_bad _ _ _ _ c.in-Bad.n c.value.ensures.parsed
-          c.in-Bad.is);
+          (array_turn (seps.On c.in-On.here) c.loop-sep.invariant c.in-On.is) _ _ c.in_err-element-in-On.ensures.parsed;
       grown = λ i e. c.value.ensures.grown i (c.loop-sep.invariant.grown i e);
-    }
+    })
 
-pub array-following-sep-requires : goal.array-following-sep-requires
-array-following-sep-requires t c = (
+pub array-following-requires : goal.array-following-requires
+array-following-requires t c = (
   (array_past c.args.s.now c.args.left c.args.at c.args.node
-      (array_turn (seps.On c.in-On.here) c.loop-sep.invariant
-      c.in-On.is)
-      (was_done _ _ _ _ c.in-Done.p c.value.ensures.parsed
-      c.in-Done.is)).1,
+      (array_turn (seps.On c.in-On.here) c.loop-sep.invariant c.in-On.is)
+      (was_done c.in_ok-element-in-On.ensures.parsed)).1,
   omega arith,
 )
+
+pub array-returns-in_err-sep-in-On : goal.array-returns-in_err-sep-in-On
+array-returns-in_err-sep-in-On t c =
+    rw
+    (handed_on _ c.from_residual-in_err-sep-in-On.ensures.1)
+    (record {
+      parsed = array_neither c.args.s.now c.args.left c.args.at c.args.node
+          (array_on c.args.s.now c.args.left c.args.at c.args.node
+          (array_turn (seps.On c.in-On.here) c.loop-sep.invariant c.in-On.is)
+          (was_done c.in_ok-element-in-On.ensures.parsed) _ c.in_err-sep-in-On.ensures);
+      grown = λ i e. c.value.ensures.grown i (c.loop-sep.invariant.grown i e);
+    })
 
 pub array-loop-sep-smaller : goal.array-loop-sep-smaller
 array-loop-sep-smaller t c =
     let q = array_past c.args.s.now c.args.left c.args.at c.args.node
     (array_turn (seps.On c.in-On.here) c.loop-sep.invariant
     c.in-On.is)
-    (was_done _ _ _ _ c.in-Done.p c.value.ensures.parsed c.in-Done.is) in
+    (was_done c.in_ok-element-in-On.ensures.parsed) in
     rw c.in-On.is
-    (reach_falls c.args.s.now c.in-Done.p.at 93 c.in-On.here
-    c.following-sep.result q.0 q.1 c.following-sep.ensures)
+    (reach_falls c.args.s.now c.in_ok-element-in-On.element.at 93 c.in-On.here
+    _ q.0 q.1 c.in_ok-sep-in-On.ensures)
 
 pub array-loop-sep-preserved : goal.array-loop-sep-preserved
 array-loop-sep-preserved t c =
     record {
       state = array_on c.args.s.now c.args.left c.args.at c.args.node
           (array_turn (seps.On c.in-On.here) c.loop-sep.invariant c.in-On.is)
-          (was_done _ _ _ _ c.in-Done.p c.value.ensures.parsed
-          c.in-Done.is) c.following-sep.result c.following-sep.ensures;
+          (was_done c.in_ok-element-in-On.ensures.parsed) _ c.in_ok-sep-in-On.ensures;
       grown = λ i e. c.value.ensures.grown i (c.loop-sep.invariant.grown i e);
       marks = c.value.auto.seen ∙ c.loop-sep.invariant.marks;
     }
@@ -177,9 +148,6 @@ object-returns-then-node-ge4096 t c =
       grown = λ i e. e;
     }
 
-pub object-opening-sep-requires : goal.object-opening-sep-requires
-object-opening-sep-requires t c = (c.requires.1, omega arith)
-
 pub object-loop-sep-init : goal.object-loop-sep-init
 object-loop-sep-init t c =
     record {
@@ -188,21 +156,6 @@ object-loop-sep-init t c =
           c.opening-sep.ensures;
       grown = λ i e. e;
       marks = refl;
-    }
-
-pub object-shape_of-work-in-Neither : goal.object-shape_of-work-in-Neither
-object-shape_of-work-in-Neither t c =
-    object_long c.args.s.now c.args.left c.args.at c.args.node c.loop-sep.invariant.state
-
-pub object-shape_of-seen-in-Neither : goal.object-shape_of-seen-in-Neither
-object-shape_of-seen-in-Neither t c = c.loop-sep.invariant.marks
-
-pub object-returns-in-Neither : goal.object-returns-in-Neither
-object-returns-in-Neither t c =
-    record {
-      parsed = object_neither c.args.s.now c.args.left c.args.at c.args.node
-          (object_turn seps.Neither c.loop-sep.invariant c.in-Neither.is);
-      grown = c.loop-sep.invariant.grown;
     }
 
 pub object-lay-requires : goal.object-lay-requires
@@ -218,14 +171,6 @@ object-lay-requires t c =
       end_fits = omega (arith, h, c.requires.0.ready.bytes);
       after_fits = c.loop-sep.invariant.state.below;
     }
-
-pub object-shape_of-work-in-Shut : goal.object-shape_of-work-in-Shut
-object-shape_of-work-in-Shut t c =
-    c.lay.auto.work ∙ object_long c.args.s.now c.args.left c.args.at c.args.node
-    c.loop-sep.invariant.state
-
-pub object-shape_of-seen-in-Shut : goal.object-shape_of-seen-in-Shut
-object-shape_of-seen-in-Shut t c = c.loop-sep.invariant.marks
 
 pub object-returns-in-Shut : goal.object-returns-in-Shut
 object-returns-in-Shut t c =
@@ -251,37 +196,21 @@ object-name-requires t c =
       noted = object_noted c.args.s.now c.args.left c.args.at c.args.node l c.requires.0.ready.long c.requires.0.depth;
     }
 
-pub object-shape_of-work-in-Bad : goal.object-shape_of-work-in-Bad
-object-shape_of-work-in-Bad t c =
-    c.name.auto.work ∙ object_long c.args.s.now c.args.left c.args.at c.args.node
-    c.loop-sep.invariant.state
-
-pub object-shape_of-seen-in-Bad : goal.object-shape_of-seen-in-Bad
-object-shape_of-seen-in-Bad t c =
-    c.name.auto.seen ∙ c.loop-sep.invariant.marks
-
-pub object-returns-in-Bad : goal.object-returns-in-Bad
-object-returns-in-Bad t c =
+pub object-returns-in_err-spelt-in-On : goal.object-returns-in_err-spelt-in-On
+object-returns-in_err-spelt-in-On t c =
     let l = object_turn (seps.On c.in-On.here) c.loop-sep.invariant c.in-On.is in
-    let b = name_was_bad _ _ _ _ _ _ _ _ c.in-Bad.n c.name.ensures
-    c.in-Bad.is in
-    record {
-      parsed = object_name_bad c.args.s.now c.args.left c.args.at c.args.node l c.requires.0.ready.long c.requires.0.depth _
-          c.in-Bad.n b.0 b.1;
+    let b = name_was_bad _ _ _ _ _ _ _ _ _ c.in_err-spelt-in-On.ensures in
+    rw
+    (handed_on _ c.from_residual.ensures.1)
+    (record {
+      parsed = object_name_bad c.args.s.now c.args.left c.args.at c.args.node l c.requires.0.ready.long c.requires.0.depth _ _ b.0 b.1;
       grown = λ i e. subst (λ (x : List Bool). get_or x i false ≡ true) (sym b.2) (c.loop-sep.invariant.grown i e);
-    }
-
-pub object-overflow_add-count-in-Is : goal.object-overflow_add-count-in-Is
-object-overflow_add-count-in-Is t c =
-    omega (
-      arith,
-      c.loop-sep.invariant.state.below,
-    )
+    })
 
 pub object-value-requires : goal.object-value-requires
 object-value-requires t c =
     let l = object_turn (seps.On c.in-On.here) c.loop-sep.invariant c.in-On.is in
-    let a = name_was _ _ _ _ _ _ _ _ c.in-Is.k c.name.ensures c.in-Is.is in
+    let a = name_was _ _ _ _ _ _ _ _ _ c.in_ok-spelt-in-On.ensures in
     let h = object_value_here c.args.s.now c.args.left c.args.at c.args.node l c.requires.0.ready.long c.requires.0.depth a in (
       omega (arith, c.decreases),
       record {
@@ -302,68 +231,53 @@ object-value-requires t c =
       },
     )
 
-pub object-shape_of-work-in-Bad-value : goal.object-shape_of-work-in-Bad-value
-object-shape_of-work-in-Bad-value t c =
-    c.value.auto.work ∙ c.name.auto.work ∙ object_long c.args.s.now c.args.left c.args.at
-    c.args.node c.loop-sep.invariant.state
-
-pub object-shape_of-seen-in-Bad-value : goal.object-shape_of-seen-in-Bad-value
-object-shape_of-seen-in-Bad-value t c =
-    c.value.auto.seen ∙ c.name.auto.seen ∙
-    c.loop-sep.invariant.marks
-
-pub object-returns-in-Bad-value : goal.object-returns-in-Bad-value
-object-returns-in-Bad-value t c =
+pub object-returns-in_err-member-in-On : goal.object-returns-in_err-member-in-On
+object-returns-in_err-member-in-On t c =
     let l = object_turn (seps.On c.in-On.here) c.loop-sep.invariant c.in-On.is in
-    let a = name_was _ _ _ _ _ _ _ _ c.in-Is.k c.name.ensures c.in-Is.is in
-    record {
-      parsed = object_value_bad c.args.s.now c.args.left c.args.at c.args.node l c.requires.0.ready.long c.requires.0.depth a _
-          c.in-Bad-value.n
-          (was_bad _ _ _ _ c.in-Bad-value.n c.value.ensures.parsed
-          c.in-Bad-value.is);
+    let a = name_was _ _ _ _ _ _ _ _ _ c.in_ok-spelt-in-On.ensures in
+    rw
+    (handed_on _ c.from_residual-in_err-member-in-On.ensures.1)
+    (record {
+      parsed = object_value_bad c.args.s.now c.args.left c.args.at c.args.node l c.requires.0.ready.long c.requires.0.depth a _ _ c.in_err-member-in-On.ensures.parsed;
       grown = λ i e. c.value.ensures.grown i (a.grown i (c.loop-sep.invariant.grown i e));
-    }
+    })
 
-pub object-following-sep-requires : goal.object-following-sep-requires
-object-following-sep-requires t c =
-    let l = object_turn (seps.On c.in-On.here) c.loop-sep.invariant
-    c.in-On.is in
-    let a = name_was _ _ _ _ _ _ _ _ c.in-Is.k c.name.ensures c.in-Is.is in (
-      (object_past c.args.s.now c.args.left c.args.at c.args.node l c.requires.0.ready.long c.requires.0.depth a
-          (was_done _ _ _ _ c.in-Done.p c.value.ensures.parsed
-          c.in-Done.is)).1,
-      omega arith,
-    )
+pub object-following-requires : goal.object-following-requires
+object-following-requires t c =
+    let l = object_turn (seps.On c.in-On.here) c.loop-sep.invariant c.in-On.is in
+    let a = name_was _ _ _ _ _ _ _ _ _ c.in_ok-spelt-in-On.ensures in
+    ((object_past c.args.s.now c.args.left c.args.at c.args.node l c.requires.0.ready.long c.requires.0.depth a (was_done c.in_ok-member-in-On.ensures.parsed)).1, omega arith)
+
+pub object-returns-in_err-sep-in-On : goal.object-returns-in_err-sep-in-On
+object-returns-in_err-sep-in-On t c =
+    let l = object_turn (seps.On c.in-On.here) c.loop-sep.invariant c.in-On.is in
+    let a = name_was _ _ _ _ _ _ _ _ _ c.in_ok-spelt-in-On.ensures in
+    rw
+    (handed_on _ c.from_residual-in_err-sep-in-On.ensures.1)
+    (record {
+      parsed = object_neither c.args.s.now c.args.left c.args.at c.args.node
+          (object_on c.args.s.now c.args.left c.args.at c.args.node l c.requires.0.ready.long c.requires.0.depth a (was_done c.in_ok-member-in-On.ensures.parsed) _ c.value.ensures.grown _
+          c.in_err-sep-in-On.ensures);
+      grown = λ i e. c.value.ensures.grown i (a.grown i (c.loop-sep.invariant.grown i e));
+    })
 
 pub object-loop-sep-smaller : goal.object-loop-sep-smaller
 object-loop-sep-smaller t c =
-    let l = object_turn (seps.On c.in-On.here) c.loop-sep.invariant
-    c.in-On.is in
-    let a = name_was _ _ _ _ _ _ _ _ c.in-Is.k c.name.ensures c.in-Is.is in
-    let q = object_past c.args.s.now c.args.left c.args.at c.args.node l c.requires.0.ready.long c.requires.0.depth a
-    (was_done _ _ _ _ c.in-Done.p c.value.ensures.parsed c.in-Done.is) in
-    rw c.in-On.is
-    (reach_falls c.args.s.now c.in-Done.p.at 125 c.in-On.here
-    c.following-sep.result q.0 q.1 c.following-sep.ensures)
+    let l = object_turn (seps.On c.in-On.here) c.loop-sep.invariant c.in-On.is in
+    let a = name_was _ _ _ _ _ _ _ _ _ c.in_ok-spelt-in-On.ensures in
+    let q = object_past c.args.s.now c.args.left c.args.at c.args.node l c.requires.0.ready.long c.requires.0.depth a (was_done c.in_ok-member-in-On.ensures.parsed) in
+    rw c.in-On.is (reach_falls c.args.s.now c.in_ok-member-in-On.member.at 125 c.in-On.here _ q.0 q.1 c.in_ok-sep-in-On.ensures)
 
 pub object-loop-sep-preserved : goal.object-loop-sep-preserved
 object-loop-sep-preserved t c =
     let l = object_turn (seps.On c.in-On.here) c.loop-sep.invariant c.in-On.is in
-    let a = name_was _ _ _ _ _ _ _ _ c.in-Is.k c.name.ensures c.in-Is.is in
+    let a = name_was _ _ _ _ _ _ _ _ _ c.in_ok-spelt-in-On.ensures in
     record {
-      state = object_on c.args.s.now c.args.left c.args.at c.args.node l c.requires.0.ready.long c.requires.0.depth a
-          (was_done _ _ _ _ c.in-Done.p c.value.ensures.parsed
-          c.in-Done.is) _ c.value.ensures.grown c.following-sep.result
-          c.following-sep.ensures;
+      state = object_on c.args.s.now c.args.left c.args.at c.args.node l c.requires.0.ready.long c.requires.0.depth a (was_done c.in_ok-member-in-On.ensures.parsed) _ c.value.ensures.grown _
+          c.in_ok-sep-in-On.ensures;
       grown = λ i e. c.value.ensures.grown i (a.grown i (c.loop-sep.invariant.grown i e));
       marks = c.value.auto.seen ∙ c.name.auto.seen ∙ c.loop-sep.invariant.marks;
     }
-
-pub value-leaf-requires : goal.value-leaf-requires
-value-leaf-requires t c = c.requires.ready
-
-pub value-shape_of-work-then-left-eq0 : goal.value-shape_of-work-then-left-eq0
-value-shape_of-work-then-left-eq0 t c = c.leaf.auto.work
 
 pub value-returns-then-left-eq0 : goal.value-returns-then-left-eq0
 value-returns-then-left-eq0 t c =
@@ -372,71 +286,19 @@ value-returns-then-left-eq0 t c =
       grown = λ i e. e;
     }
 
-pub value-overflow_sub-left : goal.value-overflow_sub-left
-value-overflow_sub-left t c = omega (arith, c.if-left-eq0.false)
+pub value-returns-in-91 : goal.value-returns-in-91
+value-returns-in-91 t c =
+    rw (value_array c.args.s.now c.args.node c.args.at c.args.left c.if-left-eq0.false (sym c.byte_at.ensures ∙ c.in-91.is)) c.array.ensures
 
-pub value-array-requires : goal.value-array-requires
-value-array-requires t c = (
-  omega (arith, c.decreases, c.if-left-eq0.false),
-  (
-    record { ready = c.requires.ready; marks = c.requires.marks; depth = omega (arith, c.requires.depth) },
-    byte_inside c.args.s.now c.args.at 91
-        (sym c.byte_at-c.ensures ∙ c.if-c-eq91.true) (omega arith),
-  ),
-)
+pub value-returns-in-123 : goal.value-returns-in-123
+value-returns-in-123 t c =
+    rw (value_object c.args.s.now c.args.node c.args.at c.args.left c.if-left-eq0.false (sym c.byte_at.ensures ∙ c.in-123.is)) c.object.ensures
 
-pub value-shape_of-work-then-c-eq91 : goal.value-shape_of-work-then-c-eq91
-value-shape_of-work-then-c-eq91 t c = c.array.auto.work
-
-pub value-shape_of-seen-then-c-eq91 : goal.value-shape_of-seen-then-c-eq91
-value-shape_of-seen-then-c-eq91 t c = c.array.auto.seen
-
-pub value-returns-then-c-eq91 : goal.value-returns-then-c-eq91
-value-returns-then-c-eq91 t c =
-    rw
-    (value_array c.args.s.now c.args.node c.args.at c.args.left c.if-left-eq0.false
-    (sym c.byte_at-c.ensures ∙ c.if-c-eq91.true))
-    c.array.ensures
-
-pub value-overflow_sub-left-then-c-eq123 : goal.value-overflow_sub-left-then-c-eq123
-value-overflow_sub-left-then-c-eq123 t c = omega (arith, c.if-left-eq0.false)
-
-pub value-object-requires : goal.value-object-requires
-value-object-requires t c = (
-  omega (arith, c.decreases, c.if-left-eq0.false),
-  (
-    record { ready = c.requires.ready; marks = c.requires.marks; depth = omega (arith, c.requires.depth) },
-    byte_inside c.args.s.now c.args.at 123
-        (sym c.byte_at-c.ensures ∙ c.if-c-eq123.true) (omega arith),
-  ),
-)
-
-pub value-shape_of-work-then-c-eq123 : goal.value-shape_of-work-then-c-eq123
-value-shape_of-work-then-c-eq123 t c = c.object.auto.work
-
-pub value-shape_of-seen-then-c-eq123 : goal.value-shape_of-seen-then-c-eq123
-value-shape_of-seen-then-c-eq123 t c = c.object.auto.seen
-
-pub value-returns-then-c-eq123 : goal.value-returns-then-c-eq123
-value-returns-then-c-eq123 t c =
-    rw
-    (value_object c.args.s.now c.args.node c.args.at c.args.left c.if-left-eq0.false
-    (sym c.byte_at-c.ensures ∙ c.if-c-eq123.true))
-    c.object.ensures
-
-pub value-leaf-requires-2 : goal.value-leaf-requires-2
-value-leaf-requires-2 t c = c.requires.ready
-
-pub value-shape_of-work : goal.value-shape_of-work
-value-shape_of-work t c = c.leaf-2.auto.work
-
-pub value-returns : goal.value-returns
-value-returns t c =
+pub value-returns-in_default : goal.value-returns-in_default
+value-returns-in_default t c =
     record {
       parsed = rw
-          (value_leaf c.args.s.now c.args.node c.args.at c.args.left
-          (λ q. c.if-c-eq91.false (c.byte_at-c.ensures ∙ q))
-          (λ q. c.if-c-eq123.false (c.byte_at-c.ensures ∙ q)))
-          c.leaf-2.ensures;
+          (value_leaf c.args.s.now c.args.node c.args.at c.args.left (λ q. omega (arith, c.byte_at.ensures)) (λ q. omega (arith, c.byte_at.ensures)))
+          c.leaf-in_default.ensures;
       grown = λ i e. e;
     }

@@ -1,8 +1,8 @@
--- `operands::layer::part_of` meets its contract: by the kind of the whole.
+-- `resolving::layer::part_of` meets its contract: by the kind of the whole.
 -- Assumes nothing.
 use mathlib.Core.Path.{ap, sym}
 use Prim.Native.Nat.{ℕ, ◌+◌}
-use Rattle.resolving.proofs.Layered.{part_listed, part_named, part_value}
+use Rattle.resolving.proofs.Layered.{part_value, part_written}
 use Rattle.resolving.proofs.Slices.{frames_length, frames_outer, node_room, ready_outer}
 use Rattle.members.specs.Sheet.{sheet_in}
 use Rattle.paths.specs.Stored.{frames_of, table}
@@ -13,64 +13,26 @@ pub outer-under-requires : goal.outer-under-requires
 outer-under-requires c = c.requires.0.bound.within
 
 pub overflow_add-under : goal.overflow_add-under
-overflow_add-under c =
-    omega (
-      arith,
-      c.outer-under.ensures.1,
-      c.requires.0.bound.within,
-    )
+overflow_add-under c = omega (arith, c.outer-under.ensures.2, c.requires.0.bound.within)
 
 pub touch_at-requires : goal.touch_at-requires
-touch_at-requires c = (
-  ready_outer c.requires.0 c.args.o.depth c.outer-under.ensures.1
-      c.outer-under.ensures.2,
-  c.requires.1,
-)
-
-pub outer-under-requires-in-Named : goal.outer-under-requires-in-Named
-outer-under-requires-in-Named c = c.requires.0.bound.within
-
-pub overflow_add-under-in-Named : goal.overflow_add-under-in-Named
-overflow_add-under-in-Named c =
-    omega (
-      arith,
-      c.outer-under-in-Named.ensures.1,
-      c.requires.0.bound.within,
-    )
-
-pub touch_at-requires-in-Named : goal.touch_at-requires-in-Named
-touch_at-requires-in-Named c = (
-  ready_outer c.requires.0 c.args.o.depth c.outer-under-in-Named.ensures.1
-      c.outer-under-in-Named.ensures.2,
-  c.requires.1,
-)
+touch_at-requires c = (ready_outer c.requires.0 c.outer-under.ensures.0 c.args.o.depth c.outer-under.ensures.2 c.outer-under.ensures.3, c.requires.1)
 
 pub value_at-requires : goal.value_at-requires
 value_at-requires c = node_room c.requires.0 c.requires.1
 
 pub returns-in-Listed : goal.returns-in-Listed
 returns-in-Listed c =
-    part_listed (sheet_in c.args.s.now) (frames_of c.args.s.now (table c.args.work.now) c.args.frames) c.args.o
+    part_written (sheet_in c.args.s.now) (frames_of c.args.s.now (table c.args.work.now) c.args.scope.frames) c.args.o
     c.args.node c.in-Listed.is
-    (frames_outer c.requires.0 c.outer-under.result c.args.o.depth c.outer-under.ensures.2)
+    (frames_outer c.requires.0 c.outer-under.result.frames c.args.o.depth c.outer-under.ensures.3)
     (ap (λ (x : ℕ). x + 1)
     (sym
-    (frames_length (ready_outer c.requires.0 c.args.o.depth c.outer-under.ensures.1 c.outer-under.ensures.2))))
+    (frames_length (ready_outer c.requires.0 c.outer-under.ensures.0 c.args.o.depth c.outer-under.ensures.2 c.outer-under.ensures.3))))
     c.touch_at.ensures
-
-pub returns-in-Named : goal.returns-in-Named
-returns-in-Named c =
-    part_named (sheet_in c.args.s.now) (frames_of c.args.s.now (table c.args.work.now) c.args.frames) c.args.o
-    c.args.node c.in-Named.is
-    (frames_outer c.requires.0 c.outer-under-in-Named.result c.args.o.depth c.outer-under-in-Named.ensures.2)
-    (ap (λ (x : ℕ). x + 1)
-    (sym
-    (frames_length
-    (ready_outer c.requires.0 c.args.o.depth c.outer-under-in-Named.ensures.1 c.outer-under-in-Named.ensures.2))))
-    c.touch_at-in-Named.ensures
 
 pub returns-in_default : goal.returns-in_default
 returns-in_default c =
-    part_value (sheet_in c.args.s.now) (frames_of c.args.s.now (table c.args.work.now) c.args.frames) c.args.o
+    part_value (sheet_in c.args.s.now) (frames_of c.args.s.now (table c.args.work.now) c.args.scope.frames) c.args.o
     c.args.node c.in_default.not-Listed c.in_default.not-Named
     (c.value_at.ensures c.args.s.now c.requires.1)

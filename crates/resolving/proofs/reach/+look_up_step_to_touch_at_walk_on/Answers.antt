@@ -1,8 +1,9 @@
 -- The cycle of touching, looking up, stepping and walking on meets its contracts: each return is a law of the definition's own step. What falls is the
 -- number of expressions left, and within one the length of the path. Assumes nothing.
 use Prim.Native.Nat.{ℕ}
-use mathlib.Core.Path.{sym, subst, ◌∙◌}
-use Prim.Native.Nat.{ℕ}
+use mathlib.Core.Path.{ap, sym, subst, ◌∙◌}
+use Rattle.strings.specs.Answers.{code_of}
+use Rattle.resolving.proofs.Classes.{text_coded}
 use lib.ListN.{length}
 use Rattle.json_text.specs.Cursor.{OnText}
 use Rattle.json_text.specs.Spans.{text_at}
@@ -71,193 +72,194 @@ pub look_up-slice_bounds-walk_on-count : goal.look_up-slice_bounds-walk_on-count
 look_up-slice_bounds-walk_on-count t c =
     omega (
       arith,
-      (rest_was c.in-At.next c.rest_at.ensures
-          c.in-At.is).3,
+      (rest_was c.in-Some.next c.rest_at.ensures
+          c.in-Some.is).3,
     )
 
 pub look_up-slice_bounds-walk_on-start : goal.look_up-slice_bounds-walk_on-start
 look_up-slice_bounds-walk_on-start t c =
     omega (
       arith,
-      (rest_was c.in-At.next c.rest_at.ensures
-          c.in-At.is).3,
+      (rest_was c.in-Some.next c.rest_at.ensures
+          c.in-Some.is).3,
     )
 
 pub look_up-walk_on-requires : goal.look_up-walk_on-requires
 look_up-walk_on-requires t c =
-    let w = rest_was c.in-At.next c.rest_at.ensures c.in-At.is in (
-      path_falls c.args.left (length c.args.path.now) _ c.in-At.next 3 2 c.decreases
-          (length_from c.args.path.now c.in-At.next) w.2 w.3 (omega arith),
+    let w = rest_was c.in-Some.next c.rest_at.ensures c.in-Some.is in (
+      path_falls c.args.left (length c.args.path.now) _ c.in-Some.next 3 2 c.decreases
+          (length_from c.args.path.now c.in-Some.next) w.2 w.3 (omega arith),
       (
         c.requires.0,
-        path_from c.args.path.now c.in-At.next w.1 w.3 c.requires.1.short,
+        path_from c.args.path.now c.in-Some.next w.1 w.3 c.requires.1.short,
         bound_fits
-            (binder_told c.args.s.now (table c.args.work.now) (part (text_at c.args.path.now 0)) (held c.args.frames)
+            (binder_told c.args.s.now (table c.args.work.now) (part (text_at c.args.path.now 0)) (held c.args.scope.frames)
             c.requires.0.bound.operands c.find-bound.ensures) _
-            c.in-At-bound-2.is,
+            c.in-Some-bound-2.is,
       ),
     )
 
-pub look_up-root_named-requires-in-Nothing-bound-2 : goal.look_up-root_named-requires-in-Nothing-bound-2
-look_up-root_named-requires-in-Nothing-bound-2 t c =
+pub look_up-root_named-requires-in-None-bound-2 : goal.look_up-root_named-requires-in-None-bound-2
+look_up-root_named-requires-in-None-bound-2 t c =
     c.requires.1.on_text
 
 pub look_up-slice_bounds-part_is_word-count : goal.look_up-slice_bounds-part_is_word-count
 look_up-slice_bounds-part_is_word-count t c =
     omega (
       arith,
-      (rest_was c.in-At.next c.rest_at.ensures
-          c.in-At.is).3,
+      (rest_was c.in-Some.next c.rest_at.ensures
+          c.in-Some.is).3,
     )
 
 pub look_up-slice_bounds-part_is_word-start : goal.look_up-slice_bounds-part_is_word-start
 look_up-slice_bounds-part_is_word-start t c =
     omega (
       arith,
-      (rest_was c.in-At.next c.rest_at.ensures
-          c.in-At.is).3,
+      (rest_was c.in-Some.next c.rest_at.ensures
+          c.in-Some.is).3,
     )
 
 pub look_up-part_is_word-requires : goal.look_up-part_is_word-requires
 look_up-part_is_word-requires t c =
-    let w = rest_was c.in-At.next c.rest_at.ensures
-    c.in-At.is in
-    (path_from c.args.path.now c.in-At.next w.1 w.3
+    let w = rest_was c.in-Some.next c.rest_at.ensures
+    c.in-Some.is in
+    (path_from c.args.path.now c.in-Some.next w.1 w.3
     c.requires.1.short).on_text
 
 pub look_up-returns-then-part_is_word : goal.look_up-returns-then-part_is_word
 look_up-returns-then-part_is_word t c =
-    look_empty (sheet_in c.args.s.now) (touch (sheet_in c.args.s.now) c.args.left) (frames_of c.args.s.now (table c.args.work.now) c.args.frames)
+    look_empty (sheet_in c.args.s.now) (touch (sheet_in c.args.s.now) c.args.left) (frames_of c.args.s.now (table c.args.work.now) c.args.scope.frames)
     (text_at c.args.path.now 0)
-    (binder_told c.args.s.now (table c.args.work.now) (part (text_at c.args.path.now 0)) (held c.args.frames)
+    (binder_told c.args.s.now (table c.args.work.now) (part (text_at c.args.path.now 0)) (held c.args.scope.frames)
     c.requires.0.bound.operands c.find-bound.ensures)
-    (text_at c.args.path.now c.in-At.next)
-    (rest_was c.in-At.next c.rest_at.ensures
-    c.in-At.is).0 c.in-Nothing-bound-2.is
-    (rw c.root_named-in-Nothing-bound-2.ensures at
+    (text_at c.args.path.now c.in-Some.next)
+    (rest_was c.in-Some.next c.rest_at.ensures
+    c.in-Some.is).0 c.in-None-bound-2.is
+    (rw c.root_named-in-None-bound-2.ensures at
     (c.base_at.ensures (sheet_in c.args.s.now) c.args.s.now (table c.args.work.now)
-    c.requires.0.rooted)) _ c.in-At-base_at.is
+    c.requires.0.rooted)) _ c.in-Some-base_at.is
     (sym c.if-part_is_word.true ∙ (rw text_from at c.part_is_word.ensures))
 
-pub look_up-slice_bounds-walk_on-count-in-At-base_at : goal.look_up-slice_bounds-walk_on-count-in-At-base_at
-look_up-slice_bounds-walk_on-count-in-At-base_at t c =
+pub look_up-slice_bounds-walk_on-count-in-Some-base_at : goal.look_up-slice_bounds-walk_on-count-in-Some-base_at
+look_up-slice_bounds-walk_on-count-in-Some-base_at t c =
     omega (
       arith,
-      (rest_was c.in-At.next c.rest_at.ensures
-          c.in-At.is).3,
+      (rest_was c.in-Some.next c.rest_at.ensures
+          c.in-Some.is).3,
     )
 
-pub look_up-slice_bounds-walk_on-start-in-At-base_at : goal.look_up-slice_bounds-walk_on-start-in-At-base_at
-look_up-slice_bounds-walk_on-start-in-At-base_at t c =
+pub look_up-slice_bounds-walk_on-start-in-Some-base_at : goal.look_up-slice_bounds-walk_on-start-in-Some-base_at
+look_up-slice_bounds-walk_on-start-in-Some-base_at t c =
     omega (
       arith,
-      (rest_was c.in-At.next c.rest_at.ensures
-          c.in-At.is).3,
+      (rest_was c.in-Some.next c.rest_at.ensures
+          c.in-Some.is).3,
     )
 
-pub look_up-walk_on-requires-in-At-base_at : goal.look_up-walk_on-requires-in-At-base_at
-look_up-walk_on-requires-in-At-base_at t c =
-    let w = rest_was c.in-At.next c.rest_at.ensures c.in-At.is in (
-      path_falls c.args.left (length c.args.path.now) _ c.in-At.next 3 2 c.decreases
-          (length_from c.args.path.now c.in-At.next) w.2 w.3 (omega arith),
+pub look_up-walk_on-requires-in-Some-base_at : goal.look_up-walk_on-requires-in-Some-base_at
+look_up-walk_on-requires-in-Some-base_at t c =
+    let w = rest_was c.in-Some.next c.rest_at.ensures c.in-Some.is in (
+      path_falls c.args.left (length c.args.path.now) _ c.in-Some.next 3 2 c.decreases
+          (length_from c.args.path.now c.in-Some.next) w.2 w.3 (omega arith),
       (
         c.requires.0,
-        path_from c.args.path.now c.in-At.next w.1 w.3 c.requires.1.short,
+        path_from c.args.path.now c.in-Some.next w.1 w.3 c.requires.1.short,
         bound_fits
-            (rw c.root_named-in-Nothing-bound-2.ensures at
+            (rw c.root_named-in-None-bound-2.ensures at
             (c.base_at.ensures (sheet_in c.args.s.now) c.args.s.now (table c.args.work.now)
-            c.requires.0.rooted)) _ c.in-At-base_at.is,
+            c.requires.0.rooted)) _ c.in-Some-base_at.is,
       ),
     )
 
-pub look_up-returns-in-At-bound : goal.look_up-returns-in-At-bound
-look_up-returns-in-At-bound t c =
-    look_binder (sheet_in c.args.s.now) (touch (sheet_in c.args.s.now) c.args.left) (frames_of c.args.s.now (table c.args.work.now) c.args.frames)
+pub look_up-returns-in-Some-bound : goal.look_up-returns-in-Some-bound
+look_up-returns-in-Some-bound t c =
+    look_binder (sheet_in c.args.s.now) (touch (sheet_in c.args.s.now) c.args.left) (frames_of c.args.s.now (table c.args.work.now) c.args.scope.frames)
     (text_at c.args.path.now 0)
-    (binder_told c.args.s.now (table c.args.work.now) (part (text_at c.args.path.now 0)) (held c.args.frames)
-    c.requires.0.bound.operands c.find-bound.ensures) _ c.in-At-bound.is
-    (rest_none c.args.path.now c.rest_at.ensures c.in-Nothing.is)
+    (binder_told c.args.s.now (table c.args.work.now) (part (text_at c.args.path.now 0)) (held c.args.scope.frames)
+    c.requires.0.bound.operands c.find-bound.ensures) _ c.in-Some-bound.is
+    (rest_none c.args.path.now c.rest_at.ensures c.in-None.is)
 
-pub look_up-returns-in-Nothing-bound : goal.look_up-returns-in-Nothing-bound
-look_up-returns-in-Nothing-bound t c =
-    look_root (sheet_in c.args.s.now) (touch (sheet_in c.args.s.now) c.args.left) (frames_of c.args.s.now (table c.args.work.now) c.args.frames)
+pub look_up-returns-in-None-bound : goal.look_up-returns-in-None-bound
+look_up-returns-in-None-bound t c =
+    look_root (sheet_in c.args.s.now) (touch (sheet_in c.args.s.now) c.args.left) (frames_of c.args.s.now (table c.args.work.now) c.args.scope.frames)
     (text_at c.args.path.now 0)
-    (binder_told c.args.s.now (table c.args.work.now) (part (text_at c.args.path.now 0)) (held c.args.frames)
+    (binder_told c.args.s.now (table c.args.work.now) (part (text_at c.args.path.now 0)) (held c.args.scope.frames)
     c.requires.0.bound.operands c.find-bound.ensures)
-    c.in-Nothing-bound.is
-    (rest_none c.args.path.now c.rest_at.ensures c.in-Nothing.is)
+    c.in-None-bound.is
+    (rest_none c.args.path.now c.rest_at.ensures c.in-None.is)
     (rw c.root_named.ensures at
     (c.root_at.ensures (sheet_in c.args.s.now) c.args.s.now (table c.args.work.now) (text_at c.args.path.now 0) c.requires.0.rooted))
 
-pub look_up-returns-in-At-bound-2 : goal.look_up-returns-in-At-bound-2
-look_up-returns-in-At-bound-2 t c =
-    look_walk (sheet_in c.args.s.now) (touch (sheet_in c.args.s.now) c.args.left) (frames_of c.args.s.now (table c.args.work.now) c.args.frames)
+pub look_up-returns-in-Some-bound-2 : goal.look_up-returns-in-Some-bound-2
+look_up-returns-in-Some-bound-2 t c =
+    look_walk (sheet_in c.args.s.now) (touch (sheet_in c.args.s.now) c.args.left) (frames_of c.args.s.now (table c.args.work.now) c.args.scope.frames)
     (text_at c.args.path.now 0)
-    (binder_told c.args.s.now (table c.args.work.now) (part (text_at c.args.path.now 0)) (held c.args.frames)
+    (binder_told c.args.s.now (table c.args.work.now) (part (text_at c.args.path.now 0)) (held c.args.scope.frames)
     c.requires.0.bound.operands c.find-bound.ensures)
-    (text_at c.args.path.now c.in-At.next)
-    (rest_was c.in-At.next c.rest_at.ensures
-    c.in-At.is).0 _ c.in-At-bound-2.is
-    (rw text_from at c.walk_on.ensures) c.as_looked.ensures
+    (text_at c.args.path.now c.in-Some.next)
+    (rest_was c.in-Some.next c.rest_at.ensures
+    c.in-Some.is).0 _ c.in-Some-bound-2.is
+    (rw text_from at c.walk_on.ensures)
 
-pub look_up-returns-in-Nothing-base_at : goal.look_up-returns-in-Nothing-base_at
-look_up-returns-in-Nothing-base_at t c =
-    look_unknown (sheet_in c.args.s.now) (touch (sheet_in c.args.s.now) c.args.left) (frames_of c.args.s.now (table c.args.work.now) c.args.frames)
+pub look_up-returns-in-None-base_at : goal.look_up-returns-in-None-base_at
+look_up-returns-in-None-base_at t c =
+    look_unknown (sheet_in c.args.s.now) (touch (sheet_in c.args.s.now) c.args.left) (frames_of c.args.s.now (table c.args.work.now) c.args.scope.frames)
     (text_at c.args.path.now 0)
-    (binder_told c.args.s.now (table c.args.work.now) (part (text_at c.args.path.now 0)) (held c.args.frames)
+    (binder_told c.args.s.now (table c.args.work.now) (part (text_at c.args.path.now 0)) (held c.args.scope.frames)
     c.requires.0.bound.operands c.find-bound.ensures)
-    (text_at c.args.path.now c.in-At.next)
-    (rest_was c.in-At.next c.rest_at.ensures
-    c.in-At.is).0 c.in-Nothing-bound-2.is
-    (rw c.root_named-in-Nothing-bound-2.ensures at
+    (text_at c.args.path.now c.in-Some.next)
+    (rest_was c.in-Some.next c.rest_at.ensures
+    c.in-Some.is).0 c.in-None-bound-2.is
+    (rw c.root_named-in-None-bound-2.ensures at
     (c.base_at.ensures (sheet_in c.args.s.now) c.args.s.now (table c.args.work.now) c.requires.0.rooted))
-    c.in-Nothing-base_at.is
+    c.in-None-base_at.is
 
 pub look_up-returns-else-part_is_word : goal.look_up-returns-else-part_is_word
 look_up-returns-else-part_is_word t c =
-    look_base (sheet_in c.args.s.now) (touch (sheet_in c.args.s.now) c.args.left) (frames_of c.args.s.now (table c.args.work.now) c.args.frames)
+    look_base (sheet_in c.args.s.now) (touch (sheet_in c.args.s.now) c.args.left) (frames_of c.args.s.now (table c.args.work.now) c.args.scope.frames)
     (text_at c.args.path.now 0)
-    (binder_told c.args.s.now (table c.args.work.now) (part (text_at c.args.path.now 0)) (held c.args.frames)
+    (binder_told c.args.s.now (table c.args.work.now) (part (text_at c.args.path.now 0)) (held c.args.scope.frames)
     c.requires.0.bound.operands c.find-bound.ensures)
-    (text_at c.args.path.now c.in-At.next)
-    (rest_was c.in-At.next c.rest_at.ensures
-    c.in-At.is).0 c.in-Nothing-bound-2.is
-    (rw c.root_named-in-Nothing-bound-2.ensures at
+    (text_at c.args.path.now c.in-Some.next)
+    (rest_was c.in-Some.next c.rest_at.ensures
+    c.in-Some.is).0 c.in-None-bound-2.is
+    (rw c.root_named-in-None-bound-2.ensures at
     (c.base_at.ensures (sheet_in c.args.s.now) c.args.s.now (table c.args.work.now)
-    c.requires.0.rooted)) _ c.in-At-base_at.is
+    c.requires.0.rooted)) _ c.in-Some-base_at.is
     (sym c.if-part_is_word.false ∙ (rw text_from at c.part_is_word.ensures))
-    (rw text_from at c.walk_on-in-At-base_at.ensures) c.as_looked-in-At-base_at.ensures
+    (rw text_from at c.walk_on-in-Some-base_at.ensures)
 
-pub step_to-member_of-v-requires : goal.step_to-member_of-v-requires
+pub step_to-member_of-requires : goal.step_to-member_of-requires
 unfolding Fits
-step_to-member_of-v-requires t c =
+step_to-member_of-requires t c =
     let k = fits_as c.args.s.now (table c.args.work.now) c.args.o kinds.Object c.in-Object.is
     c.requires.2.fits in
     (node_room c.requires.0 k.node, k, c.requires.1.on_text)
 
-pub step_to-returns-then-v-eq0 : goal.step_to-returns-then-v-eq0
-step_to-returns-then-v-eq0 t c =
-    object_none (sheet_in c.args.s.now) (touch (sheet_in c.args.s.now) c.args.left)
-    (frames_of c.args.s.now (table c.args.work.now) c.args.frames) _ c.args.o
-    c.in-Object.is c.member_of-v.ensures c.if-v-eq0.true
+pub step_to-returns-in_err-v-in-Object : goal.step_to-returns-in_err-v-in-Object
+step_to-returns-in_err-v-in-Object t c =
+    rw c.from_residual.ensures
+    (object_none (sheet_in c.args.s.now) (touch (sheet_in c.args.s.now) c.args.left)
+    (frames_of c.args.s.now (table c.args.work.now) c.args.scope.frames) _ c.args.o
+    c.in-Object.is c.member_of.ensures c.in_err-v-in-Object.was)
 
 pub step_to-value_at-requires : goal.step_to-value_at-requires
 step_to-value_at-requires t c =
-    node_room c.requires.0
-    (member_is c.member_of-v.ensures c.if-v-eq0.false).1
+    node_room c.requires.0 (member_is c.member_of.ensures c.in_ok-v-in-Object.was).1
 
-pub step_to-member_of-v-requires-in-Named : goal.step_to-member_of-v-requires-in-Named
+pub step_to-member_of-requires-in-Named : goal.step_to-member_of-requires-in-Named
 unfolding Fits
-step_to-member_of-v-requires-in-Named t c =
+step_to-member_of-requires-in-Named t c =
     let k = fits_as c.args.s.now (table c.args.work.now) c.args.o kinds.Named c.in-Named.is
     c.requires.2.fits in
     (node_room c.requires.0 k.node, k, c.requires.1.on_text)
 
-pub step_to-returns-then-v-eq0-2 : goal.step_to-returns-then-v-eq0-2
-step_to-returns-then-v-eq0-2 t c =
-    named_none (sheet_in c.args.s.now) (touch (sheet_in c.args.s.now) c.args.left)
-    (frames_of c.args.s.now (table c.args.work.now) c.args.frames) _ c.args.o
-    c.in-Named.is c.member_of-v-in-Named.ensures c.if-v-eq0-2.true
+pub step_to-returns-in_err-v-in-Named : goal.step_to-returns-in_err-v-in-Named
+step_to-returns-in_err-v-in-Named t c =
+    rw c.from_residual-in_err-v-in-Named.ensures
+    (named_none (sheet_in c.args.s.now) (touch (sheet_in c.args.s.now) c.args.left)
+    (frames_of c.args.s.now (table c.args.work.now) c.args.scope.frames) _ c.args.o
+    c.in-Named.is c.member_of-in-Named.ensures c.in_err-v-in-Named.was)
 
 pub step_to-outer-requires : goal.step_to-outer-requires
 step_to-outer-requires t c = c.requires.0.bound.within
@@ -266,48 +268,47 @@ pub step_to-touch_at-requires : goal.step_to-touch_at-requires
 step_to-touch_at-requires t c = (
   touch_falls c.args.left c.decreases,
   (
-    ready_outer c.requires.0 c.args.o.depth c.outer.ensures.1
-        c.outer.ensures.2,
-    (member_is c.member_of-v-in-Named.ensures c.if-v-eq0-2.false).1,
+    ready_outer c.requires.0 c.outer.ensures.0 c.args.o.depth c.outer.ensures.2
+        c.outer.ensures.3,
+    (member_is c.member_of-in-Named.ensures c.in_ok-v-in-Named.was).1,
   ),
 )
 
-pub step_to-returns-else-v-eq0 : goal.step_to-returns-else-v-eq0
-step_to-returns-else-v-eq0 t c =
-    object_some (sheet_in c.args.s.now) (touch (sheet_in c.args.s.now) c.args.left) (frames_of c.args.s.now (table c.args.work.now) c.args.frames) _
-    c.args.o c.in-Object.is c.member_of-v.ensures
-    c.if-v-eq0.false
-    (c.value_at.ensures c.args.s.now (member_is c.member_of-v.ensures c.if-v-eq0.false).1)
+pub step_to-returns-in_ok-v-in-Object : goal.step_to-returns-in_ok-v-in-Object
+step_to-returns-in_ok-v-in-Object t c =
+    object_some (sheet_in c.args.s.now) (touch (sheet_in c.args.s.now) c.args.left)
+    (frames_of c.args.s.now (table c.args.work.now) c.args.scope.frames) _ c.args.o
+    c.in-Object.is c.member_of.ensures c.in_ok-v-in-Object.was
+    (c.value_at.ensures c.args.s.now (member_is c.member_of.ensures c.in_ok-v-in-Object.was).1)
 
-pub step_to-returns-else-v-eq0-2 : goal.step_to-returns-else-v-eq0-2
-step_to-returns-else-v-eq0-2 t c =
+pub step_to-returns-in_ok-v-in-Named : goal.step_to-returns-in_ok-v-in-Named
+step_to-returns-in_ok-v-in-Named t c =
     named_some (sheet_in c.args.s.now) (touch (sheet_in c.args.s.now) c.args.left)
-    (frames_of c.args.s.now (table c.args.work.now) c.args.frames) _ c.args.o
-    c.in-Named.is c.member_of-v-in-Named.ensures
-    c.if-v-eq0-2.false
+    (frames_of c.args.s.now (table c.args.work.now) c.args.scope.frames) _ c.args.o
+    c.in-Named.is c.member_of-in-Named.ensures c.in_ok-v-in-Named.was
     (rw
-    (frames_outer c.requires.0 c.outer.result c.args.o.depth
-    c.outer.ensures.2) at c.touch_at.ensures)
+    (frames_outer c.requires.0 c.outer.result.frames c.args.o.depth
+    c.outer.ensures.3) at c.touch_at.ensures)
 
 pub step_to-returns-in_default : goal.step_to-returns-in_default
 step_to-returns-in_default t c =
     other_none (sheet_in c.args.s.now) (touch (sheet_in c.args.s.now) c.args.left)
-    (frames_of c.args.s.now (table c.args.work.now) c.args.frames) _ c.args.o c.in_default.not-Object c.in_default.not-Named
+    (frames_of c.args.s.now (table c.args.work.now) c.args.scope.frames) _ c.args.o c.in_default.not-Object c.in_default.not-Named
 
 pub touch_at-returns-then-left-eq0 : goal.touch_at-returns-then-left-eq0
 touch_at-returns-then-left-eq0 t c =
-    touch_none (sheet_in c.args.s.now) (frames_of c.args.s.now (table c.args.work.now) c.args.frames) c.args.node
+    touch_none (sheet_in c.args.s.now) (frames_of c.args.s.now (table c.args.work.now) c.args.scope.frames) c.args.node
     c.args.left c.if-left-eq0.true c.nothing.ensures
 
-pub touch_at-kind_at-code-requires : goal.touch_at-kind_at-code-requires
-touch_at-kind_at-code-requires t c =
+pub touch_at-kind_at-requires : goal.touch_at-kind_at-requires
+touch_at-kind_at-requires t c =
     node_room c.requires.0 c.requires.1
 
-pub touch_at-returns-then-code-ne4 : goal.touch_at-returns-then-code-ne4
-touch_at-returns-then-code-ne4 t c =
-    touch_written (sheet_in c.args.s.now) (frames_of c.args.s.now (table c.args.work.now) c.args.frames) c.args.node
+pub touch_at-returns-in_default : goal.touch_at-returns-in_default
+touch_at-returns-in_default t c =
+    touch_written (sheet_in c.args.s.now) (frames_of c.args.s.now (table c.args.work.now) c.args.scope.frames) c.args.node
     c.args.left c.if-left-eq0.false c.requires.1 _
-    c.kind_at-code.ensures c.if-code-ne4.true c.written_kind.ensures
+    c.kind_at.ensures (λ e. c.in_default.not-Text (text_coded _ e)) c.written_kind.ensures
     (sym (frames_length c.requires.0)) c.requires.0.bound.within
 
 pub touch_at-start_at-requires : goal.touch_at-start_at-requires
@@ -320,7 +321,7 @@ touch_at-classify-requires t c =
     (text_row
     (record {
       node = c.requires.1;
-      kind = sym c.kind_at-code.ensures ∙ c.if-code-ne4.false;
+      kind = sym c.kind_at.ensures ∙ ap code_of c.in-Text.is;
     })).on_text
 
 pub touch_at-slice_bounds-look_up-count : goal.touch_at-slice_bounds-look_up-count
@@ -354,37 +355,33 @@ touch_at-look_up-requires t c =
 
 pub touch_at-returns-in-Plain : goal.touch_at-returns-in-Plain
 touch_at-returns-in-Plain t c =
-    touch_plain (sheet_in c.args.s.now) (frames_of c.args.s.now (table c.args.work.now) c.args.frames) c.args.node
+    rw c.at.ensures
+    (touch_plain (sheet_in c.args.s.now) (frames_of c.args.s.now (table c.args.work.now) c.args.scope.frames) c.args.node
     c.args.left c.if-left-eq0.false
-    (record {
-      node = c.requires.1;
-      kind = sym c.kind_at-code.ensures ∙ c.if-code-ne4.false;
-    })
+    (record { node = c.requires.1; kind = sym c.kind_at.ensures ∙ ap code_of c.in-Text.is })
     (was_plain c.args.s.now c.classify.ensures
-    c.start_at.ensures c.in-Plain.is)
+    c.start_at.ensures c.in-Plain.is))
 
 pub touch_at-returns-in-Escaped : goal.touch_at-returns-in-Escaped
 touch_at-returns-in-Escaped t c =
     let x = was_escaped c.args.s.now c.classify.ensures
     c.start_at.ensures _ c.in-Escaped.is in
-    touch_less (sheet_in c.args.s.now) (frames_of c.args.s.now (table c.args.work.now) c.args.frames) c.args.node
+    rw c.at-in-Escaped.ensures
+    (touch_less (sheet_in c.args.s.now) (frames_of c.args.s.now (table c.args.work.now) c.args.scope.frames) c.args.node
     c.args.left c.if-left-eq0.false
-    (record {
-      node = c.requires.1;
-      kind = sym c.kind_at-code.ensures ∙ c.if-code-ne4.false;
-    }) x.0 x.1
+    (record { node = c.requires.1; kind = sym c.kind_at.ensures ∙ ap code_of c.in-Text.is }) x.0 x.1)
 
 pub touch_at-returns-in-Expression : goal.touch_at-returns-in-Expression
 touch_at-returns-in-Expression t c =
     let x = was_expression c.args.s.now c.classify.ensures
     c.start_at.ensures _ c.in-Expression.is in
-    touch_looked (sheet_in c.args.s.now) (frames_of c.args.s.now (table c.args.work.now) c.args.frames) c.args.node
+    touch_looked (sheet_in c.args.s.now) (frames_of c.args.s.now (table c.args.work.now) c.args.scope.frames) c.args.node
     c.args.left c.if-left-eq0.false
-    (record { node = c.requires.1; kind = sym c.kind_at-code.ensures ∙ c.if-code-ne4.false })
+    (record { node = c.requires.1; kind = sym c.kind_at.ensures ∙ ap code_of c.in-Text.is })
     x.0 (rw text_from at c.look_up.ensures) c.or_null.ensures
 
-pub walk_on-step_to-found-requires : goal.walk_on-step_to-found-requires
-walk_on-step_to-found-requires t c =
+pub walk_on-step_to-requires : goal.walk_on-step_to-requires
+walk_on-step_to-requires t c =
     (step_falls c.args.left (length c.args.path.now) c.decreases, (c.requires.0, c.requires.1, c.requires.2))
 
 pub walk_on-rest_at-requires : goal.walk_on-rest_at-requires
@@ -394,49 +391,50 @@ pub walk_on-slice_bounds-walk_on-count : goal.walk_on-slice_bounds-walk_on-count
 walk_on-slice_bounds-walk_on-count t c =
     omega (
       arith,
-      (rest_was c.in-At-rest_at.next c.rest_at.ensures
-          c.in-At-rest_at.is).3,
+      (rest_was c.in-Some.next c.rest_at.ensures
+          c.in-Some.is).3,
     )
 
 pub walk_on-slice_bounds-walk_on-start : goal.walk_on-slice_bounds-walk_on-start
 walk_on-slice_bounds-walk_on-start t c =
     omega (
       arith,
-      (rest_was c.in-At-rest_at.next c.rest_at.ensures
-          c.in-At-rest_at.is).3,
+      (rest_was c.in-Some.next c.rest_at.ensures
+          c.in-Some.is).3,
     )
 
 pub walk_on-walk_on-requires : goal.walk_on-walk_on-requires
 walk_on-walk_on-requires t c =
-    let w = rest_was c.in-At-rest_at.next c.rest_at.ensures c.in-At-rest_at.is in (
-      path_falls c.args.left (length c.args.path.now) _ c.in-At-rest_at.next 2 2 c.decreases
-          (length_from c.args.path.now c.in-At-rest_at.next) w.2 w.3 (omega arith),
+    let w = rest_was c.in-Some.next c.rest_at.ensures c.in-Some.is in (
+      path_falls c.args.left (length c.args.path.now) _ c.in-Some.next 2 2 c.decreases
+          (length_from c.args.path.now c.in-Some.next) w.2 w.3 (omega arith),
       (
         c.requires.0,
-        path_from c.args.path.now c.in-At-rest_at.next w.1 w.3 c.requires.1.short,
-        bound_fits c.step_to-found.ensures _
-            c.in-At.is,
+        path_from c.args.path.now c.in-Some.next w.1 w.3 c.requires.1.short,
+        bound_fits c.step_to.ensures _
+            c.in_ok-p.was,
       ),
     )
 
-pub walk_on-returns-in-Nothing : goal.walk_on-returns-in-Nothing
-walk_on-returns-in-Nothing t c =
-    walk_stops (sheet_in c.args.s.now) (touch (sheet_in c.args.s.now) c.args.left) (frames_of c.args.s.now (table c.args.work.now) c.args.frames)
+pub walk_on-returns-in_err-p : goal.walk_on-returns-in_err-p
+walk_on-returns-in_err-p t c =
+    rw c.from_residual.ensures
+    (walk_stops (sheet_in c.args.s.now) (touch (sheet_in c.args.s.now) c.args.left) (frames_of c.args.s.now (table c.args.work.now) c.args.scope.frames)
     (text_at c.args.path.now 0) (operand_of c.args.s.now (table c.args.work.now) c.args.o)
-    c.step_to-found.ensures c.in-Nothing.is
+    c.step_to.ensures c.in_err-p.was)
 
-pub walk_on-returns-in-Nothing-rest_at : goal.walk_on-returns-in-Nothing-rest_at
-walk_on-returns-in-Nothing-rest_at t c =
-    walk_arrives (sheet_in c.args.s.now) (touch (sheet_in c.args.s.now) c.args.left) (frames_of c.args.s.now (table c.args.work.now) c.args.frames)
+pub walk_on-returns-in-None : goal.walk_on-returns-in-None
+walk_on-returns-in-None t c =
+    walk_arrives (sheet_in c.args.s.now) (touch (sheet_in c.args.s.now) c.args.left) (frames_of c.args.s.now (table c.args.work.now) c.args.scope.frames)
     (text_at c.args.path.now 0) (operand_of c.args.s.now (table c.args.work.now) c.args.o)
-    c.step_to-found.ensures _ c.in-At.is
-    (rest_none c.args.path.now c.rest_at.ensures c.in-Nothing-rest_at.is)
+    c.step_to.ensures _ c.in_ok-p.was
+    (rest_none c.args.path.now c.rest_at.ensures c.in-None.is)
 
-pub walk_on-returns-in-At-rest_at : goal.walk_on-returns-in-At-rest_at
-walk_on-returns-in-At-rest_at t c =
-    walk_goes (sheet_in c.args.s.now) (touch (sheet_in c.args.s.now) c.args.left) (frames_of c.args.s.now (table c.args.work.now) c.args.frames)
+pub walk_on-returns-in-Some : goal.walk_on-returns-in-Some
+walk_on-returns-in-Some t c =
+    walk_goes (sheet_in c.args.s.now) (touch (sheet_in c.args.s.now) c.args.left) (frames_of c.args.s.now (table c.args.work.now) c.args.scope.frames)
     (text_at c.args.path.now 0) (operand_of c.args.s.now (table c.args.work.now) c.args.o)
-    c.step_to-found.ensures _ c.in-At.is
-    (text_at c.args.path.now c.in-At-rest_at.next)
-    (rest_was c.in-At-rest_at.next c.rest_at.ensures
-    c.in-At-rest_at.is).0 (rw text_from at c.walk_on.ensures)
+    c.step_to.ensures _ c.in_ok-p.was
+    (text_at c.args.path.now c.in-Some.next)
+    (rest_was c.in-Some.next c.rest_at.ensures
+    c.in-Some.is).0 (rw text_from at c.walk_on.ensures)

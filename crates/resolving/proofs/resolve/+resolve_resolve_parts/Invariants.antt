@@ -15,8 +15,8 @@ decreases-resolve_parts l = 2 * l.left
 
 abbrev pub invariant-resolve_parts-loop-x : goal.invariant-resolve_parts-loop-x
 invariant-resolve_parts-loop-x l =
-    Gathering l.quiet l.s l.initial.work (sheet_in l.s) (frames_of l.s (table l.initial.work) l.frames) l.node l.frames.depth l.named
-    (l.left - 1) (operand (sheet_in l.s) (frames_of l.s (table l.initial.work) l.frames) (tree l.s (table l.initial.work) l.node)) l.work l.whole
+    Gathering l.quiet l.s l.initial.work (sheet_in l.s) (frames_of l.s (table l.initial.work) l.scope.frames) l.node l.scope.frames.depth l.named
+    (l.left - 1) (operand (sheet_in l.s) (frames_of l.s (table l.initial.work) l.scope.frames) (tree l.s (table l.initial.work) l.node)) l.work l.whole
     l.c
 
 abbrev pub decreases-resolve_parts-loop-x : goal.decreases-resolve_parts-loop-x

@@ -1,11 +1,7 @@
--- `calls::marks::clear_marks` meets its contract: the loop says that no word passed is marked and that all else stays.
+-- `rules::marks::clear_marks` meets its contract: the loop says that the words passed are without their mark.
 -- Assumes nothing.
-use Prim.Native.Nat.{◌-◌, ◌≤◌}
-use Rattle.rules.specs.Alone.{Unmarked}
+use Rattle.rules.proofs.Unmarking.{Clearing}
 use Rattle.rules.proofs.marks.clear_marks.Given as goal
 
-abbrev pub invariant-loop-i : goal.invariant-loop-i
-invariant-loop-i l = (12288 ≤ l.i) × (l.i ≤ 16384) × Unmarked l.initial.work l.work l.i
-
-abbrev pub decreases-loop-i : goal.decreases-loop-i
-decreases-loop-i l = 16384 - l.i
+abbrev pub invariant-loop-word : goal.invariant-loop-word
+invariant-loop-word l = Clearing l.initial.word-items l.word-items l.word-index

@@ -1,19 +1,19 @@
--- `calls::rules::text_of` meets its contract: by whether the member was found.
+-- `rules::rules::text_of` meets its contract: by whether the member was found.
 -- Assumes nothing.
+use Rattle.std.proofs.Common.{rules}
+use Rattle.std.specs.Prelude.{Some}
+use mathlib.Core.Path.{◌≡◌}
+use Prim.Native.Nat.{ℕ, ◌*◌, ◌+◌, ◌<◌, ◌≤◌}
+use lib.ListN.{length}
 use Rattle.members.specs.Kinds.{a_text}
 use Rattle.rules.proofs.Eligibility.{there_room}
-use Rattle.rules.proofs.Settling.{its_text, no_text}
+use Rattle.rules.proofs.Settling.{text_told}
 use Rattle.rules.proofs.rules.text_of.Goals as goal
 
-pub start_at-requires : goal.start_at-requires
-start_at-requires c =
-    there_room a_text c.requires.given c.args.work.now c.in-At.n
-    c.in-At.is c.requires.known
+pub map-requires : goal.map-requires
+map-requires c =
+    let h : (n : ℕ) → c.args.found ≡ Some n → (3 * n + 3 ≤ length c.args.work.now) × (n < 4096) = λ n q. there_room a_text c.requires.given c.args.work.now n q c.requires.known in
+    search rules
 
-pub returns-in-Nothing : goal.returns-in-Nothing
-returns-in-Nothing c = no_text c.args.work.now c.in-Nothing.is
-
-pub returns-in-At : goal.returns-in-At
-returns-in-At c =
-    its_text c.args.work.now
-    c.in-At.n c.in-At.is c.start_at.ensures
+pub returns : goal.returns
+returns c = text_told c.args.work.now c.args.found c.map.result (search rules)

@@ -3,51 +3,33 @@
 use mathlib.Core.Path.{refl}
 use native.Mathlib.Omega.{arith}
 use lib.ListN.{length-set}
-use Rattle.strings.proofs.Leaves.{was_byte, was_end}
 use Rattle.json_text.specs.Spans.{text_at}
-use Rattle.search.proofs.Reading.{copy_end, copy_grow, copying}
+use Rattle.search.proofs.Reading.{copied_all, copy_end, copy_grow, copying}
 use Rattle.search.specs.Told.{CopiedTold}
+use Rattle.strings.proofs.Leaves.{was_byte, was_end}
 use Rattle.search.proofs.part.copy.Goals as goal
 
-pub loop-t-init : goal.loop-t-init
-loop-t-init c =
-    (refl, copying c.args.s.now c.args.out.now c.args.text c.begin-x.ensures c.requires)
+pub loop-n-init : goal.loop-n-init
+loop-n-init c = (refl, copying c.args.s.now c.args.out.now c.args.text c.begin-rest.ensures c.requires)
 
-pub next-requires : goal.next-requires
-next-requires c = c.loop-t.invariant.1.on_text
-
-pub shape_of-out-in-End : goal.shape_of-out-in-End
-shape_of-out-in-End c = c.loop-t.invariant.0
-
-pub returns-in-End : goal.returns-in-End
+pub returns-in_default : goal.returns-in_default
 unfolding CopiedTold
-returns-in-End c = (
-  c.loop-t.invariant.1.room,
-  copy_end c.args.s.now (text_at c.args.s.now c.args.text) c.loop-t.out c.loop-t.x c.loop-t.n c.loop-t.invariant.1
-      (was_end c.args.s.now c.loop-t.x c.next.ensures c.in-End.is),
+returns-in_default c = (
+  c.loop-n.invariant.1.room,
+  copy_end c.args.s.now (text_at c.args.s.now c.args.text) c.loop-n.out c.loop-n.rest c.loop-n.n c.loop-n.invariant.1
+      (was_end c.args.s.now c.loop-n.rest c.next.ensures c.in_default.is),
 )
 
-pub shape_of-out-then-n-out : goal.shape_of-out-then-n-out
-shape_of-out-then-n-out c = c.loop-t.invariant.0
-
-pub returns-then-n-out : goal.returns-then-n-out
-unfolding CopiedTold
-returns-then-n-out c = tt
-
-pub bounds-out-n : goal.bounds-out-n
-bounds-out-n c = omega (arith, c.loop-t.invariant.1.room)
-
-pub overflow_add-n : goal.overflow_add-n
-overflow_add-n c = omega (arith, c.loop-t.invariant.1.room)
-
-pub loop-t-smaller : goal.loop-t-smaller
-loop-t-smaller c =
-    (was_byte c.in-Byte.t c.next.ensures c.in-Byte.is).falls
-
-pub loop-t-preserved : goal.loop-t-preserved
-loop-t-preserved c = (
-  simp length-set c.loop-t.invariant.0,
-  copy_grow c.args.s.now (text_at c.args.s.now c.args.text) c.loop-t.out c.loop-t.x c.loop-t.n c.loop-t.invariant.1 _ _
-      (was_byte c.in-Byte.t c.next.ensures c.in-Byte.is)
-      c.if-n-out.false,
+pub loop-n-preserved : goal.loop-n-preserved
+loop-n-preserved c = (
+  simp length-set c.loop-n.invariant.0,
+  copy_grow c.args.s.now (text_at c.args.s.now c.args.text) c.loop-n.out c.loop-n.rest c.loop-n.n c.loop-n.invariant.1 _ _
+      (was_byte c.in-Some.t c.next.ensures c.in-Some.is) (λ e. omega arith),
 )
+
+pub returns : goal.returns
+returns c =
+    rw
+    c.then_some.ensures
+    (copied_all c.args.s.now (text_at c.args.s.now c.args.text) c.loop-n.out c.loop-n.rest (let r = c.loop-n.invariant.1.room in omega arith)
+    c.loop-n.invariant.1 c.next-2.result c.next-2.ensures c.is_none.result c.is_none.ensures)

@@ -12,60 +12,27 @@ search-init c =
     reading c.args.s.now c.args.part.now c.args.text c.begin-x.ensures
     c.requires.0
 
-pub loop-k-init : goal.loop-k-init
-loop-k-init c = (c.search.invariant, omega arith)
-
-pub next-requires : goal.next-requires
-next-requires c = c.loop-k.invariant.0.on_text
-
-pub returns-in-End : goal.returns-in-End
-returns-in-End c =
+pub returns-in_default : goal.returns-in_default
+returns-in_default c =
     sym
     (read_end c.args.s.now c.args.part.now (text_at c.args.s.now c.args.text) c.loop-k.x c.loop-k.k c.loop-k.invariant.0
     c.if-k-n.false
-    (was_end c.args.s.now c.loop-k.x c.next.ensures c.in-End.is))
-
-pub bounds-part-k : goal.bounds-part-k
-bounds-part-k c = omega (arith, c.loop-k.invariant.0.most)
+    (was_end c.args.s.now c.loop-k.x c.next.ensures c.in_default.is))
 
 pub search-smaller-then-k-eq0 : goal.search-smaller-then-k-eq0
 search-smaller-then-k-eq0 c =
     omega (
       arith,
       c.loop-k.invariant.1,
-      (was_byte c.in-Byte.t c.next.ensures c.in-Byte.is).falls,
+      (was_byte c.in-Some.t c.next.ensures c.in-Some.is).falls,
     )
 
 pub search-preserved-then-k-eq0 : goal.search-preserved-then-k-eq0
 search-preserved-then-k-eq0 c =
     read_skip c.args.s.now c.args.part.now (text_at c.args.s.now c.args.text) c.loop-k.x c.loop-k.k c.loop-k.invariant.0
     c.if-k-n.false _ _
-    (was_byte c.in-Byte.t c.next.ensures c.in-Byte.is)
+    (was_byte c.in-Some.t c.next.ensures c.in-Some.is)
     c.if-t-part.true c.if-k-eq0.true
-
-pub offset_bounds-table-k : goal.offset_bounds-table-k
-offset_bounds-table-k c =
-    omega (
-      arith,
-      c.requires.1.room,
-      c.loop-k.invariant.0.most,
-    )
-
-pub bounds-table-k : goal.bounds-table-k
-bounds-table-k c =
-    omega (
-      arith,
-      c.requires.1.room,
-      c.loop-k.invariant.0.most,
-    )
-
-pub overflow_cast-k : goal.overflow_cast-k
-overflow_cast-k c =
-    omega (
-      arith,
-      (c.requires.1.border c.loop-k.k
-          (omega arith) (omega (arith, c.loop-k.invariant.0.most))).less,
-    )
 
 pub search-smaller : goal.search-smaller
 search-smaller c =
@@ -78,25 +45,24 @@ search-smaller c =
 
 pub search-preserved : goal.search-preserved
 search-preserved c =
-    read_jump c.args.s.now c.args.part.now (text_at c.args.s.now c.args.text) c.loop-k.x c.loop-k.k c.loop-k.invariant.0
+    rw
+    c.from-k.ensures
+    (read_jump c.args.s.now c.args.part.now (text_at c.args.s.now c.args.text) c.loop-k.x c.loop-k.k c.loop-k.invariant.0
     c.if-k-n.false _ _
-    (was_byte c.in-Byte.t c.next.ensures c.in-Byte.is)
+    (was_byte c.in-Some.t c.next.ensures c.in-Some.is)
     c.if-t-part.true _
-    (c.requires.1.border c.loop-k.k (omega arith) (omega (arith, c.loop-k.invariant.0.most)))
-
-pub overflow_add-k : goal.overflow_add-k
-overflow_add-k c = omega (arith, c.loop-k.invariant.0.most)
+    (c.requires.1.border c.loop-k.k (omega arith) (omega (arith, c.loop-k.invariant.0.most))))
 
 pub loop-k-smaller : goal.loop-k-smaller
 loop-k-smaller c =
     omega (
       arith,
-      (was_byte c.in-Byte.t c.next.ensures c.in-Byte.is).falls,
+      (was_byte c.in-Some.t c.next.ensures c.in-Some.is).falls,
     )
 
 pub loop-k-preserved : goal.loop-k-preserved
 loop-k-preserved c =
-    let was_byte1 = was_byte c.in-Byte.t c.next.ensures c.in-Byte.is in (
+    let was_byte1 = was_byte c.in-Some.t c.next.ensures c.in-Some.is in (
       read_grow c.args.s.now c.args.part.now (text_at c.args.s.now c.args.text) c.loop-k.x c.loop-k.k c.loop-k.invariant.0
           c.if-k-n.false _ _ was_byte1 c.if-t-part.false,
       omega (arith, c.loop-k.invariant.1, was_byte1.falls),

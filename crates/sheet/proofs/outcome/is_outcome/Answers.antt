@@ -1,15 +1,19 @@
 -- `sheet::outcome::is_outcome` meets its contract: its names are known and each member is what it must be.
 -- Assumes nothing.
+use Rattle.strings.specs.declared.rows.Kind.TheVariants as kinds
+use Rattle.members.proofs.Shapes.{alike, unlike}
 use Rattle.sheet.proofs.Rules.{is_outcome, not_outcome, object_members}
 use Rattle.members.proofs.Walks.{room}
-use Rattle.members.specs.Words.{words_from}
+use Rattle.members.specs.Kinds.{a_bool, a_text, not_null}
+use Rattle.members.specs.Verdicts.{is_ok}
+use Rattle.members.specs.Outcome.{an_effect}
 use Rattle.sheet.proofs.outcome.is_outcome.Goals as goal
 
 pub kind_at-requires : goal.kind_at-requires
 kind_at-requires c = room c.requires
 
-pub returns-then-kind_at-ne-OBJECT : goal.returns-then-kind_at-ne-OBJECT
-returns-then-kind_at-ne-OBJECT c = not_outcome c.requires _ c.kind_at.ensures c.if-kind_at-ne-OBJECT.true
+pub returns-then-ne : goal.returns-then-ne
+returns-then-ne c = not_outcome c.requires _ c.kind_at.ensures (unlike c.kind_at.result kinds.Object c.ne.ensures c.if-ne.true)
 
 pub after_at-end-requires : goal.after_at-end-requires
 after_at-end-requires c = room c.requires
@@ -17,17 +21,20 @@ after_at-end-requires c = room c.requires
 pub members-m-requires : goal.members-m-requires
 members-m-requires c =
     object_members c.requires _ c.kind_at.ensures
-    c.if-kind_at-ne-OBJECT.false _ c.after_at-end.ensures
+    (alike c.kind_at.result kinds.Object c.ne.ensures c.if-ne.false) _ c.after_at-end.ensures
 
 pub only-requires : goal.only-requires
 only-requires c =
     object_members c.requires _ c.kind_at.ensures
-    c.if-kind_at-ne-OBJECT.false _ c.after_at-end.ensures
+    (alike c.kind_at.result kinds.Object c.ne.ensures c.if-ne.false) _ c.after_at-end.ensures
 
 pub returns : goal.returns
-unfolding words_from
 returns c =
     is_outcome c.requires _ c.kind_at.ensures
-    c.if-kind_at-ne-OBJECT.false _ c.after_at-end.ensures _ c.members-m.ensures _ _ _ _ _ _
-    c.only.ensures c.needs.ensures c.allows.ensures
-    c.allows-2.ensures c.allows-3.ensures c.allows_effect.ensures
+    (alike c.kind_at.result kinds.Object c.ne.ensures c.if-ne.false) _ c.after_at-end.ensures _ c.members-m.ensures _ _ _ _ _ _
+    c.only.ensures
+    (c.needs.ensures (λ v. is_ok (a_text v)) (λ s w n b h. h))
+    (c.allows.ensures (λ v. is_ok (not_null v)) (λ s w n b h. h))
+    (c.allows-2.ensures (λ v. is_ok (a_text v)) (λ s w n b h. h))
+    (c.allows-3.ensures (λ v. is_ok (a_bool v)) (λ s w n b h. h))
+    (c.allows-4.ensures (λ v. is_ok (an_effect v)) (λ s w n b h. h))

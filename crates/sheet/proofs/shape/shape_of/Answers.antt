@@ -1,19 +1,21 @@
 -- `sheet::shape::shape_of` meets its contract: 9 by the members, 10 and 11 by the first fault, and else the sheet, member by member.
 -- Assumes nothing.
+use Rattle.strings.specs.declared.rows.Kind.TheVariants as kinds
+use Rattle.members.proofs.Shapes.{alike, unlike}
 use mathlib.Core.Path.{ap, ◌∙◌}
-use Rattle.json_text.specs.Refusal.{not_carried, wrong_shape}
 use Rattle.sheet.proofs.Accepted.{accepted_at, shape_fault, shape_is, shape_no_object, shape_wrong}
 use Rattle.sheet.proofs.Rules.{object_members}
+use Rattle.members.proofs.Verdicts.{handed_on}
+use Rattle.sheet.specs.Accepted.{misshapen_by}
 use Rattle.members.proofs.Walks.{room}
-use Rattle.sheet.specs.Accepted.{Shaped}
 use Rattle.members.specs.Answers.{fault_is}
 use Rattle.sheet.proofs.shape.shape_of.Goals as goal
 
 pub kind_at-requires : goal.kind_at-requires
 kind_at-requires c = room c.requires.node
 
-pub returns-then-kind_at-ne-OBJECT : goal.returns-then-kind_at-ne-OBJECT
-returns-then-kind_at-ne-OBJECT c = shape_no_object c.requires _ c.kind_at.ensures c.if-kind_at-ne-OBJECT.true
+pub returns-then-ne : goal.returns-then-ne
+returns-then-ne c = shape_no_object c.requires _ c.kind_at.ensures (unlike c.kind_at.result kinds.Object c.ne.ensures c.if-ne.true)
 
 pub after_at-end-requires : goal.after_at-end-requires
 after_at-end-requires c = room c.requires.node
@@ -21,12 +23,12 @@ after_at-end-requires c = room c.requires.node
 pub members-m-requires : goal.members-m-requires
 members-m-requires c =
     object_members c.requires.node _
-    c.kind_at.ensures c.if-kind_at-ne-OBJECT.false _ c.after_at-end.ensures
+    c.kind_at.ensures (alike c.kind_at.result kinds.Object c.ne.ensures c.if-ne.false) _ c.after_at-end.ensures
 
 pub are_sheet-requires : goal.are_sheet-requires
 are_sheet-requires c = (
   object_members c.requires.node _
-      c.kind_at.ensures c.if-kind_at-ne-OBJECT.false _
+      c.kind_at.ensures (alike c.kind_at.result kinds.Object c.ne.ensures c.if-ne.false) _
       c.after_at-end.ensures,
   c.members-m.ensures,
 )
@@ -34,38 +36,27 @@ are_sheet-requires c = (
 pub returns-then-not-are_sheet : goal.returns-then-not-are_sheet
 returns-then-not-are_sheet c =
     shape_wrong c.requires _ c.kind_at.ensures
-    c.if-kind_at-ne-OBJECT.false _ c.after_at-end.ensures _ c.are_sheet.ensures
+    (alike c.kind_at.result kinds.Object c.ne.ensures c.if-ne.false) _ c.after_at-end.ensures _ c.are_sheet.ensures
     c.if-not-are_sheet.true
 
 pub first_fault-requires : goal.first_fault-requires
 first_fault-requires c =
     object_members c.requires.node _ c.kind_at.ensures
-    c.if-kind_at-ne-OBJECT.false _ c.after_at-end.ensures
+    (alike c.kind_at.result kinds.Object c.ne.ensures c.if-ne.false) _ c.after_at-end.ensures
 
-pub returns-in-Shape : goal.returns-in-Shape
-unfolding Shaped fault_is
-returns-in-Shape c =
-    shape_fault c.requires _
-    c.kind_at.ensures c.if-kind_at-ne-OBJECT.false _
-    c.after_at-end.ensures _ c.are_sheet.ensures wrong_shape
-    c.if-not-are_sheet.false
-    (c.first_fault.ensures ∙ ap fault_is c.in-Shape.is)
-
-pub returns-in-NotCarried : goal.returns-in-NotCarried
-unfolding Shaped fault_is
-returns-in-NotCarried c =
-    shape_fault c.requires _
-    c.kind_at.ensures c.if-kind_at-ne-OBJECT.false _
-    c.after_at-end.ensures _ c.are_sheet.ensures not_carried
-    c.if-not-are_sheet.false
-    (c.first_fault.ensures ∙ ap fault_is c.in-NotCarried.is)
-
-pub returns-in-Sound : goal.returns-in-Sound
+pub returns-in_err-first_fault : goal.returns-in_err-first_fault
 unfolding fault_is
-returns-in-Sound c =
-    accepted_at _ _ c.placed-members.ensures
+returns-in_err-first_fault c =
+    rw (handed_on _ {e = misshapen_by c.in_err-first_fault.field-0.0} c.from_residual.ensures.1)
+    (shape_fault c.requires _ c.kind_at.ensures (alike c.kind_at.result kinds.Object c.ne.ensures c.if-ne.false) _ c.after_at-end.ensures _
+    c.are_sheet.ensures _ c.if-not-are_sheet.false (c.first_fault.ensures ∙ ap fault_is c.in_err-first_fault.was))
+
+pub returns : goal.returns
+unfolding fault_is
+returns c =
+    accepted_at _ _ c.placed.ensures
     (shape_is c.requires _ c.kind_at.ensures
-    c.if-kind_at-ne-OBJECT.false _ c.after_at-end.ensures _
+    (alike c.kind_at.result kinds.Object c.ne.ensures c.if-ne.false) _ c.after_at-end.ensures _
     c.are_sheet.ensures c.if-not-are_sheet.false
-    (c.first_fault.ensures ∙ ap fault_is c.in-Sound.is) _
+    (c.first_fault.ensures ∙ ap fault_is c.in_ok-first_fault.was) _
     c.members-m.ensures)

@@ -2,9 +2,8 @@
 -- Assumes nothing.
 use native.Mathlib.Omega.{arith}
 use mathlib.Core.Path.{ap, refl}
-use Prim.Native.Nat.{◌-◌}
-use Rattle.json_text.specs.Refusal.{not_carried, wrong_shape}
 use Rattle.members.proofs.Soundness.{all_sound, held_fault, held_on}
+use Rattle.members.proofs.Verdicts.{handed_on}
 use Rattle.members.proofs.Walks.{falls, name_room, on_name, value_node, value_room}
 use Rattle.members.specs.Answers.{fault_is}
 use Rattle.sheet.proofs.written.first_fault.Goals as goal
@@ -24,8 +23,8 @@ held-requires c = (
   value_node c.loop-k.invariant c.loop-k-test.true,
 )
 
-pub overflow_add-k-in-Sound : goal.overflow_add-k-in-Sound
-overflow_add-k-in-Sound c =
+pub overflow_add-k-in-loop-k : goal.overflow_add-k-in-loop-k
+overflow_add-k-in-loop-k c =
     omega (
       arith,
       (value_room c.loop-k.invariant
@@ -50,21 +49,13 @@ unfolding fault_is
 loop-k-preserved c =
     held_on c.loop-k.invariant c.loop-k-test.true _
     c.start_at.ensures c.held.ensures
-    (ap fault_is c.in-Sound.is) _ c.after_at-k.ensures
+    (ap fault_is c.in_ok-held.was) _ c.after_at-k.ensures
 
-pub returns-in-Shape : goal.returns-in-Shape
+pub returns-in_err-held : goal.returns-in_err-held
 unfolding fault_is
-returns-in-Shape c =
-    held_fault c.loop-k.invariant
-    c.loop-k-test.true _ c.start_at.ensures
-    c.held.ensures wrong_shape (ap fault_is c.in-Shape.is)
-
-pub returns-in-NotCarried : goal.returns-in-NotCarried
-unfolding fault_is
-returns-in-NotCarried c =
-    held_fault c.loop-k.invariant
-    c.loop-k-test.true _ c.start_at.ensures
-    c.held.ensures not_carried (ap fault_is c.in-NotCarried.is)
+returns-in_err-held c =
+    rw (handed_on _ c.from_residual.ensures.1)
+    (held_fault c.loop-k.invariant c.loop-k-test.true _ c.start_at.ensures c.held.ensures _ (ap fault_is c.in_err-held.was))
 
 pub returns : goal.returns
 unfolding fault_is

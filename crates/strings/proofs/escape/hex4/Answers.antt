@@ -1,37 +1,32 @@
--- `reader::escape::hex4` meets its contract: digit by digit.
+-- `strings::escape::hex4` meets its contract: digit by digit.
 -- Assumes nothing.
+use mathlib.Core.Path.{sym}
+use Prim.Native.Nat.{◌<◌}
 use native.Mathlib.Omega.{arith}
-use Rattle.strings.proofs.Leaves.{short, first_bad, second_bad, third_bad, fourth_bad, all_four}
+use Rattle.strings.proofs.Leaves.{all_four, chunk_room, digit_bad, digit_on, short, spelling, unit_fits}
 use Rattle.strings.proofs.escape.hex4.Goals as goal
 
-pub returns-then-s-at-lt4 : goal.returns-then-s-at-lt4
-returns-then-s-at-lt4 c =
-    short c.args.s.now c.args.at c.requires
-    c.if-s-at-lt4.true
+pub returns-in_err-c-items : goal.returns-in_err-c-items
+returns-in_err-c-items c = rw c.from_residual.ensures (short c.args.s.now c.args.at c.in_err-c-items.ensures.cases)
 
-pub returns-then-a-ge16 : goal.returns-then-a-ge16
-returns-then-a-ge16 c =
-    first_bad c.args.s.now c.args.at _ (omega arith) c.hex_digit-a.ensures c.if-a-ge16.true
+pub overflow_mul-unit : goal.overflow_mul-unit
+overflow_mul-unit c = omega (arith, unit_fits c.loop-c.invariant c.loop-c-test.true)
 
-pub returns-then-b-ge16 : goal.returns-then-b-ge16
-returns-then-b-ge16 c =
-    second_bad c.args.s.now c.args.at _ (omega arith) c.hex_digit-a.ensures c.if-a-ge16.false _
-    c.hex_digit-b.ensures c.if-b-ge16.true
+pub overflow_add-unit : goal.overflow_add-unit
+overflow_add-unit c =
+    let b : c.in_ok-unit.field-0 < 16 = c.in_ok-unit.ensures.upper_bound in
+    omega (arith, unit_fits c.loop-c.invariant c.loop-c-test.true)
 
-pub returns-then-c-ge16 : goal.returns-then-c-ge16
-returns-then-c-ge16 c =
-    third_bad c.args.s.now c.args.at _ (omega arith) c.hex_digit-a.ensures c.if-a-ge16.false _
-    c.hex_digit-b.ensures c.if-b-ge16.false _ c.hex_digit-c.ensures
-    c.if-c-ge16.true
+pub returns-in_err-unit : goal.returns-in_err-unit
+returns-in_err-unit c =
+    rw c.from_residual-in_err-unit.ensures (digit_bad c.loop-c.invariant c.loop-c-test.true c.in_ok-c-items.ensures.cases (sym c.in_err-unit.ensures.value))
 
-pub returns-then-d-ge16 : goal.returns-then-d-ge16
-returns-then-d-ge16 c =
-    fourth_bad c.args.s.now c.args.at _ (omega arith) c.hex_digit-a.ensures c.if-a-ge16.false _
-    c.hex_digit-b.ensures c.if-b-ge16.false _ c.hex_digit-c.ensures
-    c.if-c-ge16.false _ c.hex_digit-d.ensures c.if-d-ge16.true
+pub loop-c-init : goal.loop-c-init
+loop-c-init c = spelling c.args.s.now c.args.at (chunk_room c.args.s.now c.args.at c.in_ok-c-items.ensures.cases c.requires)
+
+pub loop-c-preserved : goal.loop-c-preserved
+loop-c-preserved c =
+    digit_on c.loop-c.invariant c.loop-c-test.true c.in_ok-c-items.ensures.cases _ (sym c.in_ok-unit.ensures.value) c.in_ok-unit.ensures.upper_bound
 
 pub returns : goal.returns
-returns c =
-    all_four c.args.s.now c.args.at _ (omega arith) c.hex_digit-a.ensures c.if-a-ge16.false _
-    c.hex_digit-b.ensures c.if-b-ge16.false _ c.hex_digit-c.ensures
-    c.if-c-ge16.false _ c.hex_digit-d.ensures c.if-d-ge16.false
+returns c = all_four c.loop-c.invariant c.loop-c-test.false

@@ -1,49 +1,34 @@
--- `reader::escape::low_half` meets its contract: by what is known of its bytes.
+-- `strings::escape::low_half` meets its contract: by what is known of its bytes.
 -- Assumes nothing.
+use mathlib.Core.Path.{refl}
 use native.Mathlib.Omega.{arith}
 use Prim.Native.Nat.{◌+◌}
-use Rattle.strings.proofs.Leaves.{escape_bad, escape_is, high_short, not_backslash, not_u, no_low, wrong_low, good_low, hex_was, hex_was_bad}
+use Rattle.strings.proofs.Leaves.{escape_bad, escape_is, good_low, hex_was, hex_was_bad, no_low, no_word, two_left, wrong_low}
 use Rattle.strings.proofs.escape.low_half.Goals as goal
 
-pub returns-then-s-at-lt2 : goal.returns-then-s-at-lt2
-returns-then-s-at-lt2 c =
-    escape_bad (high_short c.args.high c.args.s.now c.args.at c.requires.0 c.if-s-at-lt2.true)
+pub hex4-requires : goal.hex4-requires
+hex4-requires c = two_left c.args.s.now c.args.at (c.if-not-starts_with.ensures.bound refl)
 
-pub returns-then-s-at-ne92 : goal.returns-then-s-at-ne92
-returns-then-s-at-ne92 c =
-    escape_bad (not_backslash c.args.high c.args.s.now c.args.at (omega arith) c.if-s-at-ne92.true)
+pub returns-then-not-starts_with : goal.returns-then-not-starts_with
+returns-then-not-starts_with c = escape_bad (no_word c.args.high c.args.s.now c.args.at c.if-not-starts_with.ensures.value)
 
-pub returns-then-s-at-ne117 : goal.returns-then-s-at-ne117
-returns-then-s-at-ne117 c =
-    escape_bad
-    (not_u c.args.high c.args.s.now c.args.at (omega arith) c.if-s-at-ne92.false c.if-s-at-ne117.true)
+pub returns-in_err-low : goal.returns-in_err-low
+returns-in_err-low c =
+    rw c.from_residual.ensures
+    (escape_bad (no_low c.args.high c.args.s.now c.args.at c.if-not-starts_with.ensures.value (hex_was_bad c.hex4.ensures c.in_err-low.was)))
 
-pub returns-then-low-lt56320 : goal.returns-then-low-lt56320
-returns-then-low-lt56320 c =
-    let w = hex_was c.in-Unit.low (c.args.at + 6) c.hex4.ensures
-    c.in-Unit.is (omega arith) in
-    escape_bad
-    (wrong_low c.args.high c.args.s.now c.args.at (omega arith) c.if-s-at-ne92.false
-    c.if-s-at-ne117.false _ _ w.0 (λ p q. omega arith))
-
-pub returns-then-low-gt57343 : goal.returns-then-low-gt57343
-returns-then-low-gt57343 c =
-    let w = hex_was c.in-Unit.low (c.args.at + 6) c.hex4.ensures c.in-Unit.is
-    (omega arith) in
-    escape_bad
-    (wrong_low c.args.high c.args.s.now c.args.at (omega arith) c.if-s-at-ne92.false
-    c.if-s-at-ne117.false _ _ w.0 (λ p q. omega arith))
-
-pub returns-in-Bad : goal.returns-in-Bad
-returns-in-Bad c =
-    escape_bad
-    (no_low c.args.high c.args.s.now c.args.at (omega arith) c.if-s-at-ne92.false
-    c.if-s-at-ne117.false (hex_was_bad c.hex4.ensures c.in-Bad.is))
-
-pub returns-else-low-gt57343 : goal.returns-else-low-gt57343
-returns-else-low-gt57343 c =
-    let w = hex_was c.in-Unit.low (c.args.at + 6) c.hex4.ensures c.in-Unit.is
-    (omega arith) in
+pub returns-in-56320-to-57343 : goal.returns-in-56320-to-57343
+returns-in-56320-to-57343 c =
+    let w = hex_was c.in_ok-low.low (c.args.at + 6) c.hex4.ensures c.in_ok-low.was (omega arith) in
     escape_is _ _
-    (good_low c.args.high c.args.s.now c.args.at (omega arith) c.if-s-at-ne92.false
-    c.if-s-at-ne117.false _ _ w.0 (omega arith) (omega arith)) (omega arith) (omega arith) w.2
+    (good_low c.args.high c.args.s.now c.args.at c.if-not-starts_with.ensures.value _ _ w.0 (omega arith) (omega arith)) (omega arith) (omega arith) w.2
+
+pub returns-in_default : goal.returns-in_default
+returns-in_default c =
+    let w = hex_was c.in_ok-low.low (c.args.at + 6) c.hex4.ensures c.in_ok-low.was (omega arith) in
+    escape_bad (wrong_low c.args.high c.args.s.now c.args.at c.if-not-starts_with.ensures.value _ _ w.0 (λ p q. omega arith))
+
+pub returns-in_default-2 : goal.returns-in_default-2
+returns-in_default-2 c =
+    let w = hex_was c.in_ok-low.low (c.args.at + 6) c.hex4.ensures c.in_ok-low.was (omega arith) in
+    escape_bad (wrong_low c.args.high c.args.s.now c.args.at c.if-not-starts_with.ensures.value _ _ w.0 (λ p q. omega arith))

@@ -17,4 +17,4 @@ returns c =
     let n = 3 * c.args.node in
     let e : suc n ≡ n + 1 = omega arith in
     let f : suc (n + 1) ≡ n + 2 = omega arith in
-    rw (e, f)
+    rw (e, f, c.code.ensures)

@@ -1,9 +1,9 @@
--- `reader::text::compare` meets its contract: up to the first escape or difference the bytes of both texts are those of the sheet, and the same.
+-- `strings::text::compare` meets its contract: up to the first escape or difference the bytes of both texts are those of the sheet, and the same.
 -- Assumes nothing.
 use mathlib.Core.Path.{◌∙◌}
 use native.Mathlib.Omega.{arith}
-use Rattle.json_text.proofs.Cursor.{abreast, abreast_end, abreast_in_a, abreast_in_b, abreast_less, abreast_more, abreast_on}
-use Rattle.strings.specs.Answers.{order_of}
+use Rattle.json_text.proofs.Cursor.{abreast, abreast_end, abreast_in_a, abreast_in_b, abreast_on, text_begins}
+use Rattle.strings.proofs.Leaves.{order_differ}
 use Rattle.strings.proofs.text.compare.Goals as goal
 
 pub loop-a-init : goal.loop-a-init
@@ -35,22 +35,14 @@ decoded-requires c =
 pub returns-then-c-eq34 : goal.returns-then-c-eq34
 returns-then-c-eq34 c = c.loop-a.invariant.same ∙ c.decoded.ensures
 
-pub returns-then-c-d-2 : goal.returns-then-c-d-2
-unfolding order_of
-returns-then-c-d-2 c =
-    abreast_less c.loop-a.invariant c.if-c-eq34.false
-    c.if-c-eq92.false c.if-d-eq34.false
-    c.if-d-eq92.false c.if-c-d-2.true
-
 pub returns-then-c-d : goal.returns-then-c-d
-unfolding order_of
 returns-then-c-d c =
-    abreast_more c.loop-a.invariant c.if-c-eq34.false
-    c.if-c-eq92.false c.if-d-eq34.false
-    c.if-d-eq92.false (omega (arith, c.if-c-d.true, c.if-c-d-2.false))
+    rw c.cmp.ensures
+    (c.loop-a.invariant.same ∙
+    order_differ (text_begins c.loop-a.invariant.on_a c.if-c-eq34.false c.if-c-eq92.false) (text_begins c.loop-a.invariant.on_b c.if-d-eq34.false c.if-d-eq92.false)
+    c.if-c-d.true)
 
 pub returns-then-c-eq34-2 : goal.returns-then-c-eq34-2
-unfolding order_of
 returns-then-c-eq34-2 c = abreast_end c.loop-a.invariant c.if-c-d.false c.if-c-eq34-2.true
 
 pub overflow_add-a-then-c-eq92-2 : goal.overflow_add-a-then-c-eq92-2

@@ -1,4 +1,4 @@
--- `reader::text::compare` meets its contract: up to the first escape or difference the bytes of both texts are those of the sheet, and the same.
+-- `strings::text::compare` meets its contract: up to the first escape or difference the bytes of both texts are those of the sheet, and the same.
 -- Assumes nothing.
 use Prim.Native.Nat.{◌-◌}
 use lib.ListN.{length}

@@ -1,17 +1,17 @@
--- `reader::utf8::is_ascii` meets its contract: the greatest byte so far and what is left decide the whole.
+-- `strings::utf8::is_ascii` meets its contract: the greatest byte tells.
 -- Assumes nothing.
-use Rattle.strings.proofs.Encoding.{greatest_new, greatest_none, greatest_of_all, greatest_still}
-use Rattle.strings.proofs.utf8.is_ascii.Goals.{then-greatest-c, else-greatest-c}
+use mathlib.Core.Path.{◌∙◌, ap}
+use Prim.Native.Nat.{ℕ}
+use lib.Dec.{ltb}
+use Rattle.std.specs.Prelude.{max}
+use Rattle.std.proofs.Common.{rules}
+use Rattle.std.proofs.lemmas.Iterator.{YieldsList-from_slice}
+use Rattle.std.proofs.lemmas.Iterator.Consumers.{fold_from_yields_List}
+use Rattle.strings.proofs.Encoding.{greatest_of_all}
 use Rattle.strings.proofs.utf8.is_ascii.Goals as goal
 
-pub loop-at-init : goal.loop-at-init
-loop-at-init c = greatest_none c.args.s.now
-
-pub loop-at-preserved : goal.loop-at-preserved
-loop-at-preserved c = elim c.if-greatest-c.branch [
-  | then-greatest-c w ↦ rw w.greatest-is (greatest_new c.loop-at.invariant c.loop-at-test.true w.if-greatest-c.true)
-  | else-greatest-c w ↦ rw w.greatest-is (greatest_still c.loop-at.invariant c.loop-at-test.true w.if-greatest-c.false)
-]
-
 pub returns : goal.returns
-returns c = greatest_of_all c.loop-at.invariant c.loop-at-test.false
+returns c =
+    ap (λ (m : ℕ). ltb m 128)
+    (fold_from_yields_List _ (λ (m x : ℕ). max x m) 0 c.fold.result c.fold.ensures.ran (YieldsList-from_slice c.args.s.now cc) (λ a x b q k. search rules)) ∙
+    greatest_of_all c.args.s.now 0

@@ -1,22 +1,21 @@
--- `reader::utf8::utf8` meets its contract: the loop says that what is left of the text decides the whole.
+-- `strings::utf8::utf8` meets its contract: what is left of the text decides the whole.
 -- Assumes nothing.
-use mathlib.Core.Path.{sym, ◌∙◌}
-use Rattle.strings.proofs.Encoding.{ascii_utf8, checked, checking, ended}
+use mathlib.Core.Path.{sym, subst, ◌∙◌}
+use Rattle.strings.proofs.Encoding.{ascii_utf8, checked, checking, ended, refuted}
+use Rattle.strings.specs.Answers.{Follows}
 use Rattle.strings.proofs.utf8.utf8.Goals as goal
 
 pub returns-then-is_ascii : goal.returns-then-is_ascii
-returns-then-is_ascii c =
-    sym
-    (ascii_utf8 c.args.s.now
-    (sym c.is_ascii.ensures ∙ c.if-is_ascii.true))
+returns-then-is_ascii c = sym (ascii_utf8 c.args.s.now (sym c.if-is_ascii.ensures))
 
-pub loop-at-init : goal.loop-at-init
-loop-at-init c = checking c.args.s.now c.tail-e.result c.tail-e.ensures
+pub loop-c-init : goal.loop-c-init
+loop-c-init c = checking c.args.s.now
 
-pub loop-at-preserved : goal.loop-at-preserved
-loop-at-preserved c =
-    checked c.loop-at.invariant c.next-e.result c.loop-at-test.true
-    c.next-e.ensures
+pub returns-in-None : goal.returns-in-None
+returns-in-None c = refuted c.loop-c.invariant c.loop-c-test.true c.in-None.ensures
+
+pub loop-c-preserved : goal.loop-c-preserved
+loop-c-preserved c = checked c.loop-c.invariant _ c.loop-c-test.true c.in-Some.ensures
 
 pub returns : goal.returns
-returns c = ended c.loop-at.invariant c.loop-at-test.false
+returns c = ended c.loop-c.invariant c.loop-c-test.false

@@ -1,8 +1,7 @@
 -- The proof of the cycle of calls {condition, conditions, quantifier}: the measure is the brackets left, and each answer is the first fault by what was read of the node.
 -- Assumes nothing.
-use mathlib.Core.Path.{ap}
+use mathlib.Core.Path.{ap, ◌∙◌}
 use native.Mathlib.Omega.{arith}
-use Rattle.json_text.specs.Refusal.{not_carried, wrong_shape}
 use Rattle.syntax.proofs.Faults.{
   array_left,
   cond_boolean,
@@ -19,10 +18,12 @@ use Rattle.syntax.proofs.Faults.{
   conditions_on,
   conditions_sound,
   found_left,
+  found_so,
   inner_name,
   inner_node,
   members_full,
   members_left,
+  missed,
   name_place,
   not_conditions,
   not_quantifier,
@@ -35,24 +36,27 @@ use Rattle.syntax.proofs.Faults.{
   quant_no_that,
   quant_several,
 }
+use mathlib.Core.Path.{sym}
+use Rattle.strings.specs.Answers.{code_of}
+use Rattle.strings.specs.declared.rows.Kind.TheVariants as kinds
+use Rattle.members.proofs.Shapes.{alike, either, is_either, neither, no_object_code, unlike}
+use Rattle.members.proofs.Verdicts.{handed_on}
 use Rattle.members.proofs.Walks.{element_falls, element_node, full, room}
 use Rattle.members.proofs.Wanted.{found_node}
 use Rattle.members.specs.Answers.{fault_is}
 use Rattle.syntax.proofs.condition.+condition_conditions_quantifier.Goals as goal
 
-pub condition-kind_at-kind-requires : goal.condition-kind_at-kind-requires
-condition-kind_at-kind-requires t c = room c.requires
+pub condition-kind_at-requires : goal.condition-kind_at-requires
+condition-kind_at-requires t c = room c.requires
 
-pub condition-returns-then-kind : goal.condition-returns-then-kind
-unfolding fault_is
-condition-returns-then-kind t c =
-    cond_boolean c.requires _ c.kind_at-kind.ensures c.if-kind.true
+pub condition-returns-in-True : goal.condition-returns-in-True
+unfolding fault_is is_either
+condition-returns-in-True t c = cond_boolean c.requires _ c.kind_at.ensures (sym (either _ c.in-True.is))
 
-pub condition-returns-then-kind-ne-OBJECT : goal.condition-returns-then-kind-ne-OBJECT
-unfolding fault_is
-condition-returns-then-kind-ne-OBJECT t c =
-    cond_neither c.requires _ c.kind_at-kind.ensures
-    c.if-kind.false c.if-kind-ne-OBJECT.true
+pub condition-returns-in_default : goal.condition-returns-in_default
+unfolding fault_is is_either
+condition-returns-in_default t c =
+    cond_neither c.requires _ c.kind_at.ensures (sym (neither _ c.in_default.not-True c.in_default.not-False)) (no_object_code _ c.in_default.not-Object)
 
 pub condition-overflow_add-from : goal.condition-overflow_add-from
 condition-overflow_add-from t c = omega (arith, (room c.requires).1)
@@ -63,13 +67,13 @@ condition-after_at-end-requires t c = room c.requires
 pub condition-count_members-requires : goal.condition-count_members-requires
 condition-count_members-requires t c =
     members_full c.requires _
-    c.kind_at-kind.ensures c.if-kind-ne-OBJECT.false _ c.after_at-end.ensures
+    c.kind_at.ensures (ap code_of c.in-Object.is) _ c.after_at-end.ensures
 
 pub condition-returns-then-count_members-ne1 : goal.condition-returns-then-count_members-ne1
 unfolding fault_is
 condition-returns-then-count_members-ne1 t c =
     cond_several c.requires _
-    c.kind_at-kind.ensures c.if-kind-ne-OBJECT.false _ c.after_at-end.ensures _
+    c.kind_at.ensures (ap code_of c.in-Object.is) _ c.after_at-end.ensures _
     c.count_members.ensures c.if-count_members-ne1.true
 
 pub condition-overflow_add-inner : goal.condition-overflow_add-inner
@@ -77,35 +81,35 @@ condition-overflow_add-inner t c =
     omega (
       arith,
       (name_place c.requires _
-          c.kind_at-kind.ensures c.if-kind-ne-OBJECT.false _ c.after_at-end.ensures
+          c.kind_at.ensures (ap code_of c.in-Object.is) _ c.after_at-end.ensures
           _ c.count_members.ensures c.if-count_members-ne1.false).1,
     )
 
 pub condition-start_at-requires : goal.condition-start_at-requires
 condition-start_at-requires t c =
     name_place c.requires _
-    c.kind_at-kind.ensures c.if-kind-ne-OBJECT.false _ c.after_at-end.ensures _
+    c.kind_at.ensures (ap code_of c.in-Object.is) _ c.after_at-end.ensures _
     c.count_members.ensures c.if-count_members-ne1.false
 
 pub condition-operator_at-requires : goal.condition-operator_at-requires
 condition-operator_at-requires t c =
     inner_name c.requires _
-    c.kind_at-kind.ensures c.if-kind-ne-OBJECT.false _
+    c.kind_at.ensures (ap code_of c.in-Object.is) _
     c.after_at-end.ensures _ c.count_members.ensures
     c.if-count_members-ne1.false _ c.start_at.ensures
 
 pub condition-overflow_sub-left : goal.condition-overflow_sub-left
 condition-overflow_sub-left t c =
     object_left c.requires _
-    c.kind_at-kind.ensures c.if-kind-ne-OBJECT.false
+    c.kind_at.ensures (ap code_of c.in-Object.is)
 
 pub condition-conditions-requires : goal.condition-conditions-requires
 condition-conditions-requires t c = (
   omega (
     arith,
-    object_left c.requires _ c.kind_at-kind.ensures c.if-kind-ne-OBJECT.false,
+    object_left c.requires _ c.kind_at.ensures (ap code_of c.in-Object.is),
   ),
-  inner_node c.requires _ c.kind_at-kind.ensures c.if-kind-ne-OBJECT.false _
+  inner_node c.requires _ c.kind_at.ensures (ap code_of c.in-Object.is) _
       c.after_at-end.ensures _ c.count_members.ensures
       c.if-count_members-ne1.false,
 )
@@ -113,15 +117,15 @@ condition-conditions-requires t c = (
 pub condition-overflow_sub-left-in-Negation : goal.condition-overflow_sub-left-in-Negation
 condition-overflow_sub-left-in-Negation t c =
     object_left c.requires _
-    c.kind_at-kind.ensures c.if-kind-ne-OBJECT.false
+    c.kind_at.ensures (ap code_of c.in-Object.is)
 
 pub condition-condition-requires : goal.condition-condition-requires
 condition-condition-requires t c = (
   omega (
     arith,
-    object_left c.requires _ c.kind_at-kind.ensures c.if-kind-ne-OBJECT.false,
+    object_left c.requires _ c.kind_at.ensures (ap code_of c.in-Object.is),
   ),
-  inner_node c.requires _ c.kind_at-kind.ensures c.if-kind-ne-OBJECT.false _
+  inner_node c.requires _ c.kind_at.ensures (ap code_of c.in-Object.is) _
       c.after_at-end.ensures _ c.count_members.ensures
       c.if-count_members-ne1.false,
 )
@@ -132,7 +136,7 @@ condition-pair_fault-requires t c =
     (record {
       left = _;
       is_node = inner_node c.requires _
-          c.kind_at-kind.ensures c.if-kind-ne-OBJECT.false _
+          c.kind_at.ensures (ap code_of c.in-Object.is) _
           c.after_at-end.ensures _ c.count_members.ensures
           c.if-count_members-ne1.false;
     })
@@ -140,15 +144,15 @@ condition-pair_fault-requires t c =
 pub condition-overflow_sub-left-in-Quantified : goal.condition-overflow_sub-left-in-Quantified
 condition-overflow_sub-left-in-Quantified t c =
     object_left c.requires _
-    c.kind_at-kind.ensures c.if-kind-ne-OBJECT.false
+    c.kind_at.ensures (ap code_of c.in-Object.is)
 
 pub condition-quantifier-requires : goal.condition-quantifier-requires
 condition-quantifier-requires t c = (
   omega (
     arith,
-    object_left c.requires _ c.kind_at-kind.ensures c.if-kind-ne-OBJECT.false,
+    object_left c.requires _ c.kind_at.ensures (ap code_of c.in-Object.is),
   ),
-  inner_node c.requires _ c.kind_at-kind.ensures c.if-kind-ne-OBJECT.false _
+  inner_node c.requires _ c.kind_at.ensures (ap code_of c.in-Object.is) _
       c.after_at-end.ensures _ c.count_members.ensures
       c.if-count_members-ne1.false,
 )
@@ -156,7 +160,7 @@ condition-quantifier-requires t c = (
 pub condition-returns-in-Junction : goal.condition-returns-in-Junction
 condition-returns-in-Junction t c =
     cond_junction c.requires _
-    c.kind_at-kind.ensures c.if-kind-ne-OBJECT.false _
+    c.kind_at.ensures (ap code_of c.in-Object.is) _
     c.after_at-end.ensures _ c.count_members.ensures c.if-count_members-ne1.false
     _ c.start_at.ensures _ c.operator_at.ensures _
     c.in-Junction.is c.conditions.ensures
@@ -164,7 +168,7 @@ condition-returns-in-Junction t c =
 pub condition-returns-in-Negation : goal.condition-returns-in-Negation
 condition-returns-in-Negation t c =
     cond_negation c.requires _
-    c.kind_at-kind.ensures c.if-kind-ne-OBJECT.false _
+    c.kind_at.ensures (ap code_of c.in-Object.is) _
     c.after_at-end.ensures _ c.count_members.ensures c.if-count_members-ne1.false
     _ c.start_at.ensures _
     c.operator_at.ensures c.in-Negation.is c.condition.ensures
@@ -173,7 +177,7 @@ pub condition-returns-in-Exists : goal.condition-returns-in-Exists
 unfolding fault_is
 condition-returns-in-Exists t c =
     cond_exists c.requires _
-    c.kind_at-kind.ensures c.if-kind-ne-OBJECT.false _
+    c.kind_at.ensures (ap code_of c.in-Object.is) _
     c.after_at-end.ensures _ c.count_members.ensures c.if-count_members-ne1.false
     _ c.start_at.ensures _ c.operator_at.ensures
     c.in-Exists.is
@@ -181,7 +185,7 @@ condition-returns-in-Exists t c =
 pub condition-returns-in-Pair : goal.condition-returns-in-Pair
 condition-returns-in-Pair t c =
     cond_pair c.requires _
-    c.kind_at-kind.ensures c.if-kind-ne-OBJECT.false _
+    c.kind_at.ensures (ap code_of c.in-Object.is) _
     c.after_at-end.ensures _ c.count_members.ensures c.if-count_members-ne1.false
     _ c.start_at.ensures _ c.operator_at.ensures _
     c.in-Pair.is c.pair_fault.ensures
@@ -189,7 +193,7 @@ condition-returns-in-Pair t c =
 pub condition-returns-in-Quantified : goal.condition-returns-in-Quantified
 condition-returns-in-Quantified t c =
     cond_quantified c.requires _
-    c.kind_at-kind.ensures c.if-kind-ne-OBJECT.false _
+    c.kind_at.ensures (ap code_of c.in-Object.is) _
     c.after_at-end.ensures _ c.count_members.ensures c.if-count_members-ne1.false
     _ c.start_at.ensures _ c.operator_at.ensures _
     c.in-Quantified.is c.quantifier.ensures
@@ -198,7 +202,7 @@ pub condition-returns-in-NotCarried : goal.condition-returns-in-NotCarried
 unfolding fault_is
 condition-returns-in-NotCarried t c =
     cond_not_carried c.requires _
-    c.kind_at-kind.ensures c.if-kind-ne-OBJECT.false _
+    c.kind_at.ensures (ap code_of c.in-Object.is) _
     c.after_at-end.ensures _ c.count_members.ensures c.if-count_members-ne1.false
     _ c.start_at.ensures _ c.operator_at.ensures
     c.in-NotCarried.is
@@ -207,7 +211,7 @@ pub condition-returns-in-Unknown : goal.condition-returns-in-Unknown
 unfolding fault_is
 condition-returns-in-Unknown t c =
     cond_unknown c.requires _
-    c.kind_at-kind.ensures c.if-kind-ne-OBJECT.false _
+    c.kind_at.ensures (ap code_of c.in-Object.is) _
     c.after_at-end.ensures _ c.count_members.ensures c.if-count_members-ne1.false
     _ c.start_at.ensures _ c.operator_at.ensures
     c.in-Unknown.is
@@ -215,10 +219,10 @@ condition-returns-in-Unknown t c =
 pub conditions-kind_at-requires : goal.conditions-kind_at-requires
 conditions-kind_at-requires t c = room c.requires
 
-pub conditions-returns-then-kind_at-ne-ARRAY : goal.conditions-returns-then-kind_at-ne-ARRAY
+pub conditions-returns-then-ne : goal.conditions-returns-then-ne
 unfolding fault_is
-conditions-returns-then-kind_at-ne-ARRAY t c =
-    not_conditions c.requires _ c.kind_at.ensures c.if-kind_at-ne-ARRAY.true
+conditions-returns-then-ne t c =
+    not_conditions c.requires _ c.kind_at.ensures (unlike c.kind_at.result kinds.Array c.ne.ensures c.if-ne.true)
 
 pub conditions-after_at-end-requires : goal.conditions-after_at-end-requires
 conditions-after_at-end-requires t c = room c.requires
@@ -229,18 +233,18 @@ conditions-overflow_add-k t c = omega (arith, (room c.requires).1)
 pub conditions-loop-k-init : goal.conditions-loop-k-init
 conditions-loop-k-init t c =
     over_conditions c.requires _
-    c.kind_at.ensures c.if-kind_at-ne-ARRAY.false _ c.after_at-end.ensures
+    c.kind_at.ensures (alike c.kind_at.result kinds.Array c.ne.ensures c.if-ne.false) _ c.after_at-end.ensures
 
 pub conditions-overflow_sub-left : goal.conditions-overflow_sub-left
 conditions-overflow_sub-left t c =
     array_left c.requires _ c.kind_at.ensures
-    c.if-kind_at-ne-ARRAY.false _ c.after_at-end.ensures
+    (alike c.kind_at.result kinds.Array c.ne.ensures c.if-ne.false) _ c.after_at-end.ensures
 
 pub conditions-condition-requires : goal.conditions-condition-requires
 conditions-condition-requires t c = (
   omega (
     arith,
-    array_left c.requires _ c.kind_at.ensures c.if-kind_at-ne-ARRAY.false _
+    array_left c.requires _ c.kind_at.ensures (alike c.kind_at.result kinds.Array c.ne.ensures c.if-ne.false) _
         c.after_at-end.ensures,
   ),
   element_node c.loop-k.invariant c.loop-k-test.true,
@@ -265,21 +269,13 @@ unfolding fault_is
 conditions-loop-k-preserved t c =
     conditions_on c.loop-k.invariant
     c.loop-k-test.true c.condition.ensures
-    (ap fault_is c.in-Sound.is) _ c.after_at-k.ensures
+    (ap fault_is c.in_ok-condition.was) _ c.after_at-k.ensures
 
-pub conditions-returns-in-Shape : goal.conditions-returns-in-Shape
+pub conditions-returns-in_err-condition : goal.conditions-returns-in_err-condition
 unfolding fault_is
-conditions-returns-in-Shape t c =
-    conditions_fault c.loop-k.invariant
-    c.loop-k-test.true c.condition.ensures wrong_shape
-    (ap fault_is c.in-Shape.is)
-
-pub conditions-returns-in-NotCarried : goal.conditions-returns-in-NotCarried
-unfolding fault_is
-conditions-returns-in-NotCarried t c =
-    conditions_fault c.loop-k.invariant
-    c.loop-k-test.true c.condition.ensures not_carried
-    (ap fault_is c.in-NotCarried.is)
+conditions-returns-in_err-condition t c =
+    rw (handed_on _ c.from_residual.ensures.1)
+    (conditions_fault c.loop-k.invariant c.loop-k-test.true c.condition.ensures _ (ap fault_is c.in_err-condition.was))
 
 pub conditions-returns : goal.conditions-returns
 unfolding fault_is
@@ -288,10 +284,10 @@ conditions-returns t c = conditions_sound c.loop-k.invariant c.loop-k-test.false
 pub quantifier-kind_at-requires : goal.quantifier-kind_at-requires
 quantifier-kind_at-requires t c = room c.requires
 
-pub quantifier-returns-then-kind_at-ne-OBJECT : goal.quantifier-returns-then-kind_at-ne-OBJECT
+pub quantifier-returns-then-ne : goal.quantifier-returns-then-ne
 unfolding fault_is
-quantifier-returns-then-kind_at-ne-OBJECT t c =
-    not_quantifier c.requires _ c.kind_at.ensures c.if-kind_at-ne-OBJECT.true
+quantifier-returns-then-ne t c =
+    not_quantifier c.requires _ c.kind_at.ensures (unlike c.kind_at.result kinds.Object c.ne.ensures c.if-ne.true)
 
 pub quantifier-overflow_add-from : goal.quantifier-overflow_add-from
 quantifier-overflow_add-from t c = omega (arith, (room c.requires).1)
@@ -302,101 +298,97 @@ quantifier-after_at-end-requires t c = room c.requires
 pub quantifier-count_members-requires : goal.quantifier-count_members-requires
 quantifier-count_members-requires t c =
     members_full c.requires _ c.kind_at.ensures
-    c.if-kind_at-ne-OBJECT.false _ c.after_at-end.ensures
+    (alike c.kind_at.result kinds.Object c.ne.ensures c.if-ne.false) _ c.after_at-end.ensures
 
 pub quantifier-returns-then-count_members-ne3 : goal.quantifier-returns-then-count_members-ne3
 unfolding fault_is
 quantifier-returns-then-count_members-ne3 t c =
     quant_several c.requires _ c.kind_at.ensures
-    c.if-kind_at-ne-OBJECT.false _ c.after_at-end.ensures _ c.count_members.ensures
+    (alike c.kind_at.result kinds.Object c.ne.ensures c.if-ne.false) _ c.after_at-end.ensures _ c.count_members.ensures
     c.if-count_members-ne3.true
 
 pub quantifier-named-requires : goal.quantifier-named-requires
 quantifier-named-requires t c =
     members_full c.requires _ c.kind_at.ensures
-    c.if-kind_at-ne-OBJECT.false _ c.after_at-end.ensures
+    (alike c.kind_at.result kinds.Object c.ne.ensures c.if-ne.false) _ c.after_at-end.ensures
 
-pub quantifier-returns-in_default : goal.quantifier-returns-in_default
-unfolding fault_is
-quantifier-returns-in_default t c =
-    quant_no_in c.requires _ c.kind_at.ensures
-    c.if-kind_at-ne-OBJECT.false _ c.after_at-end.ensures _
-    c.count_members.ensures c.if-count_members-ne3.false _
-    c.named.ensures.told.answers c.in_default.is
+pub quantifier-returns-in_err-ok_or : goal.quantifier-returns-in_err-ok_or
+quantifier-returns-in_err-ok_or t c =
+    rw (handed_on _ c.from_residual.ensures.1)
+    (quant_no_in c.requires _ c.kind_at.ensures (alike c.kind_at.result kinds.Object c.ne.ensures c.if-ne.false) _
+    c.after_at-end.ensures _ c.count_members.ensures c.if-count_members-ne3.false _ c.named.ensures.told.answers
+    (missed c.ok_or.ensures.value c.in_err-ok_or.was).0 ∙ (missed c.ok_or.ensures.value c.in_err-ok_or.was).1)
 
 pub quantifier-named-requires-2 : goal.quantifier-named-requires-2
 quantifier-named-requires-2 t c =
     members_full c.requires _
-    c.kind_at.ensures c.if-kind_at-ne-OBJECT.false _
+    c.kind_at.ensures (alike c.kind_at.result kinds.Object c.ne.ensures c.if-ne.false) _
     c.after_at-end.ensures
 
-pub quantifier-returns-in_default-named : goal.quantifier-returns-in_default-named
-unfolding fault_is
-quantifier-returns-in_default-named t c =
-    quant_no_as c.requires _ c.kind_at.ensures
-    c.if-kind_at-ne-OBJECT.false _ c.after_at-end.ensures _
-    c.count_members.ensures c.if-count_members-ne3.false _
-    c.named.ensures.told.answers c.in-At._over
-    c.in-At.is _ c.named-2.ensures.told.answers c.in_default-named.is
+pub quantifier-returns-in_err-bind : goal.quantifier-returns-in_err-bind
+quantifier-returns-in_err-bind t c =
+    rw (handed_on _ c.from_residual-in_err-bind.ensures.1)
+    (quant_no_as c.requires _ c.kind_at.ensures (alike c.kind_at.result kinds.Object c.ne.ensures c.if-ne.false) _
+    c.after_at-end.ensures _ c.count_members.ensures c.if-count_members-ne3.false _ c.named.ensures.told.answers
+    _ (found_so c.ok_or.ensures.ok_part c.in_ok-ok_or.was) _ c.named-2.ensures.told.answers
+    (missed c.ok_or-2.ensures.value c.in_err-bind.was).0 ∙ (missed c.ok_or-2.ensures.value c.in_err-bind.was).1)
 
 pub quantifier-named-requires-3 : goal.quantifier-named-requires-3
 quantifier-named-requires-3 t c =
     members_full c.requires _
-    c.kind_at.ensures c.if-kind_at-ne-OBJECT.false _
+    c.kind_at.ensures (alike c.kind_at.result kinds.Object c.ne.ensures c.if-ne.false) _
     c.after_at-end.ensures
 
-pub quantifier-returns-in_default-named-2 : goal.quantifier-returns-in_default-named-2
-unfolding fault_is
-quantifier-returns-in_default-named-2 t c =
-    quant_no_that c.requires _ c.kind_at.ensures
-    c.if-kind_at-ne-OBJECT.false _ c.after_at-end.ensures _
-    c.count_members.ensures c.if-count_members-ne3.false _
-    c.named.ensures.told.answers c.in-At._over
-    c.in-At.is _ c.named-2.ensures.told.answers
-    c.in-At-named.bind c.in-At-named.is _
-    c.named-3.ensures.told.answers c.in_default-named-2.is
+pub quantifier-returns-in_err-body : goal.quantifier-returns-in_err-body
+quantifier-returns-in_err-body t c =
+    rw (handed_on _ c.from_residual-in_err-body.ensures.1)
+    (quant_no_that c.requires _ c.kind_at.ensures (alike c.kind_at.result kinds.Object c.ne.ensures c.if-ne.false) _
+    c.after_at-end.ensures _ c.count_members.ensures c.if-count_members-ne3.false _ c.named.ensures.told.answers
+    _ (found_so c.ok_or.ensures.ok_part c.in_ok-ok_or.was) _ c.named-2.ensures.told.answers
+    _ (found_so c.ok_or-2.ensures.ok_part c.in_ok-bind.was) _ c.named-3.ensures.told.answers
+    (missed c.ok_or-3.ensures.value c.in_err-body.was).0 ∙ (missed c.ok_or-3.ensures.value c.in_err-body.was).1)
 
 pub quantifier-kind_at-requires-2 : goal.quantifier-kind_at-requires-2
 quantifier-kind_at-requires-2 t c =
     room
-    (found_node c.in-At-named.bind c.in-At-named.is
+    (found_node _ (found_so c.ok_or-2.ensures.ok_part c.in_ok-bind.was)
     c.named-2.ensures.told.bounds)
 
-pub quantifier-returns-then-kind_at-ne-TEXT : goal.quantifier-returns-then-kind_at-ne-TEXT
+pub quantifier-returns-then-ne-2 : goal.quantifier-returns-then-ne-2
 unfolding fault_is
-quantifier-returns-then-kind_at-ne-TEXT t c =
+quantifier-returns-then-ne-2 t c =
     quant_no_name c.requires _ c.kind_at.ensures
-    c.if-kind_at-ne-OBJECT.false _ c.after_at-end.ensures _
+    (alike c.kind_at.result kinds.Object c.ne.ensures c.if-ne.false) _ c.after_at-end.ensures _
     c.count_members.ensures c.if-count_members-ne3.false _
-    c.named.ensures.told.answers c.in-At._over
-    c.in-At.is _ c.named-2.ensures.told.answers c.in-At-named.bind c.in-At-named.is _
-    c.named-3.ensures.told.answers c.in-At-named-2.body
-    c.in-At-named-2.is
-    (found_node c.in-At-named.bind c.in-At-named.is c.named-2.ensures.told.bounds) _
-    c.kind_at-2.ensures c.if-kind_at-ne-TEXT.true
+    c.named.ensures.told.answers _
+    (found_so c.ok_or.ensures.ok_part c.in_ok-ok_or.was) _ c.named-2.ensures.told.answers _ (found_so c.ok_or-2.ensures.ok_part c.in_ok-bind.was) _
+    c.named-3.ensures.told.answers _
+    (found_so c.ok_or-3.ensures.ok_part c.in_ok-body.was)
+    (found_node _ (found_so c.ok_or-2.ensures.ok_part c.in_ok-bind.was) c.named-2.ensures.told.bounds) _
+    c.kind_at-2.ensures (unlike c.kind_at-2.result kinds.Text c.ne-2.ensures c.if-ne-2.true)
 
 pub quantifier-overflow_sub-left : goal.quantifier-overflow_sub-left
 quantifier-overflow_sub-left t c =
     object_left c.requires _ c.kind_at.ensures
-    c.if-kind_at-ne-OBJECT.false
+    (alike c.kind_at.result kinds.Object c.ne.ensures c.if-ne.false)
 
 pub quantifier-condition-requires : goal.quantifier-condition-requires
 quantifier-condition-requires t c = (
-  omega (arith, object_left c.requires _ c.kind_at.ensures c.if-kind_at-ne-OBJECT.false),
-  found_left c.in-At-named-2.body c.named-3.ensures
-      c.in-At-named-2.is
-      (members_left c.requires _ c.kind_at.ensures c.if-kind_at-ne-OBJECT.false _
+  omega (arith, object_left c.requires _ c.kind_at.ensures (alike c.kind_at.result kinds.Object c.ne.ensures c.if-ne.false)),
+  found_left _ c.named-3.ensures
+      (found_so c.ok_or-3.ensures.ok_part c.in_ok-body.was)
+      (members_left c.requires _ c.kind_at.ensures (alike c.kind_at.result kinds.Object c.ne.ensures c.if-ne.false) _
       c.after_at-end.ensures),
 )
 
 pub quantifier-returns : goal.quantifier-returns
 quantifier-returns t c =
     quant_body c.requires _ c.kind_at.ensures
-    c.if-kind_at-ne-OBJECT.false _ c.after_at-end.ensures _
+    (alike c.kind_at.result kinds.Object c.ne.ensures c.if-ne.false) _ c.after_at-end.ensures _
     c.count_members.ensures c.if-count_members-ne3.false _
-    c.named.ensures.told.answers c.in-At._over
-    c.in-At.is _ c.named-2.ensures.told.answers c.in-At-named.bind c.in-At-named.is _
-    c.named-3.ensures.told.answers c.in-At-named-2.body
-    c.in-At-named-2.is
-    (found_node c.in-At-named.bind c.in-At-named.is c.named-2.ensures.told.bounds) _
-    c.kind_at-2.ensures c.if-kind_at-ne-TEXT.false c.condition.ensures
+    c.named.ensures.told.answers _
+    (found_so c.ok_or.ensures.ok_part c.in_ok-ok_or.was) _ c.named-2.ensures.told.answers _ (found_so c.ok_or-2.ensures.ok_part c.in_ok-bind.was) _
+    c.named-3.ensures.told.answers _
+    (found_so c.ok_or-3.ensures.ok_part c.in_ok-body.was)
+    (found_node _ (found_so c.ok_or-2.ensures.ok_part c.in_ok-bind.was) c.named-2.ensures.told.bounds) _
+    c.kind_at-2.ensures (alike c.kind_at-2.result kinds.Text c.ne-2.ensures c.if-ne-2.false) c.condition.ensures

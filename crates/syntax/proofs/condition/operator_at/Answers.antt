@@ -1,7 +1,7 @@
 -- `operator_at` meets its contract: a text that is an operator's name finds what the name finds.
 -- Assumes nothing.
 use mathlib.Core.Bool.{Bool, true}
-use mathlib.Core.Option.{Option, some}
+use Rattle.std.specs.Prelude.{Option, Some}
 use mathlib.Core.Path.{ap, refl, sym, ◌∙◌, ◌≡◌}
 use Rattle.json_text.proofs.Laws.{same_bytes_true}
 use Rattle.json_text.specs.Bytes.{Bytes, ascii, find, same_bytes}
@@ -16,13 +16,13 @@ is_name t w f e h = ap (λ (k : Bytes). find k operators) (same_bytes_true t w (
 -- what the names that are told by their first byte find
 
 record Found : Type 0 where
-  pub is_eq : find (ascii "eq") operators ≡ some (op_pair eq)
-  pub is-forAll : find (ascii "for_all") operators ≡ some (op_quantified every)
-  pub is-forAny : find (ascii "for_any") operators ≡ some (op_quantified Mode.any)
-  pub is_gt : find (ascii "gt") operators ≡ some (op_pair gt)
-  pub is-gte : find (ascii "gte") operators ≡ some (op_pair gte)
-  pub is_lt : find (ascii "lt") operators ≡ some (op_pair lt)
-  pub is-lte : find (ascii "lte") operators ≡ some (op_pair lte)
+  pub is_eq : find (ascii "eq") operators ≡ Some (op_pair eq)
+  pub is-forAll : find (ascii "for_all") operators ≡ Some (op_quantified every)
+  pub is-forAny : find (ascii "for_any") operators ≡ Some (op_quantified Mode.any)
+  pub is_gt : find (ascii "gt") operators ≡ Some (op_pair gt)
+  pub is-gte : find (ascii "gte") operators ≡ Some (op_pair gte)
+  pub is_lt : find (ascii "lt") operators ≡ Some (op_pair lt)
+  pub is-lte : find (ascii "lte") operators ≡ Some (op_pair lte)
 
 found : Found
 unfolding find same_bytes
@@ -64,3 +64,68 @@ returns-then-is_word-6 c = is_name _ (ascii "lt") found.is_lt c.is_word-in-108.e
 pub returns-then-is_word-7 : goal.returns-then-is_word-7
 unfolding operator_of form_of mode_of
 returns-then-is_word-7 c = is_name _ (ascii "lte") found.is-lte c.is_word-in-108-2.ensures c.if-is_word-7.true
+
+-- the table's rows, one by one
+pub returns : goal.returns
+unfolding operator_of form_of mode_of
+returns c = c.operator_in.ensures operators (
+  refl,
+  refl,
+  (
+    refl,
+    refl,
+    (
+      refl,
+      refl,
+      (
+        refl,
+        refl,
+        (
+          refl,
+          refl,
+          (
+            refl,
+            refl,
+            (
+              refl,
+              refl,
+              (
+                refl,
+                refl,
+                (
+                  refl,
+                  refl,
+                  (
+                    refl,
+                    refl,
+                    (
+                      refl,
+                      refl,
+                      (
+                        refl,
+                        refl,
+                        (
+                          refl,
+                          refl,
+                          (
+                            refl,
+                            refl,
+                            (
+                              refl,
+                              refl,
+                              (refl, refl, (refl, refl, (refl, refl, (refl, refl, (refl, refl, tt))))),
+                            ),
+                          ),
+                        ),
+                      ),
+                    ),
+                  ),
+                ),
+              ),
+            ),
+          ),
+        ),
+      ),
+    ),
+  ),
+)

@@ -1,25 +1,14 @@
--- `digits` meets its contract: the loop says that what stands at the start stands here.
+-- `digits` meets its contract: by the first byte that is no digit.
 -- Assumes nothing.
-use native.Mathlib.Omega.{arith}
-use Rattle.tokens.proofs.Numbers.{over_digit}
+use Rattle.std.proofs.Common.{rules, tests}
+use Rattle.std.proofs.lemmas.Iterator.{IsFirst-from_position, YieldsList-from_slice}
+use Rattle.tokens.proofs.Numbers.{digits_first}
+use Rattle.tokens.specs.Numbering.{IsDigit}
 use Rattle.tokens.proofs.numeral.digits.Goals as goal
 
-pub loop-here-init : goal.loop-here-init
-loop-here-init c = (c.requires.0, λ at n. n)
-
-pub loop-here-preserved : goal.loop-here-preserved
-loop-here-preserved c =
-    let d = c.is_digit.ensures c.if-not-is_digit.false in (
-      omega (arith, c.loop-here-test.true),
-      over_digit _ c.loop-here.here c.loop-here.left c.requires.1 c.loop-here.invariant.1 c.loop-here-test.true
-          c.if-left-eq0.false d.0 d.1,
-    )
-
-pub returns-after-loop-here : goal.returns-after-loop-here
-returns-after-loop-here c = c.loop-here.invariant.1
-
-pub returns-then-left-eq0 : goal.returns-then-left-eq0
-returns-then-left-eq0 c = c.loop-here.invariant.1
-
-pub returns-then-not-is_digit : goal.returns-then-not-is_digit
-returns-then-not-is_digit c = c.loop-here.invariant.1
+pub returns : goal.returns
+returns c =
+    rw c.unwrap_or.ensures
+    (digits_first c.args.s.now c.position.result
+    (IsFirst-from_position _ _ c.position.result (λ x. Unit {0}) IsDigit c.position.ensures.ran (YieldsList-from_slice c.args.s.now cc)
+    (λ x q k. tt) (λ x q k. search (rules, tests))))

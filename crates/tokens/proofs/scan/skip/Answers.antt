@@ -1,7 +1,8 @@
--- `reader::scan::skip` meets its contract: the loop says that skipping from here on is the whole.
+-- `skip` meets its contract: skipping from here on is the whole.
 -- Assumes nothing.
 use native.Mathlib.Omega.{arith}
-use mathlib.Core.Path.{refl, sym, ◌∙◌}
+use mathlib.Core.Path.{refl, sym, ◌∙◌, ◌≡◌}
+use lib.ListN.{length}
 use Rattle.tokens.proofs.Scans.{skip_none, skip_on, skip_stop}
 use Rattle.tokens.proofs.scan.skip.Goals as goal
 
@@ -26,6 +27,5 @@ loop-here-preserved c =
 
 pub returns : goal.returns
 returns c =
-    sym
-    (c.loop-here.invariant.same ∙ skip_none c.args.s.now c.loop-here.here
-    c.loop-here-test.false c.loop-here.invariant.upto)
+    let e : length c.args.s.now ≡ c.loop-here.here = omega (arith, c.loop-here.invariant.upto) in
+    e ∙ sym (c.loop-here.invariant.same ∙ skip_none c.args.s.now c.loop-here.here (omega arith) c.loop-here.invariant.upto)

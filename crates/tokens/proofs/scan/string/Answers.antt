@@ -1,4 +1,4 @@
--- `reader::scan::string` meets its contract: the loop says that the scan from here on is the whole scan.
+-- `string` meets its contract: the scan from here on is the whole scan.
 -- Assumes nothing.
 use native.Mathlib.Omega.{arith}
 use mathlib.Core.Path.{refl, ◌∙◌}
@@ -23,23 +23,23 @@ returns-then-c-lt32 c =
     c.loop-here.invariant.same ∙ scan_control c.args.s.now c.loop-here.here
     c.loop-here-test.true c.if-c-lt32.true
 
-pub returns-in-Bad : goal.returns-in-Bad
+pub returns-in_default : goal.returns-in_default
 unfolding scan_of
-returns-in-Bad c =
+returns-in_default c =
     c.loop-here.invariant.same ∙ scan_bad c.args.s.now
     c.loop-here.here c.loop-here-test.true
     c.if-c-eq92.true
-    (escape_was_bad c.escape.ensures c.in-Bad.is)
+    (escape_was_bad c.escape.ensures c.in_default.is)
 
-pub loop-here-smaller-in-Is : goal.loop-here-smaller-in-Is
-loop-here-smaller-in-Is c =
-    let w = escape_was c.in-Is.x c.escape.ensures c.in-Is.is in
+pub loop-here-smaller-then-c-eq92 : goal.loop-here-smaller-then-c-eq92
+loop-here-smaller-then-c-eq92 c =
+    let w = escape_was c.in-Some.x c.escape.ensures c.in-Some.is in
     omega arith
 
-pub loop-here-preserved-in-Is : goal.loop-here-preserved-in-Is
-loop-here-preserved-in-Is c =
-    let w = escape_was c.in-Is.x c.escape.ensures
-    c.in-Is.is in
+pub loop-here-preserved-then-c-eq92 : goal.loop-here-preserved-then-c-eq92
+loop-here-preserved-then-c-eq92 c =
+    let w = escape_was c.in-Some.x c.escape.ensures
+    c.in-Some.is in
     record {
       upto = w.3;
       same = c.loop-here.invariant.same ∙ scan_escape

@@ -1,4 +1,4 @@
--- `reader::scan::string` meets its contract: the loop says that the scan from here on is the whole scan.
+-- `string` meets its contract: the scan from here on is the whole scan.
 -- Assumes nothing.
 use Prim.Native.Nat.{◌-◌}
 use lib.ListN.{length}

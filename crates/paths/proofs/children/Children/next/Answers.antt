@@ -1,16 +1,14 @@
--- `operands::children::Children::next` meets its contract: by whether a child is left.
+-- `paths::children::Children::next` meets its contract: by whether a child is left.
 -- Assumes nothing.
+use mathlib.Core.Logic.{⊎_elim}
 use Rattle.paths.proofs.Ordered.{next_is, next_out, next_past}
 use Rattle.paths.specs.Stored.{table}
 use native.Mathlib.Omega.{arith}
 use Rattle.paths.proofs.children.Children.next.Goals as goal
 
-pub returns-then-left-eq0 : goal.returns-then-left-eq0
-returns-then-left-eq0 c = next_out (table c.args.work.now) c.args.self c.if-left-eq0.true
-
-pub returns-then-end-at : goal.returns-then-end-at
-returns-then-end-at c =
-    next_past (table c.args.work.now) c.args.self c.if-end-at.true
+pub returns-then-self-eq0 : goal.returns-then-self-eq0
+returns-then-self-eq0 c =
+    ⊎_elim (λ e. next_out (table c.args.work.now) c.args.self e) (λ e. next_past (table c.args.work.now) c.args.self e.1) c.then-self-eq0.either
 
 pub onward-requires : goal.onward-requires
 onward-requires c =
@@ -20,6 +18,4 @@ onward-requires c =
     }
 
 pub returns : goal.returns
-returns c =
-    next_is (table c.args.work.now) c.args.self c.if-left-eq0.false c.if-end-at.false
-    c.onward.ensures
+returns c = next_is (table c.args.work.now) c.args.self c.if-self-eq0.false c.if-self.false c.onward.ensures

@@ -1,6 +1,0 @@
--- `line::lay::decimal` meets its contract: the digits of a tenth, and then the last one; the number falls.
--- Assumes nothing.
-use Rattle.writer.proofs.lay.+decimal.Given as goal
-
-abbrev pub decreases-decimal : goal.decreases-decimal
-decreases-decimal l = l.n
