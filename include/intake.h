@@ -51,7 +51,7 @@ extern "C" {
 #define INTAKE_OUTPUT_BYTES 294976
 
 /* Stack for a call: twice the most that was measured, on sheets that nest as deep as sheets can (`scripts/stack`). */
-#define INTAKE_STACK_BYTES 4194304
+#define INTAKE_STACK_BYTES 3145728
 
 /* The numbers, as in the table above. */
 enum intake_number {

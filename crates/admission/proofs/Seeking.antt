@@ -15,9 +15,8 @@ use Rattle.members.specs.Outcome.{Outcome, an_outcome, or_false}
 use Rattle.sheet.specs.declared.outcome.OutcomeMembers.{OutcomeMembers}
 use Rattle.sheet.specs.Accepted.{Known}
 use Rattle.answers.specs.Outcomes.{Placed, at, first_from}
-use Rattle.rules.specs.declared.placed.Placed.{Placed as Spot}
 use Rattle.admission.specs.Places.{PlacedAt}
-use Rattle.rules.proofs.Walking.{Walking, ended, falls, goes_on, next, settled, starts}
+use Rattle.rules.proofs.Walking.{Walking, ended, goes_on, next, settled, starts}
 
 -- ---- an answer
 module _ (s : Bytes) (w : List ℕ) {from e : ℕ} {whole here : List (Outcome Condition) → Option Placed} {k : ℕ} (l : Walking (an_outcome condition) s w from e whole here k) where
@@ -30,12 +29,6 @@ module _ (s : Bytes) (w : List ℕ) {from e : ℕ} {whole here : List (Outcome C
       PlacedAt s w (whole os) (Some (record { place = i; node = k }))
   unfolding PlacedAt
   placed h i q os g = ((next l h).first, sym (settled l h (Some (record { place = i; outcome = (next l h).first })) q os g), (next l h).here)
-
--- the item behind: further on, and no further than the end
-pub spot_falls :
-    {s : Bytes} {w : List ℕ} {from e : ℕ} {whole here : List (Outcome Condition) → Option Placed} {k i : ℕ} → Walking (an_outcome condition) s w from e whole here k → k < e →
-    {p : Spot} → p ≡ record { place = i; node = after_at w k } → (k < p.node) × (p.node ≤ e)
-spot_falls l h {p} q = falls l h p.node (ap (λ (x : Spot). x.node) q)
 
 pub outcome_known :
     {s : Bytes} {w : List ℕ} {from e : ℕ} {whole here : List (Outcome Condition) → Option Placed} {k : ℕ} → Walking (an_outcome condition) s w from e whole here k → k < e →
@@ -55,35 +48,42 @@ at_none : (i n : ℕ) → at i n [] ≡ None
 unfolding at
 at_none i n = refl
 
--- places counted on the way: so many are left
-pub record Counting (s : Bytes) (w : List ℕ) (from e place i k : ℕ) : Type 0 where
-  pub low : i ≤ k
-  pub upto : i ≤ place
-  pub walking : Walking (an_outcome condition) s w from e (at 0 place) (at i (place - i)) k
+-- so many passed: the places behind them are those of what is left
+pub record Passed (s : Bytes) (w : List ℕ) (from e i k : ℕ) : Type 0 where
+  pub walking : (m : ℕ) → Walking (an_outcome condition) s w from e (at 0 (i + m)) (at i m) k
 
-module _ {s : Bytes} {w : List ℕ} {from e place i k : ℕ} (l : Counting s w from e place i k) where
-  pub past_all : e ≤ k → (os : List (Outcome Condition)) → EachGives (an_outcome condition) s w from e os → PlacedAt s w (at 0 place os) None
-  past_all h = none_placed s w l.walking h (at_none i (place - i))
+pub passed : {s : Bytes} {w : List ℕ} {from e : ℕ} → Known (EachGives (an_outcome condition) s w from e) → Passed s w from e 0 from
+passed {s} {w} {from} {e} g =
+    record {
+      walking = λ m.
+          let q : m ≡ 0 + m = omega arith in
+          subst (λ (x : ℕ). Walking (an_outcome condition) s w from e (at 0 x) (at 0 m) from) q (starts (at 0 m) g);
+    }
 
-  module _ (h : k < e) where
-    pub at_place : i ≡ place → (os : List (Outcome Condition)) → EachGives (an_outcome condition) s w from e os →
-        PlacedAt s w (at 0 place os) (Some (record { place = i; node = k }))
-    at_place q = placed s w l.walking h i (sym (at_here i (place - i) (next l.walking h).first (next l.walking h).others (omega arith)))
+module _ {s : Bytes} {w : List ℕ} {from e i k : ℕ} (l : Passed s w from e i k) where
+  pub passed_on : k < e → Passed s w from e (i + 1) (after_at w k)
+  passed_on h =
+      record {
+        walking = λ m.
+            let q : i + (m + 1) ≡ i + 1 + m = omega arith in
+            let n = next (l.walking (m + 1)) h in
+            subst (λ (x : ℕ). Walking (an_outcome condition) s w from e (at 0 x) (at (i + 1) m) (after_at w k)) q
+            (goes_on (l.walking (m + 1)) h (at (i + 1) m) (at_more i (m + 1) m n.first n.others (omega arith)) (after_at w k) refl);
+      }
 
-    pub counts_on : (i ≡ place → ⊥) → {p : Spot} → p ≡ record { place = i + 1; node = after_at w k } → Counting s w from e place p.place p.node
-    counts_on q {p} z =
-        subst (λ (x : Spot). Counting s w from e place x.place x.node) (sym z)
-        (record {
-          low = omega (arith, (next l.walking h).past, l.low);
-          upto = omega arith;
-          walking = goes_on l.walking h (at (i + 1) (place - (i + 1)))
-              (at_more i (place - i) (place - (i + 1)) (next l.walking h).first (next l.walking h).others (omega arith)) (after_at w k) refl;
-        })
+  module _ (place : ℕ) (os : List (Outcome Condition)) (g : EachGives (an_outcome condition) s w from e os) where
+    pub past_all : e ≤ k → i ≤ place → PlacedAt s w (at 0 place os) None
+    past_all h b =
+        let q : i + (place - i) ≡ place = omega arith in
+        subst (λ (x : ℕ). PlacedAt s w (at 0 x os) None) q (none_placed s w (l.walking (place - i)) h (at_none i (place - i)) os g)
 
-pub counting : {s : Bytes} {w : List ℕ} {from e : ℕ} (place : ℕ) → Known (EachGives (an_outcome condition) s w from e) → Counting s w from e place 0 from
-counting {s} {w} {from} {e} place g =
-    let q : place ≡ place - 0 = omega arith in
-    record { low = omega arith; upto = omega arith; walking = subst (λ (x : ℕ). Walking (an_outcome condition) s w from e (at 0 place) (at 0 x) from) q (starts (at 0 place) g) }
+    pub at_place : k < e → i ≡ place → PlacedAt s w (at 0 place os) (Some (record { place = place; node = k }))
+    at_place h b =
+        let q : i + 0 ≡ place = omega arith in
+        let n = next (l.walking 0) h in
+        subst (λ (x : ℕ). PlacedAt s w (at 0 x os) (Some (record { place = place; node = k }))) q
+        (subst (λ (x : ℕ). PlacedAt s w (at 0 (i + 0) os) (Some (record { place = x; node = k }))) b
+        (placed s w (l.walking 0) h i (sym (at_here i 0 n.first n.others refl)) os g))
 
 -- ---- the first for the wrong state
 abbrev pub first_wrong : ℕ → List (Outcome Condition) → Option Placed
@@ -99,11 +99,10 @@ unfolding first_from
 first_none i = refl
 
 pub record Passing (s : Bytes) (w : List ℕ) (from e i k : ℕ) : Type 0 where
-  pub low : i ≤ k
   pub walking : Walking (an_outcome condition) s w from e (first_wrong 0) (first_wrong i) k
 
-pub passing : {s : Bytes} {w : List ℕ} {from e : ℕ} → Known (EachGives (an_outcome condition) s w from e) → Passing s w from e 0 from
-passing g = record { low = omega arith; walking = starts (first_wrong 0) g }
+pub passing : {s : Bytes} {w : List ℕ} {from e i : ℕ} → i ≡ 0 → Known (EachGives (an_outcome condition) s w from e) → Passing s w from e i from
+passing {s} {w} {from} {e} q g = subst (λ (i : ℕ). Passing s w from e i from) (sym q) (record { walking = starts (first_wrong 0) g })
 
 pub flag_known : {s : Bytes} {w : List ℕ} {m : OutcomeMembers} {o : Outcome Condition} → OutcomeGives s w m o → Known (λ (t : Bytes). Known (MayGive a_bool t w m.wrong_state))
 flag_known {s} g = record { given = s; known = record { given = g.wrong; known = g.wrong_state } }
@@ -117,15 +116,15 @@ module _ {s : Bytes} {w : List ℕ} {from e i k : ℕ} (l : Passing s w from e i
     here_is : (next l.walking h).first.wrong_state ≡ b
     here_is = let g = given (next l.walking h).first (next l.walking h).here in g.is_wrong ∙ sym (a s g.wrong g.wrong_state)
 
-    pub wrong_here : b ≡ true → (os : List (Outcome Condition)) → EachGives (an_outcome condition) s w from e os →
-        PlacedAt s w (first_wrong 0 os) (Some (record { place = i; node = k }))
-    wrong_here q = placed s w l.walking h i (sym (first_of i (next l.walking h).first (next l.walking h).others true (here_is ∙ q)))
+    pub wrong_here : b ≡ true → {j : ℕ} → j ≡ i → (os : List (Outcome Condition)) → EachGives (an_outcome condition) s w from e os →
+        PlacedAt s w (first_wrong 0 os) (Some (record { place = j; node = k }))
+    wrong_here q {j} z os g = subst (λ (x : ℕ). PlacedAt s w (first_wrong 0 os) (Some (record { place = x; node = k }))) (sym z)
+        (placed s w l.walking h i (sym (first_of i (next l.walking h).first (next l.walking h).others true (here_is ∙ q))) os g)
 
-    pub wrong_later : b ≡ false → {p : Spot} → p ≡ record { place = i + 1; node = after_at w k } → Passing s w from e p.place p.node
-    wrong_later q {p} z =
-        subst (λ (x : Spot). Passing s w from e x.place x.node) (sym z)
+    pub wrong_later : b ≡ false → {j : ℕ} → j ≡ i + 1 → Passing s w from e j (after_at w k)
+    wrong_later q {j} z =
+        subst (λ (x : ℕ). Passing s w from e x (after_at w k)) (sym z)
         (record {
-          low = omega (arith, (next l.walking h).past, l.low);
           walking = goes_on l.walking h (first_wrong (i + 1))
               (first_of i (next l.walking h).first (next l.walking h).others false (here_is ∙ q)) (after_at w k) refl;
         })

@@ -4,13 +4,12 @@ ghost use Rattle.json_text.specs.Bytes.{Bytes};
 ghost use Rattle.json_text.specs.Cursor.{OnText};
 ghost use Rattle.json_text.specs.Refusal.{or_else, wrong_state};
 ghost use Rattle.json_text.specs.Spans.{text_at};
-ghost use Rattle.sheet.specs.Accepted.{EachGives, Gives};
+ghost use Rattle.sheet.specs.Accepted.{EachGives, Gives, Known};
 ghost use Rattle.members.specs.Condition.{Condition, condition};
 ghost use Rattle.members.specs.Kinds.{a_text, an_array_of};
 ghost use Rattle.members.specs.Outcome as all;
 ghost use Rattle.members.specs.Outcome.{an_outcome};
 ghost use Rattle.answers.specs.Admission.{admit, is_wrong};
-ghost use Rattle.sheet.specs.Accepted.{Known};
 ghost use Rattle.answers.specs.Outcomes.{first_from};
 ghost use Rattle.rules.specs.Told.{Entered, Told, admission};
 
@@ -61,6 +60,7 @@ pub fn for_wrong_state(s: &[u8], work: &[u32], from: usize, end: usize, state: u
 }
 
 // The answer for an outcome in a state: it is kept, the first for the wrong state is, or it is refused.
+// Nodes and no `Members`: what is answered holds of any states and outcomes, in a sheet or not.
 pub fn admit(
     s: &[u8],
     work: &[u32],
@@ -74,12 +74,10 @@ pub fn admit(
 {
     let outcome = entry(s, work, p);
     let effect = members_at(s, work, p.node).effect;
-    let Some(sources) = of_effect(s, work, effect) else {
-        return Answer::Admitted(outcome);
+    let sources = match of_effect(s, work, effect) {
+        Some(n) if !is_one_of(s, work, n, state) => n,
+        _ => return Answer::Admitted(outcome),
     };
-    if is_one_of(s, work, sources, state) {
-        return Answer::Admitted(outcome);
-    }
     let end = after_at(work, outcomes);
     if is_wrong(s, work, states, outcomes + 1, end, state) {
         return for_wrong_state(s, work, outcomes + 1, end, state);

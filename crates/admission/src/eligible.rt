@@ -1,12 +1,10 @@
 // Which outcomes are eligible in a state.
-ghost use Rattle.std.specs.Prelude.{Bool, ◌≡◌};
-ghost use Rattle.std.specs.Prelude.{Option};
+ghost use Rattle.std.specs.Prelude.{Bool, Option, ◌≡◌};
 ghost use Rattle.json_text.specs.Bytes.{Bytes};
-ghost use Rattle.sheet.specs.Accepted.{MayGive, OutcomeGives};
+ghost use Rattle.sheet.specs.Accepted.{Known, MayGive, OutcomeGives};
 ghost use Rattle.members.specs.Condition.{Condition};
 ghost use Rattle.members.specs.Kinds.{a_bool, a_text};
 ghost use Rattle.members.specs.Outcome.{Outcome, or_false};
-ghost use Rattle.sheet.specs.Accepted.{Known};
 ghost use Rattle.answers.specs.Outcomes.{eligible, fits};
 
 use sheet::outcome::OutcomeMembers;

@@ -1,17 +1,16 @@
 // Outcomes by their places.
 ghost use Rattle.std.specs.Prelude.{List};
 ghost use Rattle.json_text.specs.Bytes.{Bytes};
-ghost use Rattle.sheet.specs.Accepted.{EachGives, Gives, OutcomeGives};
+ghost use Rattle.sheet.specs.Accepted.{EachGives, Gives, Known, OutcomeGives};
 ghost use Rattle.members.specs.Condition.{Condition, condition};
 ghost use Rattle.members.specs.Outcome.{Outcome, an_outcome};
-ghost use Rattle.sheet.specs.Accepted.{Known};
 ghost use Rattle.answers.specs.Outcomes.{at, first_from};
 ghost use Rattle.admission.specs.Places.{PlacedAt};
 
 use crate::eligible::is_true;
 use rules::placed::Placed;
 use sheet::outcome::{OutcomeMembers, members};
-use strings::rows::after_at;
+use strings::rows::{Elements, after_at};
 
 // The members of the outcome at a node.
 pub fn members_at(s: &[u8], work: &[u32], node: usize) -> OutcomeMembers
@@ -27,18 +26,8 @@ pub fn outcome_at(work: &[u32], from: usize, end: usize, place: usize) -> Option
     requires { Known (λ (s : Bytes). Known (EachGives (an_outcome condition) s work.now from end)) }
     ensures { (s : Bytes) (os : List (Outcome Condition)) → EachGives (an_outcome condition) s work.now from end os → PlacedAt s work.now (at 0 place os) result }
 {
-    let mut here = Placed {
-        place: 0,
-        node: from,
-    };
-    // from row to row, as each row says which is next: no range counts these
-    while here.node < end {
-        if here.place == place {
-            return Some(here);
-        }
-        here = here.next(work);
-    }
-    None
+    let node = Elements::new(work, from, end).nth(place)?;
+    Some(Placed { place, node })
 }
 
 // The first outcome for the wrong state, of those from `from` up to `end`.
@@ -46,16 +35,10 @@ pub fn first_wrong(s: &[u8], work: &[u32], from: usize, end: usize) -> Option<Pl
     requires { Known (EachGives (an_outcome condition) s.now work.now from end) }
     ensures { (os : List (Outcome Condition)) → EachGives (an_outcome condition) s.now work.now from end os → PlacedAt s.now work.now (first_from (λ o. o.wrong_state) 0 os) result }
 {
-    let mut here = Placed {
-        place: 0,
-        node: from,
-    };
-    // from row to row, as each row says which is next: no range counts these
-    while here.node < end {
-        if is_true(work, members_at(s, work, here.node).wrong_state) {
-            return Some(here);
+    for (place, node) in Elements::new(work, from, end).enumerate() {
+        if is_true(work, members_at(s, work, node).wrong_state) {
+            return Some(Placed { place, node });
         }
-        here = here.next(work);
     }
     None
 }

@@ -1,21 +1,19 @@
 // The states that outcomes start from.
-ghost use Rattle.std.specs.Prelude.{List, ◌≡◌};
-ghost use Rattle.std.specs.Prelude.{Option};
+ghost use Rattle.std.specs.Prelude.{List, Option, ◌≡◌};
 ghost use Rattle.json_text.specs.Bytes.{is_one_of};
 ghost use Rattle.json_text.specs.Cursor.{OnText};
 ghost use Rattle.json_text.specs.Spans.{text_at};
-ghost use Rattle.sheet.specs.Accepted.{EachGives, Gives, MayGive};
+ghost use Rattle.sheet.specs.Accepted.{EachGives, Gives, Known, MayGive};
 ghost use Rattle.members.specs.Condition.{Condition, condition};
 ghost use Rattle.members.specs.Outcome.{Effect, Outcome, a_move, an_effect, an_outcome, or_stays};
 ghost use Rattle.answers.specs.Admission.{is_source, sources};
-ghost use Rattle.sheet.specs.Accepted.{Known};
 ghost use Rattle.rules.specs.Given.{SourcesAt};
 
 use crate::outcomes::members_at;
 use crate::texts::is_one_of;
 use members::member::named;
 use sheet::outcome::move_members;
-use strings::rows::{Kind, after_at, kind_at};
+use strings::rows::{Elements, Kind, after_at, kind_at};
 
 // The node of the texts that a move starts from.
 fn of_move(s: &[u8], work: &[u32], node: usize) -> Option<usize>
@@ -53,13 +51,10 @@ pub fn is_source(s: &[u8], work: &[u32], from: usize, end: usize, text: usize) -
     requires { Known (EachGives (an_outcome condition) s.now work.now from end) × OnText s.now text 0 }
     ensures { (os : List (Outcome Condition)) → EachGives (an_outcome condition) s.now work.now from end os → result ≡ is_source (text_at s.now text) os }
 {
-    let mut k = from;
-    // from row to row, as each row says which is next: no range counts these
-    while k < end {
+    for k in Elements::new(work, from, end) {
         if starts_from(s, work, members_at(s, work, k).effect, text) {
             return true;
         }
-        k = after_at(work, k);
     }
     false
 }

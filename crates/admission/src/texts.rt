@@ -3,11 +3,10 @@ ghost use Rattle.std.specs.Prelude.{List, ◌≡◌};
 ghost use Rattle.json_text.specs.Bytes.{Bytes, is_one_of};
 ghost use Rattle.json_text.specs.Cursor.{OnText};
 ghost use Rattle.json_text.specs.Spans.{text_at};
-ghost use Rattle.sheet.specs.Accepted.{EachGives, Gives};
+ghost use Rattle.sheet.specs.Accepted.{EachGives, Gives, Known};
 ghost use Rattle.members.specs.Kinds.{a_text, some_texts};
-ghost use Rattle.sheet.specs.Accepted.{Known};
 
-use strings::rows::{Kind, after_at, kind_at, start_at};
+use strings::rows::{Elements, Kind, after_at, kind_at, start_at};
 use strings::text::same;
 
 // Whether the text at a place is one of the texts from `from` up to `end`.
@@ -15,13 +14,10 @@ pub fn is_among(s: &[u8], work: &[u32], from: usize, end: usize, text: usize) ->
     requires { Known (EachGives a_text s.now work.now from end) × OnText s.now text 0 }
     ensures { (ts : List Bytes) → EachGives a_text s.now work.now from end ts → result ≡ is_one_of (text_at s.now text) ts }
 {
-    let mut k = from;
-    // from row to row, as each row says which is next: no range counts these
-    while k < end {
+    for k in Elements::new(work, from, end) {
         if same(s, text, start_at(work, k)) {
             return true;
         }
-        k = after_at(work, k);
     }
     false
 }
@@ -32,8 +28,8 @@ pub fn is_one_of(s: &[u8], work: &[u32], node: usize, text: usize) -> bool
     ensures { (ts : List Bytes) → Gives some_texts s.now work.now node ts → result ≡ is_one_of (text_at s.now text) ts }
 {
     if kind_at(work, node) == Kind::Text {
-        return same(s, text, start_at(work, node));
+        same(s, text, start_at(work, node))
+    } else {
+        is_among(s, work, node + 1, after_at(work, node), text)
     }
-    let end = after_at(work, node);
-    is_among(s, work, node + 1, end, text)
 }

@@ -2,7 +2,8 @@
 -- Assumes nothing.
 use Rattle.std.specs.Prelude.{None}
 use mathlib.Core.List.{[], ◌∷◌}
-use mathlib.Core.Path.{refl, sym, ◌≡◌}
+use mathlib.Core.Logic.{◌≢◌}
+use mathlib.Core.Path.{refl, ◌≡◌}
 use Prim.Native.Nat.{ℕ, ◌<◌}
 use lib.Dec.{eqb}
 use Rattle.std.specs.List.{starts_with}
@@ -28,20 +29,14 @@ unfolding place_in
 no_place [] h = refl
 no_place (c ∷ w) h = absurd (omega (arith, h))
 
-pub one_byte : (w : Bytes) → length w ≡ 1 → number_in 0 w ≡ place_in w
-unfolding place_in
-one_byte [] h = absurd (omega (arith, h))
-one_byte (c ∷ []) h = refl
-one_byte (c ∷ d ∷ w) h = absurd (omega (arith, h))
-
 pub zero_in_front : (w : Bytes) → 1 < length w → get_or w 0 0 ≡ 48 → None ≡ place_in w
 unfolding place_in
 zero_in_front [] h e = absurd (omega (arith, h))
 zero_in_front (c ∷ []) h e = absurd (omega (arith, h))
 zero_in_front (c ∷ d ∷ w) h e = rw (eq-eqb c 48 e)
 
-pub no_zero_in_front : (w : Bytes) → 1 < length w → (get_or w 0 0 ≡ 48 → ⊥) → number_in 0 w ≡ place_in w
+pub no_zero_in_front : (w : Bytes) → 0 < length w → (1 < length w → get_or w 0 0 ≢ 48) → number_in 0 w ≡ place_in w
 unfolding place_in
 no_zero_in_front [] h e = absurd (omega (arith, h))
-no_zero_in_front (c ∷ []) h e = absurd (omega (arith, h))
-no_zero_in_front (c ∷ d ∷ w) h e = rw (ne_eqb c 48 e)
+no_zero_in_front (c ∷ []) h e = refl
+no_zero_in_front (c ∷ d ∷ w) h e = rw (ne_eqb c 48 (e (omega arith)))

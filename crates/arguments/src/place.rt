@@ -2,7 +2,7 @@
 ghost use Rattle.std.specs.Prelude.{◌≡◌};
 ghost use Rattle.arguments.specs.Places.{number_in, place_in};
 
-// The number that digits alone spell.
+// The number that digits alone spell. By hand: `parse` takes a str, and also a sign.
 fn number(text: &[u8]) -> Option<usize>
     ensures { result ≡ number_in 0 text.now }
 {
@@ -19,11 +19,8 @@ fn number(text: &[u8]) -> Option<usize>
 pub fn place_in(text: &[u8]) -> Option<usize>
     ensures { result ≡ place_in text.now }
 {
-    if text.len() == 0 {
-        return None;
+    match text {
+        [] | [b'0', _, ..] => None,
+        _ => number(text),
     }
-    if 1 < text.len() && text[0] == b'0' {
-        return None;
-    }
-    number(text)
 }

@@ -17,7 +17,8 @@ pub enum Word {
     File,
 }
 
-// One that begins with `-` is an option; any other that is no call's word is a file.
+// One that begins with `-` is an option; any other that is no call's word is a file. A chain of tests, as in `word_of`.
+#[tactic(auto, using(crate::proofs::Same::by_equality), unfolding(crate::specs::Words::option_of))]
 fn option(text: &[u8]) -> Word
     ensures { result ≡ option_of text.now }
 {
@@ -32,9 +33,11 @@ fn option(text: &[u8]) -> Word
     }
 }
 
+#[tactic(auto, using(crate::proofs::Same::by_equality), unfolding(crate::specs::Words::word_of))]
 pub fn word_of(text: &[u8]) -> Word
     ensures { result ≡ word_of text.now }
 {
+    // no `match` on the words: it is no shorter, and its last arm would be proved byte by byte, along each of more than thirty ways to it
     if text == b"evaluate".as_slice() {
         Word::Evaluate
     } else if text == b"preconditions".as_slice() {

@@ -36,7 +36,7 @@ use Rattle.rules.specs.Alone.{Alone, Judged, OnlyMarks}
 use Rattle.rules.specs.declared.placed.Placed.{Placed as Spot}
 use Rattle.rules.proofs.Stopping.{returned, stops_as, stops_refused, stops_through}
 use Rattle.answers.specs.Outcomes.{Placed, eligible, guard, select}
-use Rattle.rules.specs.Told.{Entered, Stops}
+use Rattle.rules.specs.Told.{Entered}
 use Rattle.calls.specs.Trying.{SelectedAs, Selects, TriedAs, Tries, by_guard, taken}
 use Rattle.admission.proofs.Admitting.{entered_as}
 use Rattle.rules.proofs.Checking.{one_sheet}

@@ -68,10 +68,7 @@ pub fn admit_call(s: &[u8], work: &[u32], m: Members, place: usize) -> Answer
     ensures { (sheet : Sheet Condition) → Accepted s.now work.now m sheet → Told s.now work.now (admit_call sheet place) result }
 {
     let end = after_at(work, m.outcomes);
-    let Some(p) = outcome_at(work, m.outcomes + 1, end, place) else {
-        return Answer::NoInput;
-    };
-    let Some(n) = m.state else {
+    let (Some(p), Some(n)) = (outcome_at(work, m.outcomes + 1, end, place), m.state) else {
         return Answer::NoInput;
     };
     admit(s, work, m.states, m.outcomes, start_at(work, n), p)

@@ -1,6 +1,5 @@
 // The outcome that is selected: the first eligible one with no guard or a True one.
-ghost use Rattle.std.specs.Prelude.{◌≤◌, length};
-ghost use Rattle.std.specs.Prelude.{Option};
+ghost use Rattle.std.specs.Prelude.{Option, ◌≤◌, length};
 ghost use Rattle.json_text.specs.Refusal.{Result};
 ghost use Rattle.semantics.specs.Evaluate as evaluated;
 ghost use Rattle.sheet.specs.Accepted.{Accepted, Gives, Known, MayGive};
@@ -58,10 +57,7 @@ fn try_outcome(s: &[u8], work: &mut [u32], m: Members, p: Placed) -> Result<bool
     ensures { (sheet : Sheet Condition) (o : all.Outcome Condition) → Accepted s.now work.old m sheet → Gives (an_outcome condition) s.now work.old p.node o → Tries s.now work.old work.new (taken sheet p.place o) result }
 {
     let o = members_at(s, work, p.node);
-    if eligible(s, work, o, m.state) {
-        return try_guard(s, work, m, o.when, p);
-    }
-    Ok(false)
+    Ok(eligible(s, work, o, m.state) && try_guard(s, work, m, o.when, p)?)
 }
 
 // The outcomes by place, up to the first that is taken.

@@ -21,12 +21,12 @@ use semantics::truth::Truth;
 pub fn exists_at(
     s: &[u8],
     work: &mut [u32],
-    scope: Scope,
+    scope: &Scope,
     node: usize,
     left: usize,
 ) -> Result<Truth, EvalError>
-    requires { Ready s.now work.old scope.roots scope.frames × HasNode s.now (table work.old) node × (depth (tree s.now (table work.old) node) ≤ left) }
-    ensures { EvaluatedAs s.now work.old work.new result (judge (sheet_in s.now) (frames_of s.now (table work.old) scope.frames) (exists (tree s.now (table work.old) node))) }
+    requires { Ready s.now work.old scope.now.roots scope.now.frames × HasNode s.now (table work.old) node × (depth (tree s.now (table work.old) node) ≤ left) }
+    ensures { EvaluatedAs s.now work.old work.new result (judge (sheet_in s.now) (frames_of s.now (table work.old) scope.now.frames) (exists (tree s.now (table work.old) node))) }
 {
     let found = resolve(s, work, scope, node, true, left)?;
     Ok(Truth::from(found.is_some()))
@@ -36,14 +36,14 @@ pub fn exists_at(
 pub fn pair_at(
     s: &[u8],
     work: &mut [u32],
-    scope: Scope,
+    scope: &Scope,
     form: Form,
     m: usize,
     n: usize,
     left: usize,
 ) -> Result<Truth, EvalError>
-    requires { Ready s.now work.old scope.roots scope.frames × HasNode s.now (table work.old) m × HasNode s.now (table work.old) n × (depth (tree s.now (table work.old) m) ≤ left) × (depth (tree s.now (table work.old) n) ≤ left) }
-    ensures { EvaluatedAs s.now work.old work.new result (judge (sheet_in s.now) (frames_of s.now (table work.old) scope.frames) (pair (form_of form) (tree s.now (table work.old) m) (tree s.now (table work.old) n))) }
+    requires { Ready s.now work.old scope.now.roots scope.now.frames × HasNode s.now (table work.old) m × HasNode s.now (table work.old) n × (depth (tree s.now (table work.old) m) ≤ left) × (depth (tree s.now (table work.old) n) ≤ left) }
+    ensures { EvaluatedAs s.now work.old work.new result (judge (sheet_in s.now) (frames_of s.now (table work.old) scope.now.frames) (pair (form_of form) (tree s.now (table work.old) m) (tree s.now (table work.old) n))) }
 {
     let a = resolve(s, work, scope, m, false, left)?;
     let b = resolve(s, work, scope, n, false, left)?;

@@ -4,20 +4,15 @@
 
 use calling::Call;
 use decision::call::run;
-use records::{check_list, is_line};
+use records::{check_list, field, is_line};
 
 // Whether the sheet's condition is answered with the record's line.
 fn check(record: &[u8]) -> Result<(), &'static str> {
     let mut work = [0u32; 16384];
     let mut out = [0u8; 65536];
-    let mut parts = record.splitn(2, |c| *c == b'\t');
-    let sheet = parts.next().unwrap_or(&[]);
-    let line = parts.next().unwrap_or(&[]);
-    let sent = run(sheet, &mut work, &mut out, Call::Evaluate);
-    if is_line(&out, sent.size, line) {
-        Ok(())
-    } else {
-        Err(" differs")
+    match run(field(record, 0), &mut work, &mut out, Call::Evaluate).size() {
+        Some(size) if is_line(&out, size, field(record, 1)) => Ok(()),
+        _ => Err(" differs"),
     }
 }
 

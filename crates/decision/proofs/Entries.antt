@@ -1,24 +1,23 @@
 -- The calls on a sheet's bytes, from what opening it says: refused with its number alone, or answered by the call on the sheet.
 -- Assumes nothing.
 use mathlib.Core.List.{List}
-use Rattle.std.specs.Prelude.{None, Result as Fallible, Ok, Err}
+use Rattle.std.specs.Prelude.{Option, None, Result as Fallible, Ok, Err, unwrap_or}
 use mathlib.Core.Path.{ap, refl, subst, sym, ◌∙◌, ◌≡◌}
 use Prim.Native.Nat.{ℕ, ◌≤◌}
 use native.Mathlib.Omega.{arith}
 use lib.ListN.{length}
 use Rattle.answers.specs.Line.{refusal_line, refusal_number}
-use Rattle.writer.specs.Meaning.{Emitted, Held, meaning}
+use Rattle.writer.specs.Meaning.{Held, meaning}
 use Rattle.answers.specs.Reply.{line_size}
 use Rattle.answers.specs.Verdict.{Verdict}
 use Rattle.writer.specs.declared.answer.Answer.{Answer}
-use Rattle.writer.specs.declared.answer.Sent.{Sent}
 use Rattle.json_text.specs.Bytes.{Bytes}
 use Rattle.json_text.specs.Refusal.{Refusal, Result, ok, refused, ◌>>=◌}
 use Rattle.sheet.specs.Accepted.{Accepted}
 use Rattle.members.specs.Condition.{Condition}
 use Rattle.members.specs.Sheet.{Sheet, read_sheet}
 use Rattle.sheet.specs.declared.shape.Members.{Members}
-use Rattle.decision.specs.Called.{Called}
+use Rattle.decision.specs.Called.{Called, Refuses}
 use Rattle.decision.specs.Calls.{call_of, verdict_of}
 use Rattle.answers.specs.Entry.{Reply, call, enough, fitted, output_after, reply, work_after}
 use Rattle.sheet.specs.Accepted.{Known}
@@ -30,6 +29,9 @@ use Rattle.decision.proofs.Calls.{Answers, of_verdict}
 use Rattle.opening.proofs.Clearing.{same_left}
 use Rattle.opening.proofs.Opening.{sheet_opened}
 use Rattle.paths.proofs.Words.{same_row_word}
+use Rattle.line.specs.Emitted.{Emitted, line_length}
+use Rattle.line.specs.Replies.{size_of}
+use Rattle.line.specs.declared.reply.Reply.{Reply as Case}
 use Rattle.line.proofs.Bounds.{line_short, no_line_lem, number_small}
 use Rattle.json_text.proofs.Complete.{read_exactly}
 use Rattle.json_text.specs.Json.{Value}
@@ -69,19 +71,21 @@ call_of_opened x s words size = of_verdict x s words size ∙ call_opened (verdi
 
 module _ {s : Bytes} {w w₁ : List ℕ} {r : Fallible Members NotOpened} (t : Opening s w w₁ r) (size : length w₁ ≡ length w) where
   pub called_refused :
-      (x : Call) {w' : List ℕ} → w' ≡ work_after w₁ → (why : NotOpened) → r ≡ Err why → {n : ℕ} → n ≡ refusal_number (why_not why) → (o : Bytes) →
-      Called (call_of x s (length w) (length o)) w w' o o (record { number = n; size = 0 })
+      (x : Call) {w' : List ℕ} → w' ≡ work_after w₁ → (why : NotOpened) → r ≡ Err why → {n : Case} → Refuses (why_not why) n → (o : Bytes) →
+      Called (call_of x s (length w) (length o)) w w' o o n
   unfolding OpenedAs
-  called_refused x z why q is_number o =
+  called_refused x z why q {n} g o =
       let h : Stopped (opening (length w) s) why = subst (OpenedAs (length w) s w₁) q t.is in
       let e : call_of x s (length w) (length o) ≡
       record { number = refusal_number (why_not why); line = None } = call_of_opened x s (length w) (length o) ∙
       ap {B = Reply} (λ (y : Result (Sheet Condition)). reply (length o) (y >>= verdict_of x)) h.is ∙
       unlined (length o) (why_not why) h.no_line in
+      let none : size_of n ≡ 0 = ap (λ (y : Option ℕ). unwrap_or y 0) g.lined in
       record {
-        is_number = is_number ∙ ap (λ (y : Reply). y.number) (sym e);
-        is_size = ap line_size (sym e);
-        short = omega arith;
+        is_number = g.is_number ∙ ap (λ (y : Reply). y.number) (sym e);
+        is_size = none ∙ ap line_size (sym e);
+        lined = g.lined ∙ ap line_length (sym e);
+        short = omega (arith, none);
         output = ap (λ (y : Reply). output_after y o) (sym e);
         work = z ∙ same_left w w₁ size t.small t.past;
       }
@@ -113,7 +117,7 @@ module _ {s : Bytes} {w w₁ : List ℕ} {r : Fallible Members NotOpened} (t : O
             },
           )
 
-      pub called_sheet : {o o' : Bytes} {n : Sent} → Emitted s w₂ a o o' n → {w' : List ℕ} → w' ≡ work_after w₂ →
+      pub called_sheet : {o o' : Bytes} {n : Case} → Emitted s w₂ a o o' n → {w' : List ℕ} → w' ≡ work_after w₂ →
           Called (call_of x s (length w) (length o)) w w' o o' n
       called_sheet {o} {o'} {n} g z =
           let i : opening (length w) s ≡ ok ready.sheet = sheet_opened (length w) s ready.long ∙ ready.accepted.reads in
@@ -124,6 +128,7 @@ module _ {s : Bytes} {w w₁ : List ℕ} {r : Fallible Members NotOpened} (t : O
           record {
             is_number = g.number ∙ ap (λ (y : Reply). y.number) e;
             is_size = g.size ∙ ap line_size e;
+            lined = g.lined ∙ ap line_length e;
             short = rw g.size (line_short s w₂ a (length o) (read_short s ready.sheet ready.accepted.reads) held_answer);
             output = g.output ∙ ap (λ (y : Reply). output_after y o) e;
             work = z ∙ same_left w w₂ (its.long ∙ size) (λ k. absurd (omega (arith, ready.long))) (λ k. its.further ∙ t.past k);

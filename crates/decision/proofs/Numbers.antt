@@ -1,18 +1,16 @@
--- Every reply ends as the table has it; so its number has a line's length where the table has a line.
+-- Every reply ends as the table has it.
 -- Assumes nothing.
 use mathlib.Core.Bool.{Bool, false, true}
 use Rattle.std.specs.Prelude.{Option, None, Some}
 use mathlib.Core.Logic.{◌⊎◌, inl, inr}
-use mathlib.Core.List.{List}
 use mathlib.Core.Path.{refl, subst, sym, ◌≡◌}
 use Prim.Native.Nat.{ℕ, ◌≤◌}
 use native.Mathlib.Omega.{arith}
 use lib.Dec.{leb}
 use lib.ListN.{length}
 use Rattle.answers.specs.Line.{refusal_line, refusal_number, verdict_line}
-use Rattle.answers.specs.Reply.{Reply, fitted, line_size, reply}
+use Rattle.answers.specs.Reply.{Reply, fitted, reply}
 use Rattle.answers.specs.Verdict.{Verdict}
-use Rattle.writer.specs.declared.answer.Sent.{Sent}
 use Rattle.json_text.specs.Bytes.{Bytes}
 use Rattle.json_text.specs.Refusal as refusals
 use Rattle.json_text.specs.Refusal.{
@@ -46,11 +44,9 @@ use Rattle.json_text.specs.Refusal.{
 }
 use Rattle.members.specs.Condition.{Condition}
 use Rattle.members.specs.Sheet.{Sheet, read_sheet}
-use Rattle.decision.specs.Called.{Called}
 use Rattle.decision.specs.Calls.{call_of, verdict_of}
 use Rattle.answers.specs.Entry.{call, enough}
 use Rattle.answers.specs.Ended.{Ended, answered, line_too_long, with_line, without_line}
-use Rattle.decision.specs.Replies.{Told}
 use Rattle.calling.specs.declared.Call.{Call}
 use Rattle.decision.proofs.Calls.{of_verdict}
 
@@ -104,12 +100,6 @@ unfolding reply
 ended output (ok v) = kept_ended 0 (verdict_line v) (answered (verdict_line v)) (leb (length (verdict_line v)) output)
 ended output (refused r) = fitted_ended output (refusal_number r) (refusal_line r) (lined r)
 
-pub told_ended : {r : Reply} → Ended r → Told r.number (line_size r)
-told_ended (answered line) = record { most = omega arith; early = λ a b. absurd (omega (arith, a)); last = λ e. absurd (omega (arith, e)) }
-told_ended (with_line n line a b) = record { most = omega (arith, b); early = λ c d. absurd (omega (arith, a, d)); last = λ e. absurd (omega (arith, b, e)) }
-told_ended (without_line n a b) = record { most = omega (arith, b); early = λ _ _. refl; last = λ _. refl }
-told_ended line_too_long = record { most = omega arith; early = λ _ _. refl; last = λ _. refl }
-
 -- ---- every call ends so, on any bytes, with any sizes
 pub every_call_ends : (f : Sheet Condition → Result Verdict) (s : Bytes) (words size : ℕ) → Ended (call f s words size)
 unfolding call
@@ -117,7 +107,3 @@ every_call_ends f s words size = ended size (enough words >>= (λ _. read_sheet 
 
 pub ends : (x : Call) (s : Bytes) (words size : ℕ) → Ended (call_of x s words size)
 ends x s words size = rw of_verdict (every_call_ends (verdict_of x) s words size)
-
-module _ {answer : Reply} {w w' : List ℕ} {o o' : Bytes} {r : Sent} (c : Called answer w w' o o' r) where
-  pub told_called : Ended answer → Told r.number r.size
-  told_called e = subst (λ (n : ℕ). Told n r.size) (sym c.is_number) (subst (Told answer.number) (sym c.is_size) (told_ended e))

@@ -11,7 +11,6 @@ use lib.Seq.{take_at}
 use Rattle.answers.specs.Line.{end_line, each_line, refusal_form, refusal_line, refusal_number, verdict_form, verdict_line}
 use Rattle.answers.specs.Reply.{line_size}
 use Rattle.answers.specs.Verdict.{Verdict}
-use Rattle.writer.specs.declared.answer.Sent.{Sent}
 use Rattle.json_text.specs.Bytes.{Bytes}
 use Rattle.json_text.specs.Refusal.{Result, line_too_long, ok, refused, ◌>>=◌}
 use Rattle.members.specs.Sheet.{read_sheet}
@@ -19,9 +18,9 @@ use Rattle.decision.specs.Called.{Called, Replied}
 use Rattle.answers.specs.Decide.{decide_call}
 use Rattle.answers.specs.Demand.{Repeats}
 use Rattle.answers.specs.Entry.{Reply, call, decide, enough, fitted, output_after, reply}
-use Rattle.decision.specs.Replies.{number_of, size_of}
+use Rattle.line.specs.Replies.{number_of, size_of}
 use Rattle.decision.specs.Seen.{line_in, seen}
-use Rattle.decision.specs.declared.reply.Reply.{Reply as Case}
+use Rattle.line.specs.declared.reply.Reply.{Reply as Case}
 use Rattle.answers.proofs.Repeat.{demand_seen}
 
 -- ---- a line ends
@@ -73,10 +72,13 @@ decide_seen s work o {n} {size} {o'} p q r =
     ap {B = Reply} (λ (m : ℕ). seen m size o') p ∙
     ap {B = Reply} (λ (l : Option Bytes). record { number = reply.number; line = l }) (line_seen reply.number size reply.line o o' (decide_ended s work (length o)) q r)
 
--- ---- two calls, of the entries and by number and size
-module _ (old new : Bytes) {w w' v v' : List ℕ} {o o' p p' : Bytes} where
+-- ---- two calls, by what is seen of each, and by all that each promises
+seen_of : {answer : Reply} {w w' : List ℕ} {o o' : Bytes} {r : Case} → Called answer w w' o o' r → Replied answer w w' o o' r
+seen_of c = record { is_number = c.is_number; is_size = c.is_size; output = c.output; work = c.work }
+
+module _ (old new : Bytes) {w w' v v' : List ℕ} {o o' p p' : Bytes} {a b : Case} where
   pub calls_repeat :
-      {a b : Case} → Replied (decide old (length w) (length o)) w w' o o' a → Replied (decide new (length v) (length p)) v v' p p' b →
+      Replied (decide old (length w) (length o)) w w' o o' a → Replied (decide new (length v) (length p)) v v' p p' b →
       Repeats old new (length w) (length v) (seen (number_of a) (size_of a) o') (seen (number_of b) (size_of b) p')
   calls_repeat x y =
       demand_seen
@@ -90,15 +92,6 @@ module _ (old new : Bytes) {w w' v v' : List ℕ} {o o' p p' : Bytes} where
       (decide_seen new (length v) p y.is_number y.is_size y.output)
 
   pub sent_repeat :
-      {a b : Sent} → Called (decide old (length w) (length o)) w w' o o' a → Called (decide new (length v) (length p)) v v' p p' b →
-      Repeats old new (length w) (length v) (seen a.number a.size o') (seen b.number b.size p')
-  sent_repeat x y =
-      demand_seen
-      old
-      new
-      (length w)
-      (length v)
-      (length o)
-      (length p)
-      (decide_seen old (length w) o x.is_number x.is_size x.output)
-      (decide_seen new (length v) p y.is_number y.is_size y.output)
+      Called (decide old (length w) (length o)) w w' o o' a → Called (decide new (length v) (length p)) v v' p p' b →
+      Repeats old new (length w) (length v) (seen (number_of a) (size_of a) o') (seen (number_of b) (size_of b) p')
+  sent_repeat x y = calls_repeat (seen_of x) (seen_of y)

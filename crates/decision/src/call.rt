@@ -4,17 +4,19 @@ ghost use Rattle.rules.specs.Told.{Answered};
 ghost use Rattle.sheet.specs.Accepted.{Accepted, Known};
 ghost use Rattle.members.specs.Condition.{Condition};
 ghost use Rattle.members.specs.Sheet.{Sheet};
-ghost use Rattle.decision.specs.Called.{Called, Replied};
+ghost use Rattle.opening.specs.Opening.{why_not};
+ghost use Rattle.decision.specs.Called.{Called, Refuses};
 ghost use Rattle.decision.specs.Calls.{call_of, verdict_of};
 
-use crate::reply::{Reply, case_of};
 use calling::Call;
 use calls::call::{admit_call, decide_call, evaluate_call, rules_call, select_call};
 use line::emit::emit;
-use opening::open::open;
+use line::reply::Reply;
+use opening::open::{NotOpened, open};
 use opening::work::{clear, clear_rows};
-use sheet::shape::Members;
-use writer::answer::{Answer, Rules, Sent};
+use sheet::shape::{Members, Misshapen};
+use strings::answer::Refusal;
+use writer::answer::{Answer, Rules};
 
 // The call on an accepted sheet.
 fn answer(s: &[u8], work: &mut [u32], m: Members, call: Call) -> Answer
@@ -31,30 +33,40 @@ fn answer(s: &[u8], work: &mut [u32], m: Members, call: Call) -> Answer
     }
 }
 
+// The case of a sheet that was refused on opening it; no From, since both types are other crates'.
+#[tactic(auto, unfolding(line::specs::Replies::number_of, line::specs::Replies::length_of, answers::specs::Line::refusal_number))]
+fn refused(why: NotOpened) -> Reply
+    ensures { Refuses (why_not why) result }
+{
+    match why {
+        NotOpened::Unread(Refusal::WorkTooSmall) => Reply::WorkTooSmall,
+        NotOpened::Unread(Refusal::TooLong) => Reply::TooLong,
+        NotOpened::Unread(Refusal::NotUtf8) => Reply::NotUtf8,
+        NotOpened::Unread(Refusal::NotJson) => Reply::NotJson,
+        NotOpened::Unread(Refusal::TooDeep) => Reply::TooDeep,
+        NotOpened::Unread(Refusal::NumberTooLong) => Reply::NumberTooLong,
+        NotOpened::Unread(Refusal::TooManyNodes) => Reply::TooManyNodes,
+        NotOpened::Unread(Refusal::RepeatedName) => Reply::RepeatedName,
+        NotOpened::Misshapen(Misshapen::WrongSheet) => Reply::WrongSheet,
+        NotOpened::Misshapen(Misshapen::WrongShape) => Reply::WrongShape,
+        NotOpened::Misshapen(Misshapen::NotCarried) => Reply::NotCarried,
+    }
+}
+
 // The call on any bytes: refused on opening them, or answered on the sheet that they spell.
-pub fn run(sheet: &[u8], work: &mut [u32], out: &mut [u8], call: Call) -> Sent
+pub fn run(sheet: &[u8], work: &mut [u32], out: &mut [u8], call: Call) -> Reply
     ensures { Called (call_of call sheet.now (length work.old) (length out.old)) work.old work.new out.old out.new result }
 {
     match open(sheet, work) {
         Err(why) => {
             clear(work);
-            Sent {
-                number: why.number(),
-                size: 0,
-            }
+            refused(why)
         }
         Ok(m) => {
             let a = answer(sheet, work, m, call);
-            let sent = emit(sheet, work, out, a);
+            let reply = emit(sheet, work, out, a);
             clear_rows(work);
-            sent
+            reply
         }
     }
-}
-
-// The same, its answer as a case.
-pub fn reply(sheet: &[u8], work: &mut [u32], out: &mut [u8], call: Call) -> Reply
-    ensures { Replied (call_of call sheet.now (length work.old) (length out.old)) work.old work.new out.old out.new result }
-{
-    case_of(run(sheet, work, out, call))
 }

@@ -1,6 +1,7 @@
 -- A condition by its operator, and the children of a junction, evaluated one after the other.
 -- Assumes nothing.
 use Rattle.std.specs.Prelude.{Result as Fallible, Ok, Err}
+use Rattle.std.specs.Prelude.{Option, Some, option_map}
 use mathlib.Core.Bool.{Bool, false, true}
 use mathlib.Core.List.{List, [], ◌++◌}
 use mathlib.Core.Path.{ap, refl, subst, sym, ◌∙◌, ◌≡◌}
@@ -128,37 +129,40 @@ module _ {s : Bytes} {t : List ℕ} {n : ℕ} {c : Condition} (g : Gives conditi
       (omega arith, omega arith)
 
   -- by the operator that its name asks for
-  module _ {a : ℕ} (p : a ≡ start_at t (n + 1)) {r : CodeOperator} (f : find (text_at s a) operators ≡ operator_of r) where
+  module _ {a : ℕ} (p : a ≡ start_at t (n + 1)) {o : Option CodeOperator} (f : find (text_at s a) operators ≡ option_map operator_of o) {r : CodeOperator} (i : o ≡ Some r) where
+    asked : find (text_at s a) operators ≡ Some (operator_of r)
+    asked = f ∙ ap (option_map operator_of) i
+
     made : (x : CodeOperator) → r ≡ x →
         formed (sorted (value_at s t (n + 1 + 1))) (condition (sorted (value_at s t (n + 1 + 1))))
-        (condition_array (sorted (value_at s t (n + 1 + 1)))) (condition_object (sorted (value_at s t (n + 1 + 1)))) (operator_of x) ≡ ok c
+        (condition_array (sorted (value_at s t (n + 1 + 1)))) (condition_object (sorted (value_at s t (n + 1 + 1)))) (Some (operator_of x)) ≡ ok c
     made x e =
         sym
         (ap
         (formed (sorted (value_at s t (n + 1 + 1))) (condition (sorted (value_at s t (n + 1 + 1))))
         (condition_array (sorted (value_at s t (n + 1 + 1)))) (condition_object (sorted (value_at s t (n + 1 + 1)))))
-        (ap (λ (z : ℕ). find (text_at s z) operators) (sym p) ∙ f ∙ ap operator_of e)) ∙
+        (ap (λ (z : ℕ). find (text_at s z) operators) (sym p) ∙ asked ∙ ap (λ (y : CodeOperator). Some (operator_of y)) e)) ∙
         the_member.is_formed
 
     pub a_junction : (m : CodeMode) → r ≡ ops.Junction m → HasKind s t (n + 2) 5 × Known (ConditionsGive s t (n + 2 + 1) (after_at t (n + 2)))
     a_junction m e =
-        let x = given_junction the_member a p r f m e in subst
+        let x = given_junction the_member a p r asked m e in subst
         (λ (i : ℕ). HasKind s t i 5 × Known (ConditionsGive s t (i + 1) (after_at t i))) two_on
         (record { node = record { left = 64; is_node = the_member.inner }; kind = x.2 }, record { given = x.0; known = x.3 })
 
     pub a_negation : r ≡ ops.Negation → Known (Gives condition s t (n + 2))
-    a_negation e = let x = given_negation the_member a p r f e in record { given = x.0; known = subst (λ (i : ℕ). Gives condition s t i x.0) two_on x.2 }
+    a_negation e = let x = given_negation the_member a p r asked e in record { given = x.0; known = subst (λ (i : ℕ). Gives condition s t i x.0) two_on x.2 }
 
     pub a_pair : (m : CodeForm) → r ≡ ops.Pair m → HasNode s t (n + 2 + 1) × HasNode s t (after_at t (n + 2 + 1))
     a_pair m e =
-        let x = given_pair the_member a p r f m e in subst (λ (i : ℕ). HasNode s t (i + 1) × HasNode s t (after_at t (i + 1))) two_on
+        let x = given_pair the_member a p r asked m e in subst (λ (i : ℕ). HasNode s t (i + 1) × HasNode s t (after_at t (i + 1))) two_on
         (record { left = 64; is_node = x.left }, record { left = 64; is_node = x.right })
 
     pub operands_shallow : (m : CodeForm) → r ≡ ops.Pair m → {l : ℕ} → depth (tree s t n) ≤ l →
         (depth (tree s t (n + 2 + 1)) ≤ l - 1) × (depth (tree s t (after_at t (n + 2 + 1))) ≤ l - 1)
     unfolding operator_of tree
     operands_shallow m e {l} h =
-        let x = given_pair the_member a p r f m e in
+        let x = given_pair the_member a p r asked m e in
         let d = pair_shallow (form_of m) (sorted (value_at s t (n + 1 + 1))) (sorted (value_at s t (n + 1 + 1 + 1)))
         (sorted (value_at s t (after_at t (n + 1 + 1 + 1)))) c (made (ops.Pair m) e) x.is in
         let b = less_deep in
@@ -176,11 +180,11 @@ module _ {s : Bytes} {t : List ℕ} {n : ℕ} {c : Condition} (g : Gives conditi
           ((cs : Conditions) → ConditionsGive s t (n + 2 + 1) (after_at t (n + 2)) cs → EvaluatedAs s w w' x
           (judge_all sheet fs (mode_of m) cs)) → EvaluatedAs s w w' x (judge sheet fs c)
       unfolding judge
-      judged_junction m e h = let y = given_junction the_member a p r f m e in rw y.1 (h y.0 (subst (λ (i : ℕ). ConditionsGive s t (i + 1) (after_at t i) y.0) two_on y.3))
+      judged_junction m e h = let y = given_junction the_member a p r asked m e in rw y.1 (h y.0 (subst (λ (i : ℕ). ConditionsGive s t (i + 1) (after_at t i) y.0) two_on y.3))
 
       negated : r ≡ ops.Negation → ((d : Condition) → Gives condition s t (n + 2) d → EvaluatedAs s w w' x (judge sheet fs d)) →
           (d : Condition) × (c ≡ negation d) × EvaluatedAs s w w' x (judge sheet fs d)
-      negated e h = let z = given_negation the_member a p r f e in (z.0, z.1, h z.0 (subst (λ (i : ℕ). Gives condition s t i z.0) two_on z.2))
+      negated e h = let z = given_negation the_member a p r asked e in (z.0, z.1, h z.0 (subst (λ (i : ℕ). Gives condition s t i z.0) two_on z.2))
 
       pub judged_negation : r ≡ ops.Negation → ((d : Condition) → Gives condition s t (n + 2) d → EvaluatedAs s w w' x (judge sheet fs d)) →
           (u : code.Truth) → x ≡ Ok u → {v : code.Truth} → truth_of v ≡ negate (truth_of u) → EvaluatedAs s w w' (Ok v) (judge sheet fs c)
@@ -210,13 +214,13 @@ module _ {s : Bytes} {t : List ℕ} {n : ℕ} {c : Condition} (g : Gives conditi
 
       pub judged_exists : r ≡ ops.Exists → EvaluatedAs s w w' x (judge sheet fs (exists (tree s t (n + 2)))) → EvaluatedAs s w w' x (judge sheet fs c)
       unfolding tree
-      judged_exists e h = rw (given_exists the_member a p r f e, two_on) h
+      judged_exists e h = rw (given_exists the_member a p r asked e, two_on) h
 
       pub judged_pair : (m : CodeForm) → r ≡ ops.Pair m →
           EvaluatedAs s w w' x (judge sheet fs (pair (form_of m) (tree s t (n + 2 + 1)) (tree s t (after_at t (n + 2 + 1))))) →
           EvaluatedAs s w w' x (judge sheet fs c)
       unfolding tree
-      judged_pair m e h = rw ((given_pair the_member a p r f m e).is, two_on) h
+      judged_pair m e h = rw ((given_pair the_member a p r asked m e).is, two_on) h
 
       pub judged_quantifier : (m : CodeMode) → r ≡ ops.Quantified m →
           ((d : Condition) → QuantifierAt s t (mode_of m) (n + 2) d → EvaluatedAs s w w' x (judge sheet fs d)) →

@@ -338,10 +338,6 @@ module _ {s : Bytes} {w₀ : List ℕ} {sheet : Sheet Condition} {f : Frames} {m
   pub turn_given : {r : Option Next} → r ≡ next_of (table w) c → (x : Next) → r ≡ Some x → Given s (table w₀) c x.node x.rest
   turn_given h x i = child_given g.walk (told h) x i
 
-  pub turn_long : {w' : List ℕ} {r : Fallible code.Truth EvalError} {y : Condition → Result Answer} →
-      ((d : Condition) → Gives condition s (table w) node d → EvaluatedAs s w w' r (y d)) → length w' ≡ length w₀
-  turn_long h = (h g.that gives_now).left.long ∙ g.left.long
-
   -- one part more
   module _ {k : ℕ} {c' : Children} (x : Given s (table w₀) c k c') where
     turn_child : HasNode s (table w₀) (value_node named k) × (k < 4096)
@@ -522,10 +518,6 @@ module _ {s : Bytes} {w w' : List ℕ} (sheet : Sheet Condition) (f : Frames) {m
 
   pub body_shallow : {l : ℕ} → depth (tree s (table w) n) ≤ l → depth (tree s (table w') q.body) ≤ l - 1
   body_shallow h = rw a.left.rows (omega (arith, p.body_depth))
-
-  pub quantify_long : {w'' : List ℕ} {x : Fallible code.Truth EvalError} {y : Condition → Result Answer} →
-      ((d : Condition) → Gives condition s (table w') q.body d → EvaluatedAs s w' w'' x (y d)) → length w'' ≡ length w
-  quantify_long h = (h p.body gives_after).left.long ∙ a.left.long
 
   pub quantify_each : (o : Operand) → r ≡ Ok (Some o) → {w'' : List ℕ} {y : Fallible code.Truth EvalError} →
       EachAs s w' w'' sheet f m q.name q.body o y → EvaluatedAs s w w'' y (judge sheet (frames_of s (table w) f) c)

@@ -94,12 +94,12 @@ fn settles(mode: Mode, t: Truth) -> bool
 pub fn evaluate(
     s: &[u8],
     work: &mut [u32],
-    scope: Scope,
+    scope: &Scope,
     node: usize,
     left: usize,
 ) -> Result<Truth, EvalError>
-    requires { Ready s.now work.old scope.roots scope.frames × (2 * scope.frames.depth + left ≤ 64) × Known (Gives condition s.now (table work.old) node) × (depth (tree s.now (table work.old) node) ≤ left) }
-    ensures { (c : Condition) → Gives condition s.now (table work.old) node c → EvaluatedAs s.now work.old work.new result (judge (sheet_in s.now) (frames_of s.now (table work.old) scope.frames) c) }
+    requires { Ready s.now work.old scope.now.roots scope.now.frames × (2 * scope.now.frames.depth + left ≤ 64) × Known (Gives condition s.now (table work.old) node) × (depth (tree s.now (table work.old) node) ≤ left) }
+    ensures { (c : Condition) → Gives condition s.now (table work.old) node c → EvaluatedAs s.now work.old work.new result (judge (sheet_in s.now) (frames_of s.now (table work.old) scope.now.frames) c) }
 {
     match kind_at(work, node) {
         Kind::True => return Ok(Truth::True),
@@ -109,7 +109,11 @@ pub fn evaluate(
     let name = start_at(work, node + 1);
     let inner = node + 2;
     let left = left - 1;
-    match operator_at(s, name) {
+    // the sheet's shape was checked: its conditions have an operator, and one that is carried, so neither NoId here is ever given
+    let Some(operator) = operator_at(s, name) else {
+        return Err(EvalError::NoId);
+    };
+    match operator {
         Operator::Junction(m) => junction(s, work, scope, m, inner, left),
         Operator::Negation => Ok(evaluate(s, work, scope, inner, left)?.not()),
         Operator::Exists => exists_at(s, work, scope, inner, left),
@@ -118,7 +122,7 @@ pub fn evaluate(
             pair_at(s, work, scope, f, inner + 1, second, left)
         }
         Operator::Quantified(m) => quantify(s, work, scope, m, inner, left),
-        Operator::NotCarried | Operator::Unknown => Err(EvalError::NoId),
+        Operator::NotCarried => Err(EvalError::NoId),
     }
 }
 
@@ -127,13 +131,13 @@ pub fn evaluate(
 fn junction(
     s: &[u8],
     work: &mut [u32],
-    scope: Scope,
+    scope: &Scope,
     mode: Mode,
     node: usize,
     left: usize,
 ) -> Result<Truth, EvalError>
-    requires { Ready s.now work.old scope.roots scope.frames × (2 * scope.frames.depth + left ≤ 64) × HasKind s.now (table work.old) node 5 × Known (ConditionsGive s.now (table work.old) (node + 1) (after_at (table work.old) node)) × (depth (tree s.now (table work.old) node) ≤ left) }
-    ensures { (cs : Conditions) → ConditionsGive s.now (table work.old) (node + 1) (after_at (table work.old) node) cs → EvaluatedAs s.now work.old work.new result (judge_all (sheet_in s.now) (frames_of s.now (table work.old) scope.frames) (mode_of mode) cs) }
+    requires { Ready s.now work.old scope.now.roots scope.now.frames × (2 * scope.now.frames.depth + left ≤ 64) × HasKind s.now (table work.old) node 5 × Known (ConditionsGive s.now (table work.old) (node + 1) (after_at (table work.old) node)) × (depth (tree s.now (table work.old) node) ≤ left) }
+    ensures { (cs : Conditions) → ConditionsGive s.now (table work.old) (node + 1) (after_at (table work.old) node) cs → EvaluatedAs s.now work.old work.new result (judge_all (sheet_in s.now) (frames_of s.now (table work.old) scope.now.frames) (mode_of mode) cs) }
 {
     let end = after_at(work, node);
     let mut truth = start(mode);
@@ -152,13 +156,13 @@ fn junction(
 fn quantify(
     s: &[u8],
     work: &mut [u32],
-    scope: Scope,
+    scope: &Scope,
     mode: Mode,
     node: usize,
     left: usize,
 ) -> Result<Truth, EvalError>
-    requires { Ready s.now work.old scope.roots scope.frames × (2 * scope.frames.depth + left + 1 ≤ 64) × Known (QuantifierAt s.now (table work.old) (mode_of mode) node) × (depth (tree s.now (table work.old) node) ≤ left) }
-    ensures { (c : Condition) → QuantifierAt s.now (table work.old) (mode_of mode) node c → EvaluatedAs s.now work.old work.new result (judge (sheet_in s.now) (frames_of s.now (table work.old) scope.frames) c) }
+    requires { Ready s.now work.old scope.now.roots scope.now.frames × (2 * scope.now.frames.depth + left + 1 ≤ 64) × Known (QuantifierAt s.now (table work.old) (mode_of mode) node) × (depth (tree s.now (table work.old) node) ≤ left) }
+    ensures { (c : Condition) → QuantifierAt s.now (table work.old) (mode_of mode) node c → EvaluatedAs s.now work.old work.new result (judge (sheet_in s.now) (frames_of s.now (table work.old) scope.now.frames) c) }
 {
     let q = quantifier_at(s, work, mode, node);
     match resolve(s, work, scope, q.over, false, left - 1)? {
@@ -172,13 +176,13 @@ fn quantify(
 fn each(
     s: &[u8],
     work: &mut [u32],
-    scope: Scope,
+    scope: &Scope,
     q: Quantifier,
     o: Operand,
     left: usize,
 ) -> Result<Truth, EvalError>
-    requires { Ready s.now work.old scope.roots scope.frames × (2 * scope.frames.depth + 2 + left ≤ 64) × OperandAt s.now (table work.old) o × OnText s.now q.name 0 × Known (Gives condition s.now (table work.old) q.body) × (depth (tree s.now (table work.old) q.body) ≤ left) }
-    ensures { (c : Condition) → Gives condition s.now (table work.old) q.body c → EvaluatedAs s.now work.old work.new result (each_of (sheet_in s.now) (frames_of s.now (table work.old) scope.frames) (mode_of q.mode) (text_at s.now q.name) c (operand_of s.now (table work.old) o)) }
+    requires { Ready s.now work.old scope.now.roots scope.now.frames × (2 * scope.now.frames.depth + 2 + left ≤ 64) × OperandAt s.now (table work.old) o × OnText s.now q.name 0 × Known (Gives condition s.now (table work.old) q.body) × (depth (tree s.now (table work.old) q.body) ≤ left) }
+    ensures { (c : Condition) → Gives condition s.now (table work.old) q.body c → EvaluatedAs s.now work.old work.new result (each_of (sheet_in s.now) (frames_of s.now (table work.old) scope.now.frames) (mode_of q.mode) (text_at s.now q.name) c (operand_of s.now (table work.old) o)) }
 {
     let named = match o.kind.class() {
         Kind::Array => false,
@@ -203,19 +207,19 @@ fn each(
 fn with_part(
     s: &[u8],
     work: &mut [u32],
-    scope: Scope,
+    scope: &Scope,
     q: Quantifier,
     o: Operand,
     node: usize,
     left: usize,
 ) -> Result<Truth, EvalError>
-    requires { Ready s.now work.old scope.roots scope.frames × (2 * scope.frames.depth + 2 + left ≤ 64) × HasNode s.now (table work.old) node × OnText s.now q.name 0 × Known (Gives condition s.now (table work.old) q.body) × (depth (tree s.now (table work.old) q.body) ≤ left) }
-    ensures { (c : Condition) → Gives condition s.now (table work.old) q.body c → EvaluatedAs s.now work.old work.new result (judge (sheet_in s.now) ((text_at s.now q.name, part_at (sheet_in s.now) s.now (table work.old) (frames_of s.now (table work.old) scope.frames) o node) ∷ frames_of s.now (table work.old) scope.frames) c) }
+    requires { Ready s.now work.old scope.now.roots scope.now.frames × (2 * scope.now.frames.depth + 2 + left ≤ 64) × HasNode s.now (table work.old) node × OnText s.now q.name 0 × Known (Gives condition s.now (table work.old) q.body) × (depth (tree s.now (table work.old) q.body) ≤ left) }
+    ensures { (c : Condition) → Gives condition s.now (table work.old) q.body c → EvaluatedAs s.now work.old work.new result (judge (sheet_in s.now) ((text_at s.now q.name, part_at (sheet_in s.now) s.now (table work.old) (frames_of s.now (table work.old) scope.now.frames) o node) ∷ frames_of s.now (table work.old) scope.now.frames) c) }
 {
     let operand = part_of(s, work, scope, o, node);
     let inner = scope.push(Frame {
         name: q.name,
         operand,
     });
-    evaluate(s, work, inner, q.body, left)
+    evaluate(s, work, &inner, q.body, left)
 }

@@ -14,7 +14,7 @@ use paths::scope::Scope;
 use semantics::truth::Truth;
 use sheet::shape::Members;
 
-// The nodes that expressions start from. Neither type is this crate's, so it is no `From`.
+// The nodes that expressions start from. Neither type is this crate's, so it is no `From`; `Roots` is a type of its own, since paths knows of no sheet's members.
 fn roots_of(m: Members) -> Roots
     ensures { result ≡ roots_of m }
 {
@@ -40,5 +40,5 @@ pub fn evaluate_condition(
     requires { (16384 ≤ length work.old) × Known (Accepted s.now work.old m) × Known (Gives condition s.now work.old node) }
     ensures { (sheet : Sheet Condition) (c : Condition) → Accepted s.now work.old m sheet → Gives condition s.now work.old node c → EvaluatedAs s.now work.old work.new result (evaluate kernel sheet [] c) }
 {
-    crate::condition::evaluate(s, work, Scope::new(roots_of(m)), node, 64)
+    crate::condition::evaluate(s, work, &Scope::new(roots_of(m)), node, 64)
 }

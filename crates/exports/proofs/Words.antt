@@ -2,29 +2,18 @@
 -- Assumes nothing.
 use mathlib.Core.List.{List}
 use mathlib.Core.Path.{◌≡◌}
-use Prim.Native.Nat.{ℕ, ◌<◌, ◌≤◌}
+use Prim.Native.Nat.{ℕ}
 use native.Mathlib.Omega.{arith}
-use Rattle.decision.proofs.Calls.{of_verdict}
-use Rattle.decision.proofs.Entries.{call_small}
-use Rattle.decision.specs.Calls.{call_of, verdict_of}
-use Rattle.calling.specs.declared.Call.{Call}
 use Rattle.decision.specs.Called.{Called}
 use Rattle.answers.specs.Entry.{Reply}
 use Rattle.answers.specs.Reply.{line_size}
-use Rattle.writer.specs.declared.answer.Sent.{Sent}
+use Rattle.line.specs.Replies.{number_of, size_of}
+use Rattle.line.specs.declared.reply.Reply.{Reply as Case}
 use Rattle.json_text.specs.Bytes.{Bytes}
 use Rattle.exports.specs.Exported.{Exported, number_in, size_in, word_of}
 
--- number and length fit a word
-pub fits : {answer : Reply} {w w' : List ℕ} {o o' : Bytes} {r : Sent} → answer.number ≤ 23 → Called answer w w' o o' r → (r.number ≤ 23) × (r.size < 4294967296)
-fits small c = (rw c.is_number small, c.short)
-
--- of each call
-pub small : (x : Call) (s : Bytes) (words size : ℕ) → (call_of x s words size).number ≤ 23
-small x s words size = rw of_verdict (call_small (verdict_of x) s words size)
-
 pub exported :
-    {answer : Reply} {w w' : List ℕ} {o o' : Bytes} {r : Sent} {n : ℕ} → Called answer w w' o o' r → n ≡ word_of r.number r.size →
+    {answer : Reply} {w w' : List ℕ} {o o' : Bytes} {r : Case} {n : ℕ} → Called answer w w' o o' r → n ≡ word_of (number_of r) (size_of r) →
     Exported answer w w' o o' n
 exported c e = record { word = rw (← c.is_number, ← c.is_size) e; short = rw (← c.is_size) c.short; output = c.output; work = c.work }
 

@@ -1,21 +1,22 @@
 // The calls for C and Rust (include/intake.h). The crate exports_c gives them to C.
 #![tactic(auto)]
 
-ghost use Rattle.std.specs.Prelude.{◌≡◌, ◌<◌, ◌≤◌, length};
+ghost use Rattle.std.specs.Prelude.{◌≡◌, ◌<◌, length};
 ghost use Rattle.decision.specs.Calls.{call_of};
+ghost use Rattle.line.specs.Replies.{number_of, size_of};
 ghost use Rattle.exports.specs.Exported.{Exported, word_of};
 ghost use Rattle.exports.specs.Version.{version};
 
 use calling::Call;
 use decision::call::run;
-use writer::answer::Sent;
+use line::reply::Reply;
 
-// The number of an answer and the bytes of its line in one word.
-fn word_of(sent: Sent) -> u64
-    requires { (sent.number ≤ 23) × (sent.size < 4294967296) }
-    ensures { result ≡ word_of sent.number sent.size }
+// The number of an answer and the bytes of its line in one word, 0 where it has none: C reads it so.
+fn word_of(reply: Reply) -> u64
+    requires { size_of reply < 4294967296 }
+    ensures { result ≡ word_of (number_of reply) (size_of reply) }
 {
-    sent.number as u64 * 4294967296 + sent.size as u64
+    reply.number() as u64 * 4294967296 + reply.size().unwrap_or(0) as u64
 }
 
 // A call, its answer in one word.

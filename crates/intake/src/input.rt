@@ -9,6 +9,7 @@ pub fn read_all<R: Read>(input: &mut R, buf: &mut [u8]) -> Result<usize>
     ensures { IfOk result (λ n. n ≤ length buf.new) }
 {
     let mut done = 0;
+    // each read says how many bytes it brought: no range counts these
     while done < buf.len() {
         let n = input.read(&mut buf[done..])?;
         if n == 0 {

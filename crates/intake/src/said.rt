@@ -40,7 +40,7 @@ fn say(text: &[u8], to: Stderr) {
     let _ = to.write_all(text);
 }
 
-// `intake: ABOUT: WHAT`.
+// `intake: ABOUT: WHAT`. Written piece by piece: what is said are bytes, as an argument has them, and no str.
 pub fn complain(rt: &HostRuntime, about: &[u8], what: &[u8]) {
     say(b"intake: ", rt.stderr());
     say(about, rt.stderr());

@@ -262,10 +262,3 @@ module _ {s : Bytes} {a b n : ℕ} (l : Abreast s a b n) where
           on_b = rw y (text_behind l.on_b f' g');
           same = l.same ∙ order_on (text_begins l.on_a f g) (text_begins l.on_b f' g') e ∙ rw (x, y);
         }
-
-    module _ (f' : get_or s (b + n) 0 ≡ 34 → ⊥) (g' : get_or s (b + n) 0 ≡ 92 → ⊥) where
-      pub abreast_less : get_or s (a + n) 0 < get_or s (b + n) 0 → order_bytes (text_at s a) (text_at s b) ≡ Ordering.lt
-      abreast_less h = l.same ∙ order_less (text_begins l.on_a f g) (text_begins l.on_b f' g') h
-
-      pub abreast_more : get_or s (b + n) 0 < get_or s (a + n) 0 → order_bytes (text_at s a) (text_at s b) ≡ Ordering.gt
-      abreast_more h = l.same ∙ order_more (text_begins l.on_a f g) (text_begins l.on_b f' g') h

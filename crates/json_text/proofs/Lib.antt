@@ -25,3 +25,4 @@ pub mod Sorted
 pub mod KeyOrder
 pub mod Samples
 pub mod Alike
+pub mod Compared

@@ -8,10 +8,11 @@ use native.Mathlib.Nat.{add_assoc, add-zero}
 use native.Mathlib.Omega.{arith}
 use lib.ListN.{get_or-eq_default, drop, get_or, length, length-drop}
 use Rattle.json_text.proofs.Laws.{bind_ok}
+use Rattle.tokens.proofs.Scans.{byte_is}
 use Rattle.json_text.specs.Bytes.{Bytes, choose, is_one_of, same_bytes}
 use Rattle.json_text.specs.Json.{keys}
 use Rattle.json_text.specs.Limits.{max_nodes}
-use Rattle.json_text.specs.Placing.{Placed, Placer, Sep, arr_at, byte_at, chars_at, ends, fields_at, goes_on, items_at, neither, obj_at, read_at, read_with, sep, skip_at}
+use Rattle.json_text.specs.Placing.{Placed, Placer, Sep, arr_at, chars_at, ends, fields_at, goes_on, items_at, neither, obj_at, read_at, read_with, sep, skip_at}
 use Rattle.json_text.specs.Reader.{new_name, one_node, start}
 use Rattle.json_text.specs.Refusal.{Refusal, Result, not_json, ok, refused, repeated_name, too_many_nodes, ◌>>=◌}
 use Rattle.json_text.specs.Spans.{Fields, Node, Nodes, arr, erase_of, field, no_field, no_node, node, obj, size, size_in, size_of, text_at}
@@ -235,14 +236,6 @@ pub record Naming (s : Bytes) (val : Placer Node) (at : ℕ) (whole : Result (Pl
 
 pub bind_refused : {A B : Type 0} {x : Result A} {r : Refusal} (f : A → Result B) → x ≡ refused r → (x >>= f) ≡ refused r
 bind_refused f e = ap (λ y. y >>= f) e
-
-pub byte_is : (c : ℕ) (s : Bytes) (at : ℕ) → get_or s at 0 ≡ c → byte_at c s at ≡ ok (at + 1)
-unfolding byte_at
-byte_is c s at e = rw (eq-eqb c (get_or s at 0) (sym e), byte_at)
-
-pub byte_not : (c : ℕ) (s : Bytes) (at : ℕ) → (get_or s at 0 ≡ c → ⊥) → byte_at c s at ≡ refused not_json
-unfolding byte_at
-byte_not c s at f = rw (ne_eqb c (get_or s at 0) (λ e. f (sym e)), byte_at)
 
 pub none_left : (n : ℕ) → max_nodes ≤ n → one_node n ≡ refused too_many_nodes
 unfolding one_node

@@ -1,7 +1,7 @@
 -- Marks of names: the number of a name, byte by byte, and what a mark says of the earlier names.
 -- Assumes nothing.
 use mathlib.Core.Bool.{Bool, false, true}
-use mathlib.Core.List.{List, []}
+use mathlib.Core.List.{List, [], ◌∷◌}
 use Rattle.std.specs.Prelude.{None, Option, Some}
 use Rattle.std.specs.Option.{is_some}
 use Rattle.strings.specs.Answers.{found_of}
@@ -9,35 +9,23 @@ use mathlib.Core.Path.{refl, sym, ◌∙◌, ◌≡◌}
 use Prim.Native.Nat.{ℕ, ◌%◌, ◌*◌, ◌+◌, ◌<◌}
 use native.Mathlib.Omega.{arith}
 use lib.ListN.{get_or}
-use Rattle.strings.proofs.Leaves.{before_of}
 use Rattle.json_text.specs.Bytes.{Bytes, find, is_one_of, same_bytes}
-use Rattle.json_text.specs.Cursor.{OnText, Took, before}
 use Rattle.json_text.specs.Json.{Members, empty, entries, keys, member}
 use Rattle.json_text.specs.Naming.{Noted, hashed}
-use Rattle.json_text.specs.Spans.{text_at}
-use Rattle.strings.specs.declared.text.Cursor.{Cursor}
-use Rattle.strings.specs.declared.text.Taken.{Taken}
 
--- ---- the number: what the cursor has before it decides the whole
-pub record Hashing (s : Bytes) (object name h : ℕ) (c : Cursor) : Type 0 where
-  pub on_text : OnText s c.at c.left
+-- ---- the number: what is left of the name decides the whole
+pub record Hashing (whole h : ℕ) (rest : Bytes) : Type 0 where
   pub small : h < 32749
-  pub same : hashed object (text_at s name) ≡ hashed h (before_of s c)
+  pub same : whole ≡ hashed h rest
 
-pub hashing : (s : Bytes) (object name : ℕ) → OnText s name 0 → object < 32749 → Hashing s object name object (record { at = name; unit = 0; left = 0 })
-unfolding before
-hashing s object name o h = record { on_text = o; small = h; same = refl }
-
-module _ {s : Bytes} {object name h : ℕ} {c : Cursor} (l : Hashing s object name h c) where
-  pub hashed_all : before_of s c ≡ [] → h ≡ hashed object (text_at s name)
+module _ {whole h : ℕ} {rest : Bytes} (l : Hashing whole h rest) where
+  pub hashed_all : rest ≡ [] → h ≡ whole
   unfolding hashed
   hashed_all e = sym (l.same ∙ rw e)
 
-  pub hashed_on :
-      (t : Taken) (b : ℕ) → Took s c.at c.unit c.left t.byte t.rest.at t.rest.unit t.rest.left → b ≡ t.byte →
-      Hashing s object name ((h * 31 + b) % 32749) t.rest
+  pub hashed_on : (c b : ℕ) (behind : Bytes) → rest ≡ c ∷ behind → b ≡ c → Hashing whole ((h * 31 + b) % 32749) behind
   unfolding hashed
-  hashed_on t b k e = record { on_text = k.on_text; small = omega arith; same = l.same ∙ rw (k.byte, e) }
+  hashed_on c b behind k e = record { small = omega arith; same = l.same ∙ rw (k, e) }
 
 -- ---- a name among members, and its number
 pub found_is : (k : Bytes) (ms : Members) → is_some (find k (entries ms)) ≡ is_one_of k (keys ms)

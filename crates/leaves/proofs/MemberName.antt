@@ -2,7 +2,7 @@
 -- Assumes nothing.
 use mathlib.Core.Bool.{Bool, false, true}
 use mathlib.Core.List.{List, []}
-use mathlib.Core.Path.{ap, refl, ◌∙◌, ◌≡◌}
+use mathlib.Core.Path.{ap, refl, sym, ◌∙◌, ◌≡◌}
 use Prim.Native.Nat.{ℕ, ◌+◌, ◌-◌, ◌<◌, ◌≤◌}
 use native.Mathlib.Omega.{arith}
 use lib.Dec.{eqb, ltb}
@@ -10,23 +10,24 @@ use lib.ListN.{get_or-eq_default, get_or, length, set}
 use lib.Seq.{get_or-set_other, get_or-set_same}
 use Rattle.json_text.proofs.Agree.{skip_at_lem}
 use Rattle.json_text.proofs.Laws.{bind_ok}
-use Rattle.leaves.proofs.Loops.{bind_refused, byte_is, byte_not, none_left, not_new}
+use Rattle.leaves.proofs.Loops.{bind_refused, none_left, not_new}
+use Rattle.tokens.proofs.Scans.{byte_is}
 use Rattle.json_text.specs.Bytes.{Bytes, is_one_of}
 use Rattle.json_text.proofs.Texts.{text_read}
 use Rattle.json_text.specs.Cursor.{OnText}
 use Rattle.json_text.specs.Fits.{Text}
 use Rattle.json_text.specs.Limits.{max_nodes}
 use Rattle.json_text.specs.Naming.{Grown, name_at}
-use Rattle.json_text.specs.Placing.{chars_at, skip_at}
+use Rattle.json_text.specs.Placing.{byte_at, chars_at, skip_at}
 use Rattle.json_text.specs.Reader.{new_name, one_node}
-use Rattle.json_text.specs.Refusal.{Refusal, not_json, ok, refused, repeated_name, too_many_nodes}
+use Rattle.json_text.specs.Refusal.{Refusal, ok, refused, repeated_name, too_many_nodes}
 use Rattle.json_text.specs.Spans.{text_at}
 use borrow.Author.Tests.{eqb-false, eqb-true, lt-ltb, ltb-false, ltb-true}
 
 module _ (s : Bytes) (names : List Bytes) (n at : ℕ) where
-  pub no_quote : (get_or s at 0 ≡ 34 → ⊥) → name_at s names n at ≡ refused not_json
+  pub no_quote : (r : Refusal) → byte_at 34 s at ≡ refused r → name_at s names n at ≡ refused r
   unfolding name_at
-  no_quote f = bind_refused _ (byte_not 34 s at f)
+  no_quote r e = bind_refused _ e
 
   module _ (is_quote : get_or s at 0 ≡ 34) where
     pub no_room : max_nodes ≤ n → name_at s names n at ≡ refused too_many_nodes
@@ -52,9 +53,9 @@ module _ (s : Bytes) (names : List Bytes) (n at : ℕ) where
           unfolding new_name
           fresh = rw (is_new, new_name)
 
-          pub no_colon : (get_or s (skip_at s e) 0 ≡ 58 → ⊥) → name_at s names n at ≡ refused not_json
+          pub no_colon : (r : Refusal) → byte_at 58 s (skip_at s e) ≡ refused r → name_at s names n at ≡ refused r
           unfolding name_at
-          no_colon f = bind_ok _ (byte_is 34 s at is_quote) ∙ bind_ok _ counted ∙ bind_ok _ is_text ∙ bind_ok _ fresh ∙ bind_refused _ (byte_not 58 s (skip_at s e) f)
+          no_colon r f = bind_ok _ (byte_is 34 s at is_quote) ∙ bind_ok _ counted ∙ bind_ok _ is_text ∙ bind_ok _ fresh ∙ bind_refused _ f
 
           pub spelt : get_or s (skip_at s e) 0 ≡ 58 → name_at s names n at ≡ ok (record { stop = e - 1; value = skip_at s (skip_at s e + 1) })
           unfolding name_at
@@ -81,18 +82,20 @@ marks_grow seen k h i e = go (eqb i k) refl
     go false q = get_or-set_other seen k i true false (eqb-false i k q) ∙ e
 
 -- ---- a quoted name, once its text is scanned
-pub record Quoted (s : Bytes) (at count e : ℕ) : Type 0 where
+pub record Quoted (s : Bytes) (at count from e : ℕ) : Type 0 where
   pub is_quote : get_or s at 0 ≡ 34
+  pub begins : from ≡ at + 1
   pub room : count < max_nodes
   pub is_text : chars_at s (at + 1) ≡ ok e
   pub text : Text s (at + 1) (e - 1)
   pub order : at + 1 < e
   pub upto : e ≤ length s
 
-pub quoted : (s : Bytes) (at count e : ℕ) → get_or s at 0 ≡ 34 → count < max_nodes → chars_at s (at + 1) ≡ ok e → Quoted s at count e
-quoted s at count e q r t =
-    let f = text_read s (at + 1) e (omega (arith, byte_inside s at 34 q (omega arith))) t in
-    record { is_quote = q; room = r; is_text = t; text = f.0; order = f.1; upto = f.2 }
+pub quoted : (s : Bytes) (at count from e : ℕ) → (get_or s at 0 ≡ 34) × (from ≡ at + 1) → count < max_nodes → chars_at s from ≡ ok e → Quoted s at count from e
+quoted s at count from e q r t =
+    let i = ap (chars_at s) (sym q.1) ∙ t in
+    let f = text_read s (at + 1) e (omega (arith, byte_inside s at 34 q.0 (omega arith))) i in
+    record { is_quote = q.0; begins = q.1; room = r; is_text = i; text = f.0; order = f.1; upto = f.2 }
 
-pub on_text_lem : {s : Bytes} {at count e : ℕ} → Quoted s at count e → OnText s (at + 1) 0
-on_text_lem {e = e} q = record { stop = e - 1; text = q.text; few = omega arith }
+pub on_text_lem : {s : Bytes} {at count from e : ℕ} → Quoted s at count from e → OnText s from 0
+on_text_lem {s} {e = e} q = rw q.begins (record { stop = e - 1; text = q.text; few = omega arith })

@@ -8,8 +8,8 @@ use mathlib.Core.Path.{ap, refl, sym, ◌∙◌, ◌≡◌}
 use Prim.Native.Nat.{suc, zero, ℕ, ◌*◌, ◌+◌, ◌-◌, ◌<◌, ◌≤◌}
 use native.Mathlib.Omega.{arith}
 use Rattle.std.proofs.Common.{rules}
-use lib.Dec.{eqb, ltb}
-use lib.ListN.{drop, get_or, get_or-eq_default, length}
+use lib.Dec.{eqb}
+use lib.ListN.{drop, get_or, length}
 use lib.Seq.{sets}
 use Rattle.json_text.proofs.Agree.{read_facts}
 use Rattle.json_text.proofs.Laws.{bind_ok}
@@ -32,7 +32,7 @@ use Rattle.strings.specs.declared.rows.Kind.TheVariants as kinds
 use Rattle.leaves.specs.declared.bracket.Sep.TheVariants as seps
 use Rattle.strings.specs.contracts.rows.Kind as KindT
 use denote.Enum.Bare.{same_true, sameb}
-use borrow.Author.Tests.{lt-ltb, ltb-false, ltb-true, ne_eqb}
+use borrow.Author.Tests.{lt-ltb, ne_eqb}
 
 -- ---- the first byte
 pub starts_none :
@@ -117,17 +117,6 @@ code_small kinds.Object = omega arith
 code_small kinds.Free = omega arith
 
 -- no value starts past the end
-pub starts_inside : (s : Bytes) (at : ℕ) (k : Kind) → Some k ≡ kind_by (start (get_or s at 0)) → at < length s
-starts_inside s at k e = go (ltb at (length s)) refl
-  where
-    go : (b : Bool) → ltb at (length s) ≡ b → at < length s
-    go true q = ltb-true at (length s) q
-    go false q =
-        let z : get_or s at 0 ≡ 0 = get_or-eq_default s 0 (ltb-false at (length s) q) in
-        let y : Some k ≡ None = rw z at e in
-        let x : ◌≡◌ {A = ℕ} 0 1 = cc in
-        absurd (omega arith)
-
 module _ (s : Bytes) (n at : ℕ) where
   -- what is known where a kind without brackets starts
   pub record PlainAt (k : Kind) : Type 0 where

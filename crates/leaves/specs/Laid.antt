@@ -19,7 +19,6 @@ use Rattle.json_text.specs.Refusal.{Result, ok, refused}
 use Rattle.json_text.specs.Spans.{Node, Plain, is_false, is_null, is_number, is_text, is_true, text_at}
 use Rattle.json_text.specs.Table.{members_at, rows}
 use Rattle.strings.specs.declared.answer.Place.{Place}
-use Rattle.leaves.specs.declared.names.Spelt.{Spelt}
 use Rattle.leaves.specs.declared.bracket.Sep.{Sep}
 use Rattle.leaves.specs.declared.bracket.Sep.TheVariants as seps
 
@@ -44,16 +43,17 @@ pub record NameReady (s : Bytes) (w : List ℕ) (seen : List Bool) (object at co
   pub members : HasMembers s w (object + 1) count
   pub noted : Noted seen object (earlier s w object count)
 
--- a name's row stands, and the name has its mark
-pub record NameLaid (s : Bytes) (w w' : List ℕ) (seen seen' : List Bool) (object at count : ℕ) (k : Spelt) : Type 0 where
-  pub read : name_at s (earlier s w object count) count at ≡ ok (record { stop = k.stop; value = k.value })
-  pub words : w' ≡ sets w (3 * count) ((8 * (at + 1) + 4) ∷ k.stop ∷ (count + 1) ∷ [])
+-- a name's row stands, the name has its mark, and its value begins at a place
+pub record NameLaid (s : Bytes) (w w' : List ℕ) (seen seen' : List Bool) (object at count value : ℕ) : Type 0 where
+  pub stop : ℕ
+  pub read : name_at s (earlier s w object count) count at ≡ ok (record { stop = stop; value = value })
+  pub words : w' ≡ sets w (3 * count) ((8 * (at + 1) + 4) ∷ stop ∷ (count + 1) ∷ [])
   pub marked : get_or seen' (hashed object (text_at s (at + 1))) false ≡ true
   pub grown : Grown seen seen'
 
-unfoldable pub NameTold : Bytes → List ℕ → List ℕ → List Bool → List Bool → ℕ → ℕ → ℕ → Fallible Spelt Why → Type 0
+unfoldable pub NameTold : Bytes → List ℕ → List ℕ → List Bool → List Bool → ℕ → ℕ → ℕ → Fallible ℕ Why → Type 0
 NameTold s w w' seen seen' object at count (Err r) = (name_at s (earlier s w object count) count at ≡ refused (refusal_of r)) × (w' ≡ w) × (seen' ≡ seen)
-NameTold s w w' seen seen' object at count (Ok k) = NameLaid s w w' seen seen' object at count k
+NameTold s w w' seen seen' object at count (Ok value) = NameLaid s w w' seen seen' object at count value
 
 -- ---- values
 -- the kind of a value, by how it begins

@@ -20,10 +20,10 @@ pub fn opening(s: &[u8], at: usize, close: u8) -> Sep
     ensures { Opens s.now at close result }
 {
     let here = tokens::scan::skip(s, at + 1);
-    if tokens::scan::byte_at(s, here) == close {
-        return Sep::Shut(here + 1);
+    match s.get(here) {
+        Some(c) if *c == close => Sep::Shut(here + 1),
+        _ => Sep::On(here),
     }
-    Sep::On(here)
 }
 
 // What stands behind an element or a member: a comma and the next one, or the closing bracket.
@@ -32,12 +32,9 @@ pub fn following(s: &[u8], at: usize, close: u8) -> Result<Sep, Refusal>
     ensures { Continues s.now at close result }
 {
     let here = tokens::scan::skip(s, at);
-    let c = tokens::scan::byte_at(s, here);
-    if c == b',' {
-        return Ok(Sep::On(tokens::scan::skip(s, here + 1)));
+    match s.get(here) {
+        Some(b',') => Ok(Sep::On(tokens::scan::skip(s, here + 1))),
+        Some(c) if *c == close => Ok(Sep::Shut(here + 1)),
+        _ => Err(Refusal::NotJson),
     }
-    if c == close {
-        return Ok(Sep::Shut(here + 1));
-    }
-    Err(Refusal::NotJson)
 }

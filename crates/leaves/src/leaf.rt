@@ -63,7 +63,10 @@ pub fn leaf(s: &[u8], work: &mut [u32], at: usize, node: usize) -> Result<Place,
     requires { Ready s.now work.old at node }
     ensures { ParsedTold (read_at 0 s.now node at) work.old work.new node result }
 {
-    let Some(kind) = kind(tokens::scan::byte_at(s, at)) else {
+    let Some(c) = s.get(at) else {
+        return Err(Refusal::NotJson);
+    };
+    let Some(kind) = kind(*c) else {
         return Err(Refusal::NotJson);
     };
     if kind == Kind::Array || kind == Kind::Object {

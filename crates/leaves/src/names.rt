@@ -11,13 +11,7 @@ ghost use Rattle.leaves.specs.Laid.{Looking, NameReady, NameTold, earlier};
 
 use strings::answer::Refusal;
 use strings::rows::Kind;
-
-// A name's place between the quotes, and where its value begins.
-#[derive(Clone, Copy)]
-pub struct Spelt {
-    pub stop: usize,
-    pub value: usize,
-}
+use strings::text::Decoded;
 
 // The mark of a name in an object.
 fn slot(s: &[u8], object: usize, name: usize) -> usize
@@ -25,10 +19,8 @@ fn slot(s: &[u8], object: usize, name: usize) -> usize
     ensures { (result ≡ hashed object (text_at s.now name)) × (result < 32749) }
 {
     let mut mark = object;
-    let mut rest = strings::text::begin(name);
-    while let Some(t) = strings::text::next(s, rest) {
-        mark = (mark * 31 + usize::from(t.byte)) % 32749;
-        rest = t.rest;
+    for b in Decoded::new(s, name) {
+        mark = (mark * 31 + usize::from(b)) % 32749;
     }
     mark
 }
@@ -41,7 +33,7 @@ fn repeated(s: &[u8], work: &[u32], marked: bool, object: usize, count: usize, n
     marked && strings::rows::find(s, work, object + 1, count, name).is_some()
 }
 
-// The name at a place, with `count` nodes before it: its row is written and its mark set.
+// The name at a place, with `count` nodes before it: its row is written and its mark set, and the answer is where its value begins.
 pub fn name(
     s: &[u8],
     work: &mut [u32],
@@ -49,29 +41,22 @@ pub fn name(
     object: usize,
     at: usize,
     count: usize,
-) -> Result<Spelt, Refusal>
+) -> Result<usize, Refusal>
     requires { NameReady s.now work.old seen.old object at count }
     ensures { NameTold s.now work.old work.new seen.old seen.new object at count result }
 {
-    if tokens::scan::byte_at(s, at) != b'"' {
-        return Err(Refusal::NotJson);
-    }
+    let text = tokens::scan::byte(s, at, b'"')?;
     if 4096 <= count {
         return Err(Refusal::TooManyNodes);
     }
-    let end = tokens::scan::string(s, at + 1)?;
-    let mark = slot(s, object, at + 1);
-    if repeated(s, work, seen[mark], object, count, at + 1) {
+    let end = tokens::scan::string(s, text)?;
+    let mark = slot(s, object, text);
+    if repeated(s, work, seen[mark], object, count, text) {
         return Err(Refusal::RepeatedName);
     }
     let colon = tokens::scan::skip(s, end);
-    if tokens::scan::byte_at(s, colon) != b':' {
-        return Err(Refusal::NotJson);
-    }
+    let from = tokens::scan::byte(s, colon, b':')?;
     seen[mark] = true;
-    strings::rows::put_row(work, count, Kind::Text, at + 1, end - 1, count + 1);
-    Ok(Spelt {
-        stop: end - 1,
-        value: tokens::scan::skip(s, colon + 1),
-    })
+    strings::rows::put_row(work, count, Kind::Text, text, end - 1, count + 1);
+    Ok(tokens::scan::skip(s, from))
 }

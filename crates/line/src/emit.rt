@@ -1,18 +1,20 @@
 // An answer's line, measured and then written by the same code: where it does not fit, the output is as it was.
-ghost use Rattle.std.specs.Prelude.{List, ◌≡◌, ℕ, ◌≤◌, length};
+ghost use Rattle.std.specs.Prelude.{List, ℕ, ◌≤◌, length};
 ghost use Rattle.json_text.specs.Bytes.{Bytes};
 ghost use Rattle.writer.specs.Laid.{Laid, Shown};
 ghost use Rattle.answers.specs.Line.{number_line};
-ghost use Rattle.writer.specs.Meaning.{Emitted, Held, meaning};
-ghost use Rattle.answers.specs.Reply.{form_of, number_of, or_empty};
+ghost use Rattle.writer.specs.Meaning.{Held, meaning};
+ghost use Rattle.answers.specs.Reply.{form_of, or_empty};
+ghost use Rattle.line.specs.Emitted.{Cased, Emitted};
 
+use crate::reply::Reply;
 use forms::form::{
     guard_unknown, kept, not_a_source, refused, refused_text, rule_false, rule_unknown, truth,
 };
-use writer::answer::{Answer, Sent};
+use writer::answer::{Answer, Rules};
 use writer::lay::Output;
 
-// The form of an answer; nothing where it has none.
+// The form of an answer; nothing where it has none. Numbers that stand here and in forms are text of the line.
 fn form(out: &mut Output, s: &[u8], work: &[u32], a: Answer)
     requires { Held s.now work.now a }
     ensures { Laid out.old (or_empty (form_of (meaning s.now work.now a))) out.new }
@@ -36,9 +38,9 @@ fn form(out: &mut Output, s: &[u8], work: &[u32], a: Answer)
     }
 }
 
-// The number of an answer, 0 where nothing is refused.
-fn number(a: Answer) -> usize
-    ensures { (s : Bytes) (w : List ℕ) → result ≡ number_of (meaning s w a) }
+// The case of an answer, with the length of its line where it has one.
+fn reply(a: Answer, size: usize) -> Reply
+    ensures { (s : Bytes) (w : List ℕ) → Cased (meaning s w a) size result }
 {
     match a {
         Answer::True
@@ -46,44 +48,43 @@ fn number(a: Answer) -> usize
         | Answer::Unknown
         | Answer::Passed
         | Answer::Selected(_)
-        | Answer::Admitted(_) => 0,
-        Answer::NoInput => 12,
-        Answer::UnknownExpression(_) => 13,
-        Answer::NoId => 14,
-        Answer::RuleFalse(rule) => rule.rules.false_number(),
-        Answer::RuleUnknown(rule) => rule.rules.unknown_number(),
-        Answer::NoOutcome => 19,
-        Answer::GuardUnknown(_) => 20,
-        Answer::WrongState(_) => 21,
-        Answer::NotASource(_) => 22,
+        | Answer::Admitted(_) => Reply::Line(size),
+        Answer::NoInput => Reply::NoInput,
+        Answer::UnknownExpression(_) => Reply::UnknownExpression(size),
+        Answer::NoId => Reply::NoId(size),
+        Answer::RuleFalse(rule) => match rule.rules {
+            Rules::Preconditions => Reply::PreconditionFalse(size),
+            Rules::Invariants => Reply::InvariantFalse(size),
+        },
+        Answer::RuleUnknown(rule) => match rule.rules {
+            Rules::Preconditions => Reply::PreconditionUnknown(size),
+            Rules::Invariants => Reply::InvariantUnknown(size),
+        },
+        Answer::NoOutcome => Reply::NoOutcome(size),
+        Answer::GuardUnknown(_) => Reply::GuardUnknown(size),
+        Answer::WrongState(_) => Reply::WrongState(size),
+        Answer::NotASource(_) => Reply::NotASource(size),
     }
 }
 
-// The number of an answer, and its line at the start of the output, or 23.
-pub fn emit(s: &[u8], work: &[u32], out: &mut [u8], a: Answer) -> Sent
+// The case of an answer, and its line at the start of the output; or the case of a line that is too long for it.
+pub fn emit(s: &[u8], work: &[u32], out: &mut [u8], a: Answer) -> Reply
     requires { Held s.now work.now a }
     ensures { Emitted s.now work.now a out.old out.new result }
 {
-    let number = number(a);
-    if number == 12 {
-        return Sent { number, size: 0 };
+    if let Answer::NoInput = a {
+        return Reply::NoInput;
     }
     let mut measure = Output::new(&mut []);
     form(&mut measure, s, work, a);
     let size = measure.count();
     if out.len() <= size {
-        return Sent {
-            number: 23,
-            size: 0,
-        };
+        return Reply::LineTooLong;
     }
     let mut line = Output::new(out);
     form(&mut line, s, work, a);
     line.byte(b'\n');
-    Sent {
-        number,
-        size: size + 1,
-    }
+    reply(a, size + 1)
 }
 
 // The line of a number by itself, for a program that shows one where a call has written none.

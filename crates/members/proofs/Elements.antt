@@ -9,7 +9,7 @@ use Rattle.json_text.specs.Held.{AreNodes, IsNode}
 use Rattle.json_text.specs.Json.{Value}
 use Rattle.json_text.specs.Table.{after_at, kind_at, value_at, values_at}
 use Rattle.members.proofs.Shapes.{array_at}
-use Rattle.members.proofs.Walks.{OverNodes, an_element, element_falls, element_node, element_on, no_element}
+use Rattle.members.proofs.Walks.{OverNodes, an_element, element_node, element_on, no_element}
 use Rattle.members.specs.Verdicts.{all_of}
 use Rattle.members.specs.Wants.{array_where}
 
@@ -43,9 +43,6 @@ module _ {s : Bytes} {w : List ℕ} {e : ℕ} {Is : (Value → Bool) → Type 0}
 
     pub this_node : IsNode s w 64 k
     this_node = element_node bare h
-
-    pub node_falls : (k' : ℕ) → k' ≡ after_at w k → (k < k') × (k' ≤ e)
-    node_falls = element_falls bare h
 
     pub wrong_here : (p : Value → Bool) → Is p → false ≡ p (value_at s w k) → false ≡ whole p
     wrong_here p i q = sym (an_element (over p i) h ∙ ap {B = Bool} (λ b. b && all_of p (values_at s w (after_at w k) e)) (sym q))

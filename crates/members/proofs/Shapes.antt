@@ -19,7 +19,7 @@ use Rattle.json_text.specs.Table.{after_at, code, end_at, kind_at, members_at, s
 use Rattle.members.proofs.Verdicts.{array_ok_lem}
 use Rattle.members.specs.Kinds.{a_bool, a_text, a_version, an_array_of, an_object, is_version, not_null, some_texts}
 use Rattle.members.specs.Verdicts.{is_ok}
-use denote.Enum.Bare.{sameb}
+use denote.Enum.Bare.{differs_false, differs_true, false_same, sameb}
 use Rattle.strings.proofs.KindCodes.{is_kind, is_other}
 use Rattle.strings.specs.Answers.{code_of}
 use Rattle.strings.specs.contracts.rows.Kind.{the_type}
@@ -118,19 +118,15 @@ same_kind k q {n = n} e = go (sameb the_type k q) refl
     go true h = sym (eq-eqb n (code_of q) (is_kind k q e (sym h)))
     go false h = sym (ne_eqb n (code_of q) (is_other k q e (sym h)))
 
-pub alike : (k q : Kind) {r : Bool} → r ≡ not (sameb the_type k q) → r ≡ false → code_of k ≡ code_of q
-alike k q i j = is_kind k q refl (go (sameb the_type k q) (sym i ∙ j))
-  where
-    go : (b : Bool) → not b ≡ false → true ≡ b
-    go true h = refl
-    go false h = h
+pub other_code : (k q : Kind) → (k ≡ q → ⊥) → code_of k ≡ code_of q → ⊥
+other_code k q f = is_other k q refl (sym (false_same the_type tt k q f))
 
-pub unlike : (k q : Kind) {r : Bool} → r ≡ not (sameb the_type k q) → r ≡ true → code_of k ≡ code_of q → ⊥
-unlike k q i j = is_other k q refl (go (sameb the_type k q) (sym i ∙ j))
-  where
-    go : (b : Bool) → not b ≡ true → false ≡ b
-    go true h = h
-    go false h = refl
+-- ..and what `!=` says of them
+pub alike : (k q : Kind) → false ≡ not (sameb the_type k q) → code_of k ≡ code_of q
+alike k q h = ap code_of (differs_false the_type tt k q (sym h))
+
+pub unlike : (k q : Kind) → true ≡ not (sameb the_type k q) → code_of k ≡ code_of q → ⊥
+unlike k q h = other_code k q (differs_true the_type k q (sym h))
 
 -- ---- what is wanted of a member, by the kind's number
 pub text_tag : (v : Value) → eqb (tag v) 4 ≡ is_ok (a_text v)
@@ -162,34 +158,7 @@ either k (inr e) = sym (ap is_either e)
 
 pub neither : (k : Kind) → (k ≡ kinds.True → ⊥) → (k ≡ kinds.False → ⊥) → false ≡ is_either k
 unfolding is_either
-neither kinds.Null f g = refl
-neither kinds.True f g = absurd (f refl)
-neither kinds.False f g = absurd (g refl)
-neither kinds.Number f g = refl
-neither kinds.Text f g = refl
-neither kinds.Array f g = refl
-neither kinds.Object f g = refl
-neither kinds.Free f g = refl
-
-pub no_object_code : (k : Kind) → (k ≡ kinds.Object → ⊥) → code_of k ≡ 6 → ⊥
-no_object_code kinds.Null f e = omega arith
-no_object_code kinds.True f e = omega arith
-no_object_code kinds.False f e = omega arith
-no_object_code kinds.Number f e = omega arith
-no_object_code kinds.Text f e = omega arith
-no_object_code kinds.Array f e = omega arith
-no_object_code kinds.Object f e = f refl
-no_object_code kinds.Free f e = omega arith
-
-pub no_text_code : (k : Kind) → (k ≡ kinds.Text → ⊥) → code_of k ≡ 4 → ⊥
-no_text_code kinds.Null f e = omega arith
-no_text_code kinds.True f e = omega arith
-no_text_code kinds.False f e = omega arith
-no_text_code kinds.Number f e = omega arith
-no_text_code kinds.Text f e = f refl
-no_text_code kinds.Array f e = omega arith
-no_text_code kinds.Object f e = omega arith
-no_text_code kinds.Free f e = omega arith
+neither k f g = sym (rw (ne_eqb _ 1 (other_code k kinds.True f), ne_eqb _ 2 (other_code k kinds.False g)))
 
 pub code_bool : (k : Kind) (v : Value) → code_of k ≡ tag v → is_either k ≡ is_ok (a_bool v)
 unfolding is_either
@@ -248,21 +217,16 @@ no_array p (text s) h = refl
 no_array p (array vs) h = absurd (h refl)
 no_array p (object ms) h = refl
 
-pub text_alone : (v : Value) → true ≡ is_ok (a_text v) → true ≡ is_ok (some_texts v)
-text_alone null h = h
-text_alone (bool b) h = h
-text_alone (number s) h = h
-text_alone (text s) h = refl
-text_alone (array vs) h = cc
-text_alone (object ms) h = h
-
-pub no_text_alone : (v : Value) → false ≡ is_ok (a_text v) → is_ok (an_array_of a_text v) ≡ is_ok (some_texts v)
-no_text_alone null h = refl
-no_text_alone (bool b) h = refl
-no_text_alone (number s) h = refl
-no_text_alone (text s) h = cc
-no_text_alone (array vs) h = refl
-no_text_alone (object ms) h = refl
+pub text_or_texts : (v : Value) {b : Bool} → b ≡ is_ok (a_text v) → (b || is_ok (an_array_of a_text v)) ≡ is_ok (some_texts v)
+text_or_texts v e = ap (λ (c : Bool). c || is_ok (an_array_of a_text v)) e ∙ go v
+  where
+    go : (x : Value) → (is_ok (a_text x) || is_ok (an_array_of a_text x)) ≡ is_ok (some_texts x)
+    go null = refl
+    go (bool c) = refl
+    go (number s) = refl
+    go (text s) = refl
+    go (array vs) = refl
+    go (object ms) = refl
 
 -- a kind that code has read is the value's
 module _ {s : Bytes} {w : List ℕ} {left n : ℕ} (h : IsNode s w left n) (k : ℕ) (p : k ≡ kind_at w n) where

@@ -86,9 +86,6 @@ module _ {A : Type 0} {s : Bytes} {w : List ℕ} {e : ℕ} {whole : A} {f : Memb
     pub a_member : (a : ℕ) → a ≡ start_at w k → whole ≡ f (member (text_at s a) (value_at s w (k + 1)) (members_at s w (after_at w (k + 1)) e))
     a_member a q = l.rest ∙ ap f (more.value ∙ ap (λ (x : ℕ). member (text_at s x) (value_at s w (k + 1)) (members_at s w (after_at w (k + 1)) e)) (sym q))
 
-    pub falls : (k' : ℕ) → k' ≡ after_at w (k + 1) → (k < k') × (k' ≤ e)
-    falls k' q = (omega (arith, more.past), omega (arith, more.upto))
-
     pub on :
         {B : Type 0} {whole' : B} {f' : Members → B} (k' : ℕ) → k' ≡ after_at w (k + 1) → whole' ≡ f' (members_at s w (after_at w (k + 1)) e) →
         OverMembers s w e whole' f' k'
@@ -112,9 +109,6 @@ module _ {A : Type 0} {s : Bytes} {w : List ℕ} {left e : ℕ} {whole : A} {f :
 
     pub an_element : whole ≡ f (cons (value_at s w k) (values_at s w (after_at w k) e))
     an_element = l.rest ∙ ap f further.value
-
-    pub element_falls : (k' : ℕ) → k' ≡ after_at w k → (k < k') × (k' ≤ e)
-    element_falls k' q = (omega (arith, further.past), omega (arith, further.upto))
 
     pub element_on : {B : Type 0} {whole' : B} {f' : Values → B} (k' : ℕ) → k' ≡ after_at w k → whole' ≡ f' (values_at s w (after_at w k) e) →
         OverNodes s w left e whole' f' k'

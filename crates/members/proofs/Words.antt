@@ -1,13 +1,13 @@
 -- A text against a word, turn by turn, and whether it is one of several.
 -- Assumes nothing.
-use mathlib.Core.Bool.{Bool, false, not, true}
+use mathlib.Core.Bool.{Bool, false, true}
 use mathlib.Core.List.{List, [], ◌++◌, ◌∷◌}
 use Rattle.std.specs.Borrow.{Bor}
-use Rattle.std.specs.Prelude.{Option, None, Some}
+use Rattle.std.specs.Prelude.{Option}
 use Rattle.std.specs.Option.{is_some}
 use Rattle.std.specs.List.{position, position_from}
 use Rattle.std.proofs.lemmas.Iterator.Adapters.{position_from-zero}
-use mathlib.Core.Path.{ap, refl, subst, sym, ◌∙◌, ◌≡◌}
+use mathlib.Core.Path.{ap, refl, sym, ◌∙◌, ◌≡◌}
 use Prim.Native.Nat.{ℕ, ◌+◌, ◌-◌, ◌<◌, ◌≤◌}
 use native.Mathlib.Numerals.{add-one}
 use native.Mathlib.Omega.{arith}
@@ -15,17 +15,13 @@ use lib.Dec.{eqb, ltb}
 use lib.ListN.{drop, drop_of_length-le, get_or, length, length-drop, take}
 use lib.Seq.{drop-cons, take_all}
 use borrow.Author.Tests.{ltb-false, ltb-true}
-use Rattle.json_text.proofs.Cursor.{encode_1, encode_2, encode_3, encode_4, same_apart, same_long, same_none, same_on, same_short, turn_end, turn_raw}
+use Rattle.json_text.proofs.Cursor.{encode_1, encode_2, encode_3, encode_4, same_apart, same_long, same_none, same_on, same_short, text_begins, text_behind, text_ends}
 use Rattle.json_text.proofs.Texts.{TextView, ended, raw, text_view, written}
 use Rattle.json_text.proofs.Laws.{eqb_no, eqb_true}
-use Rattle.strings.proofs.Leaves.{before_of}
 use Rattle.json_text.specs.Bytes.{Bytes, is_one_of, same_bytes}
-use Rattle.json_text.specs.Cursor.{OnText, Took, before}
+use Rattle.json_text.specs.Cursor.{OnText}
 use Rattle.json_text.specs.Spans.{text_at}
 use Rattle.json_text.specs.Utf8.{encode}
-use Rattle.strings.specs.Answers.{Stepped}
-use Rattle.strings.specs.declared.text.Cursor.{Cursor}
-use Rattle.strings.specs.declared.text.Taken.{Taken}
 use Rattle.members.specs.Words.{words}
 
 pub here : (l : Bytes) (i : ℕ) → i < length l → drop i l ≡ get_or l i 0 ∷ drop (i + 1) l
@@ -55,77 +51,41 @@ text_goes_on s at o f = go (text_view s at o.stop o.text)
     go (raw i j k t) = (_, _, k)
     go (written u b i j k t l) = let x = begun u in (x.0, x.1 ++ text_at s b, k ∙ ap (λ (y : Bytes). y ++ text_at s b) x.2)
 
--- what the cursor has before it against the rest of the word
-pub record Spelling (s : Bytes) (at : ℕ) (word : Bytes) (c : Cursor) (i : ℕ) : Type 0 where
-  pub on : OnText s c.at c.left
+-- so many bytes of the text and of the word are the same, and what is left of both decides
+pub record Spelling (s : Bytes) (at : ℕ) (word : Bytes) (i : ℕ) : Type 0 where
+  pub on : OnText s (at + i) 0
   pub upto : i ≤ length word
-  pub same : same_bytes (text_at s at) word ≡ same_bytes (before_of s c) (drop i word)
+  pub same : same_bytes (text_at s at) word ≡ same_bytes (text_at s (at + i)) (drop i word)
 
--- a cursor with no byte of a scalar value left to give
-abbrev pub fresh : ℕ → Cursor
-fresh at = record { at = at; unit = 0; left = 0 }
+pub spelling : (s : Bytes) (at : ℕ) (word : Bytes) → OnText s at 0 → Spelling s at word 0
+spelling s at word o = let z : at + 0 ≡ at = omega arith in record { on = rw z o; upto = omega arith; same = rw z }
 
-pub spelling : (s : Bytes) (at : ℕ) (word : Bytes) → OnText s at 0 → Spelling s at word (fresh at) 0
-unfolding before
-spelling s at word o = record { on = o; upto = omega arith; same = refl }
-
-module _ {s : Bytes} {at : ℕ} {word : Bytes} {c : Cursor} {i : ℕ} (l : Spelling s at word c i) where
-  -- the text ends, and the word with it or not
-  pub ended_early : before_of s c ≡ [] → i < length word → false ≡ same_bytes (text_at s at) word
-  ended_early e h = sym (l.same ∙ same_short e (here word i h))
-
-  pub ended_both : before_of s c ≡ [] → length word ≤ i → true ≡ same_bytes (text_at s at) word
-  ended_both e h = sym (l.same ∙ same_none e (drop_of_length-le word {i = i} h))
-
-  pub spelled : length word ≤ i → (r : Option Taken) → Stepped s c r → (b : Bool) → is_some r ≡ not b → b ≡ same_bytes (text_at s at) word
-  unfolding Stepped
-  spelled h None k true e = ended_both k h
-  spelled h None k false e = absurd (cc)
-  spelled h (Some t) k true e = absurd (cc)
-  spelled h (Some t) k false e = sym (l.same ∙ same_long k.byte (drop_of_length-le word {i = i} h))
-
-  module _ (t : Taken) (k : Took s c.at c.unit c.left t.byte t.rest.at t.rest.unit t.rest.left) where
-    pub unlike : i < length word → (t.byte ≡ get_or word i 0 → ⊥) → false ≡ same_bytes (text_at s at) word
-    unlike h g = sym (l.same ∙ same_apart k.byte (here word i h) g)
-
-    pub like : i < length word → t.byte ≡ get_or word i 0 → Spelling s at word t.rest (i + 1)
-    like h e = record { on = k.on_text; upto = omega arith; same = l.same ∙ same_on k.byte (here word i h) e }
-
--- the same where no escape has been met: the cursor is as many bytes into the text as into the word
-pub plainly : (s : Bytes) (at : ℕ) (word : Bytes) → OnText s at 0 → Spelling s at word (fresh (at + 0)) 0
-plainly s at word o = subst (λ (a : ℕ). Spelling s at word (fresh a) 0) (omega arith) (spelling s at word o)
-
-module _ {s : Bytes} {at : ℕ} {word : Bytes} {i : ℕ} (l : Spelling s at word (fresh (at + i)) i) where
-  pub plain_ended : get_or s (at + i) 0 ≡ 34 → i < length word → false ≡ same_bytes (text_at s at) word
-  plain_ended e h = ended_early l (turn_end s (at + i) 0 0 l.on refl e) h
+module _ {s : Bytes} {at : ℕ} {word : Bytes} {i : ℕ} (l : Spelling s at word i) where
+  pub ended_early : get_or s (at + i) 0 ≡ 34 → i < length word → false ≡ same_bytes (text_at s at) word
+  ended_early e h = sym (l.same ∙ same_short (text_ends l.on e) (here word i h))
 
   -- behind the whole word, the text ends at a quote and nowhere else
-  pub plain_spelled : i ≡ length word → eqb (get_or s (at + length word) 0) 34 ≡ same_bytes (text_at s at) word
-  unfolding before
-  plain_spelled h = ap (λ (x : ℕ). eqb (get_or s (at + x) 0) 34) (sym h) ∙ go (eqb (get_or s (at + i) 0) 34) refl
+  pub spelled : i ≡ length word → eqb (get_or s (at + length word) 0) 34 ≡ same_bytes (text_at s at) word
+  spelled h = ap (λ (x : ℕ). eqb (get_or s (at + x) 0) 34) (sym h) ∙ go (eqb (get_or s (at + i) 0) 34) refl
     where
+      no_more : drop i word ≡ []
+      no_more = drop_of_length-le word {i = i} (omega arith)
+
       go : (b : Bool) → eqb (get_or s (at + i) 0) 34 ≡ b → eqb (get_or s (at + i) 0) 34 ≡ same_bytes (text_at s at) word
-      go true e = e ∙ ended_both l (turn_end s (at + i) 0 0 l.on refl (eqb_true (get_or s (at + i) 0) 34 e)) (omega arith)
-      go false e =
-          let x = text_goes_on s (at + i) l.on (eqb_no (get_or s (at + i) 0) 34 e) in
-          e ∙ sym (l.same ∙ same_long x.2 (drop_of_length-le word {i = i} (omega arith)))
+      go true e = e ∙ sym (l.same ∙ same_none (text_ends l.on (eqb_true (get_or s (at + i) 0) 34 e)) no_more)
+      go false e = let x = text_goes_on s (at + i) l.on (eqb_no (get_or s (at + i) 0) 34 e) in e ∙ sym (l.same ∙ same_long x.2 no_more)
 
-  pub plain_escape : {r : Bool} → r ≡ same_bytes (text_at s (at + i)) (take (length word - i) (drop i word)) → r ≡ same_bytes (text_at s at) word
-  unfolding before
-  plain_escape e = e ∙ ap (same_bytes (text_at s (at + i))) (take_all (length word - i) (drop i word) (omega (arith, length-drop i word))) ∙ sym l.same
+  pub escaped : {r : Bool} → r ≡ same_bytes (text_at s (at + i)) (take (length word - i) (drop i word)) → r ≡ same_bytes (text_at s at) word
+  escaped e = e ∙ ap (same_bytes (text_at s (at + i))) (take_all (length word - i) (drop i word) (omega (arith, length-drop i word))) ∙ sym l.same
 
-  module _ (f : get_or s (at + i) 0 ≡ 34 → ⊥) (g : get_or s (at + i) 0 ≡ 92 → ⊥) where
-    abbrev plain_taken : Taken
-    plain_taken = record { byte = get_or s (at + i) 0; rest = fresh (at + i + 1) }
+  module _ (f : get_or s (at + i) 0 ≡ 34 → ⊥) (g : get_or s (at + i) 0 ≡ 92 → ⊥) (h : i < length word) where
+    pub unlike : (get_or s (at + i) 0 ≡ get_or word i 0 → ⊥) → false ≡ same_bytes (text_at s at) word
+    unlike d = sym (l.same ∙ same_apart (text_begins l.on f g) (here word i h) d)
 
-    plain_took : Took s (at + i) 0 0 (get_or s (at + i) 0) (at + i + 1) 0 0
-    plain_took = turn_raw s (at + i) 0 0 l.on refl f g
-
-    pub plain_unlike : i < length word → (get_or s (at + i) 0 ≡ get_or word i 0 → ⊥) → false ≡ same_bytes (text_at s at) word
-    plain_unlike = unlike l plain_taken plain_took
-
-    pub plain_like : i < length word → get_or s (at + i) 0 ≡ get_or word i 0 → Spelling s at word (fresh (at + (i + 1))) (i + 1)
-    plain_like h e = subst (λ (a : ℕ). Spelling s at word (fresh a) (i + 1)) (omega arith) (like l plain_taken plain_took h e)
+    pub like : get_or s (at + i) 0 ≡ get_or word i 0 → Spelling s at word (i + 1)
+    like e =
+        let x : at + (i + 1) ≡ at + i + 1 = omega arith in
+        record { on = rw x (text_behind l.on f g); upto = omega arith; same = l.same ∙ same_on (text_begins l.on f g) (here word i h) e ∙ rw x }
 
 -- a text that begins with another byte than the word, and with no escape
 pub other_start :
@@ -133,15 +93,15 @@ pub other_start :
     false ≡ same_bytes (text_at s at) word
 other_start s at word o h f g = go (eqb (get_or s (at + 0) 0) 34) refl
   where
-    l : Spelling s at word (fresh (at + 0)) 0
-    l = plainly s at word o
+    l : Spelling s at word 0
+    l = spelling s at word o
 
     z : at + 0 ≡ at
     z = omega arith
 
     go : (b : Bool) → eqb (get_or s (at + 0) 0) 34 ≡ b → false ≡ same_bytes (text_at s at) word
-    go true e = plain_ended l (eqb_true (get_or s (at + 0) 0) 34 e) h
-    go false e = plain_unlike l (eqb_no (get_or s (at + 0) 0) 34 e) (rw z g) h (rw z f)
+    go true e = ended_early l (eqb_true (get_or s (at + 0) 0) 34 e) h
+    go false e = unlike l (eqb_no (get_or s (at + 0) 0) 34 e) (rw z g) h (rw z f)
 
 -- whether a text has a place among words
 listed_from : (n : ℕ) (k : Bytes) (ws : List (Bor Bytes)) → is_some (position_from (λ w. same_bytes k w.now) n ws) ≡ is_one_of k (words ws)

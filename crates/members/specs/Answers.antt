@@ -44,15 +44,14 @@ form_of forms.Contains = conditions.contains
 form_of forms.StartsWith = conditions.starts_with
 form_of forms.EndsWith = conditions.ends_with
 
-unfoldable pub operator_of : Operator → Option conditions.Operator
+unfoldable pub operator_of : Operator → conditions.Operator
 unfolding mode_of form_of
-operator_of (operators.Junction m) = Some (conditions.op_junction (mode_of m))
-operator_of operators.Negation = Some conditions.op_negation
-operator_of operators.Exists = Some conditions.op_exists
-operator_of (operators.Pair f) = Some (conditions.op_pair (form_of f))
-operator_of (operators.Quantified m) = Some (conditions.op_quantified (mode_of m))
-operator_of operators.NotCarried = Some conditions.op_not_carried
-operator_of operators.Unknown = None
+operator_of (operators.Junction m) = conditions.op_junction (mode_of m)
+operator_of operators.Negation = conditions.op_negation
+operator_of operators.Exists = conditions.op_exists
+operator_of (operators.Pair f) = conditions.op_pair (form_of f)
+operator_of (operators.Quantified m) = conditions.op_quantified (mode_of m)
+operator_of operators.NotCarried = conditions.op_not_carried
 
 -- a condition's fault: none, 10 or 11
 unfoldable pub fault_is : Fallible (Unit {0}) Fault → Option Refusal

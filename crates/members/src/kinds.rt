@@ -8,9 +8,9 @@ ghost use Rattle.members.specs.Kinds.{a_bool, a_text, a_version, an_array_of, an
 ghost use Rattle.members.specs.Verdicts.{all_of, is_ok};
 ghost use Rattle.members.specs.Wants.{MayTest, Tells, allowed, array_where, needed};
 
-use strings::rows::{Kind, after_at, end_at, kind_at, start_at};
+use strings::rows::{Elements, Kind, after_at, end_at, kind_at, start_at};
 
-// Whether characters are digits alone and spell at most 4,294,967,295.
+// Whether characters are digits alone and spell at most 4,294,967,295. By hand: `parse` takes a str, and also a sign.
 pub fn is_version_number(digits: &[u8]) -> bool
     ensures { result ≡ is_version digits.now }
 {
@@ -19,7 +19,7 @@ pub fn is_version_number(digits: &[u8]) -> bool
         if !c.is_ascii_digit() {
             return false;
         }
-        n = n * 10 + (*c - b'0') as u64;
+        n = n * 10 + u64::from(*c - b'0');
         if n > 4294967295 {
             return false;
         }
@@ -64,10 +64,8 @@ pub fn is_version(s: &[u8], work: &[u32], node: usize) -> bool
     requires { IsNode s.now work.now 64 node }
     ensures { result ≡ is_ok (a_version (value_at s.now work.now node)) }
 {
-    if kind_at(work, node) != Kind::Number {
-        return false;
-    }
-    is_version_number(&s[start_at(work, node)..end_at(work, node)])
+    kind_at(work, node) == Kind::Number
+        && is_version_number(&s[start_at(work, node)..end_at(work, node)])
 }
 
 // Whether each of the nodes from `from` up to `end` passes the test.
@@ -82,13 +80,10 @@ pub fn all_of<F: Fn(&[u8], &[u32], usize) -> bool>(
     requires test { MayTest (F.pre test) }
     ensures { (p : _) → Tells (F.post test) p → result ≡ all_of p (values_at s.now work.now from end) }
 {
-    let mut k = from;
-    // from row to row, as each row says which is next: no range counts these
-    while k < end {
+    for k in Elements::new(work, from, end) {
         if !test(s, work, k) {
             return false;
         }
-        k = after_at(work, k);
     }
     true
 }
@@ -104,10 +99,7 @@ pub fn is_array_of<F: Fn(&[u8], &[u32], usize) -> bool>(
     requires test { MayTest (F.pre test) }
     ensures { (p : _) → Tells (F.post test) p → result ≡ array_where p (value_at s.now work.now node) }
 {
-    if kind_at(work, node) != Kind::Array {
-        return false;
-    }
-    all_of(s, work, node + 1, after_at(work, node), test)
+    kind_at(work, node) == Kind::Array && all_of(s, work, node + 1, after_at(work, node), test)
 }
 
 // Whether a node is an array of texts.
@@ -123,10 +115,7 @@ pub fn is_text_or_texts(s: &[u8], work: &[u32], node: usize) -> bool
     requires { IsNode s.now work.now 64 node }
     ensures { result ≡ is_ok (some_texts (value_at s.now work.now node)) }
 {
-    if is_text(s, work, node) {
-        return true;
-    }
-    are_texts(s, work, node)
+    is_text(s, work, node) || are_texts(s, work, node)
 }
 
 // Whether a member that must be there passes the test. `needs` and `allows` differ in what they say of a missing member alone: their two names

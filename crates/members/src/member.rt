@@ -10,7 +10,7 @@ ghost use Rattle.members.specs.Verdicts.{is_ok};
 ghost use Rattle.members.specs.Words.{words};
 
 use crate::word::{is_one_of, is_word};
-use strings::rows::{after_at, start_at};
+use strings::rows::{Keys, start_at};
 
 // The value's node of the member, from `from` up to `end`, whose name is the word.
 // Not one function with strings' `find`: that one compares two texts of the sheet, this one a word, and each would keep its contract.
@@ -18,13 +18,10 @@ pub fn named(s: &[u8], work: &[u32], from: usize, end: usize, word: &[u8]) -> Op
     requires { AreMembers s.now work.now 64 from end }
     ensures { Located s.now work.now from end (find word.now (entries (members_at s.now work.now from end))) result }
 {
-    let mut k = from;
-    // from row to row, as each row says which is next: no range counts these
-    while k < end {
+    for k in Keys::new(work, from, end) {
         if is_word(s, start_at(work, k), word) {
             return Some(k + 1);
         }
-        k = after_at(work, k + 1);
     }
     None
 }
@@ -34,13 +31,10 @@ pub fn only(s: &[u8], work: &[u32], from: usize, end: usize, names: &[&[u8]]) ->
     requires { AreMembers s.now work.now 64 from end }
     ensures { result ≡ is_ok (only (words names.now) (keys (members_at s.now work.now from end))) }
 {
-    let mut k = from;
-    // from row to row, as each row says which is next: no range counts these
-    while k < end {
+    for k in Keys::new(work, from, end) {
         if !is_one_of(s, start_at(work, k), names) {
             return false;
         }
-        k = after_at(work, k + 1);
     }
     true
 }

@@ -1,11 +1,14 @@
-// Types that condition answers with.
+// Types that say what a condition is: its operator by cases, and what can be wrong with it. They stand here because the check of a sheet's shape
+// and the evaluation both use them.
 
+// How the truths of several conditions become one: every one of them has to hold (`all`, `for_all`), or any one (`any`, `for_any`).
 #[derive(Clone, Copy, PartialEq, Eq)]
 pub enum Mode {
     Every,
     Any,
 }
 
+// The operators that compare two operands, each by its name in a sheet.
 #[derive(Clone, Copy, PartialEq, Eq)]
 pub enum Form {
     Eq,
@@ -20,7 +23,8 @@ pub enum Form {
     EndsWith,
 }
 
-// What the one member's name asks for.
+// What a condition does, which the name of its one member says. Names that differ in mode or form alone share a case, and those that are known
+// but not evaluated here share `NotCarried`. A name that is none of these has no operator.
 #[derive(Clone, Copy, PartialEq, Eq)]
 pub enum Operator {
     Junction(Mode),
@@ -29,10 +33,9 @@ pub enum Operator {
     Pair(Form),
     Quantified(Mode),
     NotCarried,
-    Unknown,
 }
 
-// What is at fault in a condition: the refusals 10 and 11.
+// What is wrong with a condition: it is not written as one (refusal 10), or its operator is known but not evaluated here (refusal 11).
 #[derive(Clone, Copy, PartialEq, Eq)]
 pub enum Fault {
     Shape,

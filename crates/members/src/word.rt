@@ -5,22 +5,14 @@ ghost use Rattle.json_text.specs.Cursor.{OnText};
 ghost use Rattle.json_text.specs.Spans.{text_at};
 ghost use Rattle.members.specs.Words.{words};
 
+use strings::text::Decoded;
+
 // Whether a text is a given word, decoded as it is compared.
 fn spells(s: &[u8], at: usize, word: &[u8]) -> bool
     requires { OnText s.now at 0 }
     ensures { result ≡ same_bytes (text_at s.now at) word.now }
 {
-    let mut c = strings::text::begin(at);
-    for b in word {
-        let Some(t) = strings::text::next(s, c) else {
-            return false;
-        };
-        if t.byte != *b {
-            return false;
-        }
-        c = t.rest;
-    }
-    strings::text::next(s, c).is_none()
+    Decoded::new(s, at).eq(word.iter().copied())
 }
 
 // Whether a text is a given word. Few names have an escape: up to the first one, bytes are compared as they stand.
@@ -49,10 +41,7 @@ pub fn is_word(s: &[u8], at: usize, word: &[u8]) -> bool
         return matches(s, at, word);
     };
     let b = s[at];
-    if b != *first && b != b'\\' {
-        return false;
-    }
-    matches(s, at, word)
+    (b == *first || b == b'\\') && matches(s, at, word)
 }
 
 // The place of a text among words.

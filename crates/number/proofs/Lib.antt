@@ -1,6 +1,5 @@
 pub mod Exact
 pub mod Digits
-mod Orders
 mod Columns
 mod Signs
 mod Parts

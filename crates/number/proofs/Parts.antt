@@ -1,17 +1,14 @@
 -- The parts of a number's characters: a sign, zeros at the start and at the end, what stands before and behind a byte.
 -- Assumes nothing.
-use mathlib.Core.Logic.{inl, inr, ◌⊎◌}
 use borrow.Author.Tests.{ltb-false}
 use lib.Dec.{ltb}
 use Rattle.std.proofs.lemmas.List.{nil_from_length}
-use Rattle.std.proofs.Common.{append-nil, ap₂, length-append, ◌||◌, Bool, Greater, Less, None, Option, Some, cond, suc, zero, ◌≡◌, ◌≢◌, ℕ, ◌+◌}
+use Rattle.std.proofs.Common.{append-nil, ap₂, length-append, ◌||◌, Bool, Equal, Greater, Less, None, Option, Some, cond, suc, zero, ◌≡◌, ◌≢◌, ℕ, ◌+◌}
 use Rattle.std.proofs.Common.{◌-◌, ◌<◌, ◌≤◌, [], ◌∷◌, ◌++◌, arith, drop, eqb, false, get_or, length, refl, sym, take, true, ◌∙◌, ap}
 use Rattle.std.specs.Bool.{⊤}
-use Rattle.std.specs.List.{position_or_len, slice_range}
-use Rattle.std.specs.Option.{MatchOption, unwrap_or}
-use denote.Ref.{Bor}
+use Rattle.std.specs.List.{position_or_len}
 use Rattle.number.proofs.Digits.{before_nil, behind_nil}
-use Rattle.number.specs.Parts.{Parsed, Splits, ends_whole, held, side_of, stops_at}
+use Rattle.number.specs.Parts.{Parsed, Splits, Trimmed, ends_whole, held, side_of, stops_at}
 use Rattle.number.specs.declared.text.Decimal.{Decimal}
 use Rattle.number.specs.Compare.{leading, is_nothing, is_zero, sign_of, put, trim, trim_end}
 use Rattle.number.specs.Decimal.{before, behind, exponent_part, fraction_part, whole_part, is_e, is_point, is_sign, minus, unsigned}
@@ -114,17 +111,49 @@ module _ (p : ℕ → Bool) where
             rw (l, m) (rw (take_all s (position_or_len p s) n, drop_of_length-le s {i = position_or_len p s} n) at (split_here s))
 
 -- ---- the sign of a number by its digits
+-- zeros at the end are all of a row only where zeros at the start are
+no_nothing : (s : Bytes) → trim s ≡ s → 0 < length s → trim_end s ≢ []
+unfolding trim trim_end
+no_nothing [] e h k = absurd (omega (arith, h))
+no_nothing (c ∷ s) e h k = go (is_zero c) refl
+  where
+    shorter : (s : Bytes) → length (trim s) ≤ length s
+    shorter [] = omega arith
+    shorter (c ∷ s) = by (shorter s) (is_zero c) refl
+      where
+        by : length (trim s) ≤ length s → (b : Bool) → is_zero c ≡ b → length (trim (c ∷ s)) ≤ length (c ∷ s)
+        by h true e = rw (e, trim) (omega (arith, h))
+        by h false e = rw (e, trim) (omega arith)
+
+    full : (t : Bytes) → is_zero c ≡ false → put c t ≡ c ∷ t
+    full [] e = rw (e, put) refl
+    full (d ∷ t) e = refl
+
+    go : (b : Bool) → is_zero c ≡ b → ⊥
+    go true f = let l = ap length (rw (f, trim) at e) in absurd (omega (arith, l, shorter s))
+    go false f = let l = ap length (sym (full (trim_end s) f) ∙ k) in absurd (omega (arith, l))
+
 module _ (d : Decimal) where
-  no_digits : (a b : Bytes) → 0 < length a + length b → is_nothing (a ++ b) ≡ false
-  no_digits [] [] h = absurd (omega (arith, h))
-  no_digits [] (c ∷ b) h = refl
-  no_digits (c ∷ a) b h = refl
+  -- a digit that is not 0 leads
+  some_digit : (s : Bytes) → trim s ≡ s → 0 < length s → is_nothing (trim_end s) ≡ false
+  some_digit s e h = go (trim_end s) refl
+    where
+      go : (t : Bytes) → trim_end s ≡ t → is_nothing (trim_end s) ≡ false
+      go [] k = absurd (no_nothing s e h k)
+      go (c ∷ t) k = rw k refl
 
-  pub side_below : 0 < length d.upper.now + length d.lower.now → d.negative ≡ true → Less ≡ side_of (sign_of (held d))
-  side_below h n = rw (no_digits d.upper.now d.lower.now h, n, sign_of) refl
+  digits : Trimmed d → 0 < length d.upper.now + length d.lower.now → is_nothing (trim_end (d.upper.now ++ d.lower.now)) ≡ false
+  digits t h = some_digit (d.upper.now ++ d.lower.now) t (omega (arith, h, length-append d.upper.now d.lower.now))
 
-  pub side_above : 0 < length d.upper.now + length d.lower.now → d.negative ≡ false → Greater ≡ side_of (sign_of (held d))
-  side_above h n = rw (no_digits d.upper.now d.lower.now h, n, sign_of) refl
+  pub side_none : length d.upper.now ≡ 0 → length d.lower.now ≡ 0 → Equal ≡ side_of (sign_of (held d))
+  unfolding trim_end
+  side_none h k = rw (nil_from_length d.upper.now h, nil_from_length d.lower.now k, sign_of) refl
+
+  pub side_below : Trimmed d → 0 < length d.upper.now + length d.lower.now → d.negative ≡ true → Less ≡ side_of (sign_of (held d))
+  side_below t h n = rw (digits t h, n, sign_of) refl
+
+  pub side_above : Trimmed d → 0 < length d.upper.now + length d.lower.now → d.negative ≡ false → Greater ≡ side_of (sign_of (held d))
+  side_above t h n = rw (digits t h, n, sign_of) refl
 
 pub unsigned_upto : (s : Bytes) → length (unsigned s) ≤ length s
 unfolding unsigned
@@ -236,16 +265,12 @@ behind_past : (p : ℕ → Bool) (a b : Bytes) → Clear p a → behind p (a ++ 
 behind_past p [] b h = refl
 behind_past p (c ∷ a) b h = behind_on p c (a ++ b) h.0 ∙ behind_past p a b h.1
 
-abbrev pub tail : Bytes → Bytes
-tail [] = []
-tail (c ∷ s) = s
-
-behind_split : (p : ℕ → Bool) (s a b : Bytes) → Splits p s a b → tail b ≡ behind p s
+behind_split : (p : ℕ → Bool) (s a b : Bytes) → Splits p s a b → drop 1 b ≡ behind p s
 behind_split p s a b h =
     sym
     (ap (behind p) h.parts ∙ behind_past p a b (rw (sym h.front) at (clear_before p s)) ∙ here b h.stop)
   where
-    here : (b : Bytes) → stops_at p b ≡ true → behind p b ≡ tail b
+    here : (b : Bytes) → stops_at p b ≡ true → behind p b ≡ drop 1 b
     here [] e = behind_nil p
     here (c ∷ b) e = behind_stop p c b e
 
@@ -262,40 +287,20 @@ no_e c h = let e = no_point c h in rw e at h
 point_plain : (c : ℕ) → c ≡ 46 → (is_e c ≡ false) × (is_point c ≡ true)
 point_plain c e = rw e (refl, refl)
 
-module _ (s : Bytes) where
-  pub at_end : s ≡ [] → s ≡ behind is_point (before is_e s)
-  at_end e = rw (e, before_nil is_e, behind_nil is_point) refl
+-- where a point leads
+pub past_point : (s t : Bytes) → 1 ≤ length s → get_or s 0 0 ≡ 46 → t ≡ drop 1 s →
+    (before is_e t ≡ behind is_point (before is_e s)) × (behind is_e t ≡ behind is_e s)
+past_point [] t h n k = absurd (omega (arith, h))
+past_point (c ∷ s) t h n k =
+    let i = point_plain c n in
+    (rw k (sym (rw (before_on is_e c s i.0) (behind_stop is_point c (before is_e s) i.1))), rw k (sym (behind_on is_e c s i.0)))
 
-  pub at_end_exponent : s ≡ [] → s ≡ behind is_e s
-  at_end_exponent e = rw (e, behind_nil is_e) refl
-
-  module _ (c : ℕ) (t : Bytes) (e : s ≡ c ∷ t) where
-    is_e_here : stops_at ends_whole s ≡ true → c ≢ 46 → is_e c ≡ true
-    is_e_here h n = rw (e, eqb_false c 46 n) at h
-
-    pub at_e : stops_at ends_whole s ≡ true → c ≢ 46 → [] ≡ behind is_point (before is_e s)
-    at_e h n = sym (rw (e, before_stop is_e c t (is_e_here h n)) (behind_nil is_point))
-
-    pub at_e_exponent : stops_at ends_whole s ≡ true → c ≢ 46 → t ≡ behind is_e s
-    at_e_exponent h n = sym (rw e (behind_stop is_e c t (is_e_here h n)))
-
-    pub at_point : c ≡ 46 → (a b : Bytes) → Splits is_e t a b → a ≡ behind is_point (before is_e s)
-    at_point n a b h =
-        let k = point_plain c n in
-        h.front ∙ sym (rw (e, before_on is_e c t k.0) (behind_stop is_point c (before is_e t) k.1))
-
-    pub at_point_exponent : c ≡ 46 → (a b : Bytes) → Splits is_e t a b → tail b ≡ behind is_e s
-    at_point_exponent n a b h = behind_split is_e t a b h ∙ sym (rw e (behind_on is_e c t (point_plain c n).0))
-
--- what `get(1..)` finds
-pub past_first : (b : Bytes) (r : Option (Bor Bytes)) (d : Bor Bytes) → d.now ≡ [] →
-    MatchOption r ((length b < 1) ⊎ (length b < length b)) (λ y. (1 ≤ length b) × (length b ≤ length b) × (y.now ≡ slice_range b 1 (length b)) × (length y.now + 1 ≡ length b)) →
-    (unwrap_or r d).now ≡ tail b
-past_first [] None d e h = e
-past_first (c ∷ b) None d e (inl h) = absurd (omega (arith, h))
-past_first (c ∷ b) None d e (inr h) = absurd (omega (arith, h))
-past_first [] (Some y) d e h = absurd (omega (arith, h.0))
-past_first (c ∷ b) (Some y) d e h = h.2 ∙ all_of b _ (omega arith)
+-- where none does, no digit stands behind it
+pub no_fraction : (s : Bytes) → stops_at ends_whole s ≡ true → (1 ≤ length s → get_or s 0 0 ≢ 46) → before is_e s ≡ behind is_point (before is_e s)
+no_fraction [] h n = rw (before_nil is_e, behind_nil is_point) refl
+no_fraction (c ∷ s) h n =
+    let e : is_e c ≡ true = rw (eqb_false c 46 (n (omega arith))) at h in
+    rw (before_stop is_e c s e) (sym (behind_nil is_point))
 
 -- ---- the whole text
 -- behind a sign
@@ -347,9 +352,65 @@ trim_leading (c ∷ s) = go (trim_leading s) (is_zero c) refl
     go h true e = rw (e, leading, trim) (omega (arith, h))
     go h false e = rw (e, leading, trim) (omega arith)
 
+-- zeros at the start, where a test passes none of them
+module _ (p : ℕ → Bool) (z : p 48 ≡ false) where
+  zero_fails : (c : ℕ) → is_zero c ≡ true → p c ≡ false
+  zero_fails c e = rw (eqb_true c 48 e) z
+
+  trim_before : (s : Bytes) → trim (before p s) ≡ before p (trim s)
+  unfolding trim
+  trim_before [] = rw (before_nil p) refl
+  trim_before (c ∷ s) = go (trim_before s) (is_zero c) refl (p c) refl
+    where
+      go : trim (before p s) ≡ before p (trim s) → (b : Bool) → is_zero c ≡ b → (k : Bool) → p c ≡ k → trim (before p (c ∷ s)) ≡ before p (trim (c ∷ s))
+      go h true e k f = rw (before_on p c s (zero_fails c e), e, trim) h
+      go h false e true f = rw (e, trim, before_stop p c s f) refl
+      go h false e false f = rw (e, trim, before_on p c s f, e, trim) refl
+
+  trim_behind : (s : Bytes) → behind p (trim s) ≡ behind p s
+  unfolding trim
+  trim_behind [] = refl
+  trim_behind (c ∷ s) = go (trim_behind s) (is_zero c) refl
+    where
+      go : behind p (trim s) ≡ behind p s → (b : Bool) → is_zero c ≡ b → behind p (trim (c ∷ s)) ≡ behind p (c ∷ s)
+      go h true e = rw (behind_on p c s (zero_fails c e), e, trim) h
+      go h false e = rw (e, trim) refl
+
+  leading_before : (s : Bytes) → leading (before p s) ≡ leading s
+  unfolding leading
+  leading_before [] = rw (before_nil p) refl
+  leading_before (c ∷ s) = go (leading_before s) (is_zero c) refl (p c) refl
+    where
+      go : leading (before p s) ≡ leading s → (b : Bool) → is_zero c ≡ b → (k : Bool) → p c ≡ k → leading (before p (c ∷ s)) ≡ leading (c ∷ s)
+      go h true e k f = rw (before_on p c s (zero_fails c e), e, leading) (omega (arith, h))
+      go h false e true f = rw (before_stop p c s f, e, leading) refl
+      go h false e false f = rw (before_on p c s f, e, leading) refl
+
+clear_trim : (p : ℕ → Bool) (s : Bytes) → Clear p s → Clear p (trim s)
+unfolding trim
+clear_trim p [] h = tt
+clear_trim p (c ∷ s) h = go (clear_trim p s h.1) (is_zero c) refl
+  where
+    go : Clear p (trim s) → (b : Bool) → is_zero c ≡ b → Clear p (trim (c ∷ s))
+    go k true e = rw (e, trim) k
+    go k false e = rw (e, trim) h
+
+trim_twice : (s : Bytes) → trim (trim s) ≡ trim s
+unfolding trim
+trim_twice [] = refl
+trim_twice (c ∷ s) = go (trim_twice s) (is_zero c) refl
+  where
+    go : trim (trim s) ≡ trim s → (b : Bool) → is_zero c ≡ b → trim (trim (c ∷ s)) ≡ trim (c ∷ s)
+    go h true e = rw (e, trim) h
+    go h false e = rw (e, trim, e, trim) refl
+
 -- the rows that zeros are taken from hold as many bytes as their zeros and what is left
 pub trim_lengths : (a b x y : Bytes) → x ++ y ≡ trim (a ++ b) → leading (a ++ b) + (length x + length y) ≡ length a + length b
 trim_lengths a b x y e = omega (arith, trim_leading (a ++ b), ap length e, length-append x y, length-append a b)
+
+-- no zero leads what was parsed
+pub parsed_trimmed : (s : Bytes) (d : Decimal) → Parsed s d → Trimmed d
+parsed_trimmed s d p = ap trim p.digits ∙ trim_twice (whole_part s ++ fraction_part s) ∙ sym p.digits
 
 module _ (s u whole rest : Bytes) (e : u ≡ unsigned s) (h : Splits ends_whole u whole rest) where
   clear : Clear ends_whole whole
@@ -401,19 +462,60 @@ module _ (s u whole rest : Bytes) (e : u ≡ unsigned s) (h : Splits ends_whole 
   lengths : length whole + length rest ≤ length s
   lengths = omega (arith, unsigned_upto s, ap length e, ap length h.parts, length-append whole rest)
 
-  pub parsed : (d : Decimal) (fraction x y : Bytes) → d.negative ≡ minus s → fraction ≡ behind is_point (before is_e rest) → x ++ y ≡ trim (whole ++ fraction) →
-      d.upper.now ++ d.lower.now ≡ trim_end (x ++ y) → d.whole ≡ length whole → d.leading ≡ length whole + length fraction - length x - length y →
-      d.exponent.now ≡ behind is_e rest → Parsed s d
-  parsed d fraction x y n f k m w l q =
-      let raw : whole ++ fraction ≡ whole_part s ++ fraction_part s = ap₂ (λ (a b : Bytes). a ++ b) whole_is (f ∙ fraction_is) in
-      let zeros = trim_lengths whole fraction x y k in
-      record {
-        negative = n;
-        digits = m ∙ ap trim_end (k ∙ ap trim raw);
-        whole = w ∙ ap length whole_is;
-        leads = omega (arith, l, zeros, ap leading raw);
-        exponent = q ∙ exponent_is;
-        whole_upto = omega (arith, w, lengths);
-        leads_upto = omega (arith, l, lengths, ap length f, behind_upto is_point (before is_e rest), before_upto is_e rest);
-        exponent_upto = omega (arith, ap length q, lengths, behind_upto is_e rest);
-      }
+  clear_e : Clear is_e whole
+  clear_e = weaker is_e ends_whole no_e whole clear
+
+  -- the zeros are passed before an `e` is looked for
+  module _ (fraction upper left lower at_e : Bytes) (f : before is_e fraction ≡ behind is_point (before is_e rest)) (g : behind is_e fraction ≡ behind is_e rest)
+      (t : upper ≡ trim whole) (k : upper ++ left ≡ trim (whole ++ fraction)) (l : Splits is_e left lower at_e) where
+    clear_upper : Clear is_e upper
+    clear_upper = rw t (clear_trim is_e whole clear_e)
+
+    raw : before is_e (whole ++ fraction) ≡ whole_part s ++ fraction_part s
+    raw = before_past is_e whole fraction clear_e ∙ ap₂ (λ (a b : Bytes). a ++ b) whole_is (f ∙ fraction_is)
+
+    digits_are : upper ++ lower ≡ trim (whole_part s ++ fraction_part s)
+    digits_are =
+        ap (λ (b : Bytes). upper ++ b) l.front
+        ∙ sym (before_past is_e upper left clear_upper)
+        ∙ ap (before is_e) k
+        ∙ sym (trim_before is_e refl (whole ++ fraction))
+        ∙ ap trim raw
+
+    exponent_here : drop 1 at_e ≡ behind is_e rest
+    exponent_here =
+        behind_split is_e left lower at_e l
+        ∙ sym (behind_past is_e upper left clear_upper)
+        ∙ ap (behind is_e) k
+        ∙ trim_behind is_e refl (whole ++ fraction)
+        ∙ behind_past is_e whole fraction clear_e
+        ∙ g
+
+    zeros : leading (whole_part s ++ fraction_part s) + (length upper + length left) ≡ length whole + length fraction
+    zeros = omega (arith, trim_lengths whole fraction upper left k, leading_before is_e refl (whole ++ fraction), ap leading raw)
+
+    pub parsed : (d : Decimal) → d.negative ≡ minus s → d.upper.now ++ d.lower.now ≡ upper ++ lower → d.whole ≡ length whole →
+        d.leading ≡ length whole + length fraction - length upper - length left → d.exponent.now ≡ drop 1 at_e → Parsed s d
+    parsed d n m w r q =
+        record {
+          negative = n;
+          digits = m ∙ digits_are;
+          whole = w ∙ ap length whole_is;
+          leads = omega (arith, r, zeros);
+          exponent = q ∙ exponent_here ∙ exponent_is;
+          whole_upto = omega (arith, w, lengths);
+          leads_upto =
+              omega (
+                arith,
+                r,
+                zeros,
+                trim_leading (whole_part s ++ fraction_part s),
+                length-append (whole_part s) (fraction_part s),
+                ap length whole_is,
+                ap length fraction_is,
+                lengths,
+                behind_upto is_point (before is_e rest),
+                before_upto is_e rest,
+              );
+          exponent_upto = omega (arith, ap length (q ∙ exponent_here), lengths, behind_upto is_e rest);
+        }

@@ -26,7 +26,7 @@ pub record Splits (p : ℕ → Bool) (s a b : Bytes) : Type 0 where
 -- each part of a text, where it stands
 pub record Parsed (s : Bytes) (d : Decimal) : Type 0 where
   pub negative : d.negative ≡ minus s
-  pub digits : d.upper.now ++ d.lower.now ≡ trim_end (trim (whole_part s ++ fraction_part s))
+  pub digits : d.upper.now ++ d.lower.now ≡ trim (whole_part s ++ fraction_part s)
   pub whole : d.whole ≡ length (whole_part s)
   pub leads : d.leading ≡ leading (whole_part s ++ fraction_part s)
   pub exponent : d.exponent.now ≡ exponent_part s
@@ -44,12 +44,16 @@ pub record Short (d : Decimal) : Type 0 where
 abbrev pub spelled : Bytes → Integer
 spelled s = signed (minus s) (natural 0 (unsigned s))
 
+-- no zero leads
+abbrev pub Trimmed : Decimal → Type 0
+Trimmed d = trim (d.upper.now ++ d.lower.now) ≡ d.upper.now ++ d.lower.now
+
 -- the number that the parts stand for
 abbrev pub held : Decimal → Scaled
 held d =
     record {
       negative = d.negative;
-      digits = d.upper.now ++ d.lower.now;
+      digits = trim_end (d.upper.now ++ d.lower.now);
       place = record { up = (spelled d.exponent.now).up + d.whole; down = (spelled d.exponent.now).down + d.leading };
     }
 

@@ -32,7 +32,7 @@ impl Integer {
         let mut digits = [0u8; 260];
         let mut carry = more;
         for (i, c) in s.iter().rev().enumerate() {
-            let t = c.saturating_sub(b'0') as usize + carry;
+            let t = usize::from(c.saturating_sub(b'0')) + carry;
             digits[i] = (t % 10) as u8;
             carry = t / 10;
         }
@@ -105,6 +105,7 @@ impl Integer {
         let count = self.count.max(other.count);
         let mut digits = [0u8; 260];
         let mut borrow = 0;
+        // by place: of digits that a loop over `iter_mut()` has written nothing is known behind it, so an iterator over the two rows would count all the same
         for i in 0..count {
             let t = 10 + self.digits[i] - other.digits[i] - borrow;
             digits[i] = t % 10;

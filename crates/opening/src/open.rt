@@ -1,7 +1,6 @@
 // A sheet read and accepted, or refused by its text or its shape.
 ghost use Rattle.std.specs.Prelude.{◌≡◌};
-ghost use Rattle.answers.specs.Line.{refusal_number};
-ghost use Rattle.opening.specs.Opening.{Opening, why_not};
+ghost use Rattle.opening.specs.Opening.{Opening};
 ghost use Rattle.opening.specs.declared.open.NotOpened.TheVariants as not_opened;
 
 use order::order::order;
@@ -29,20 +28,6 @@ impl From<Misshapen> for NotOpened {
 
     fn from(why: Misshapen) -> NotOpened {
         NotOpened::Misshapen(why)
-    }
-}
-
-impl NotOpened {
-    // The number of a refusal, 1 to 11.
-    pub fn number(self) -> usize
-        ensures { result ≡ refusal_number (why_not self) }
-    {
-        match self {
-            NotOpened::Unread(why) => why.number(),
-            NotOpened::Misshapen(Misshapen::WrongSheet) => 9,
-            NotOpened::Misshapen(Misshapen::WrongShape) => 10,
-            NotOpened::Misshapen(Misshapen::NotCarried) => 11,
-        }
     }
 }
 

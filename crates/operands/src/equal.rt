@@ -14,9 +14,9 @@ use resolving::layer::{names_agree, part_of, same_leaf, value_node};
 use strings::rows::Kind;
 
 #[cycle(equal_at_equal_parts)]
-pub fn equal_at(s: &[u8], work: &[u32], scope: Scope, a: Operand, b: Operand, left: usize) -> bool
-    requires { Ready s.now work.now scope.roots scope.frames × OperandAt s.now (table work.now) a × OperandAt s.now (table work.now) b }
-    ensures { result ≡ alike (sheet_in s.now) left (frames_of s.now (table work.now) scope.frames) (operand_of s.now (table work.now) a) (operand_of s.now (table work.now) b) }
+pub fn equal_at(s: &[u8], work: &[u32], scope: &Scope, a: Operand, b: Operand, left: usize) -> bool
+    requires { Ready s.now work.now scope.now.roots scope.now.frames × OperandAt s.now (table work.now) a × OperandAt s.now (table work.now) b }
+    ensures { result ≡ alike (sheet_in s.now) left (frames_of s.now (table work.now) scope.now.frames) (operand_of s.now (table work.now) a) (operand_of s.now (table work.now) b) }
 {
     if left == 0 {
         return false;
@@ -37,14 +37,14 @@ pub fn equal_at(s: &[u8], work: &[u32], scope: Scope, a: Operand, b: Operand, le
 fn equal_parts(
     s: &[u8],
     work: &[u32],
-    scope: Scope,
+    scope: &Scope,
     a: Operand,
     b: Operand,
     named: bool,
     left: usize,
 ) -> bool
-    requires { Ready s.now work.now scope.roots scope.frames × Paired s.now (table work.now) named a b }
-    ensures { result ≡ alike_nodes s.now (table work.now) (alike (sheet_in s.now) left (frames_of s.now (table work.now) scope.frames)) named (part_at (sheet_in s.now) s.now (table work.now) (frames_of s.now (table work.now) scope.frames) a) (part_at (sheet_in s.now) s.now (table work.now) (frames_of s.now (table work.now) scope.frames) b) (kids s.now (table work.now) a.node named) (kids s.now (table work.now) b.node named) }
+    requires { Ready s.now work.now scope.now.roots scope.now.frames × Paired s.now (table work.now) named a b }
+    ensures { result ≡ alike_nodes s.now (table work.now) (alike (sheet_in s.now) left (frames_of s.now (table work.now) scope.now.frames)) named (part_at (sheet_in s.now) s.now (table work.now) (frames_of s.now (table work.now) scope.now.frames) a) (part_at (sheet_in s.now) s.now (table work.now) (frames_of s.now (table work.now) scope.now.frames) b) (kids s.now (table work.now) a.node named) (kids s.now (table work.now) b.node named) }
 {
     let mut x = Children::of(work, a.node, named);
     let mut y = Children::of(work, b.node, named);

@@ -31,9 +31,16 @@ use strings::rows::Kind;
 use strings::text::same;
 
 // Whether an element of an array equals an operand.
-fn is_element(s: &[u8], work: &[u32], scope: Scope, o: Operand, whole: Operand, left: usize) -> bool
-    requires { Ready s.now work.now scope.roots scope.frames × OperandAt s.now (table work.now) o × Holds s.now (table work.now) false whole.node }
-    ensures { result ≡ one_alike (alike (sheet_in s.now) left (frames_of s.now (table work.now) scope.frames)) (operand_of s.now (table work.now) o) (each_node (part_at (sheet_in s.now) s.now (table work.now) (frames_of s.now (table work.now) scope.frames) whole) (kids s.now (table work.now) whole.node false)) }
+fn is_element(
+    s: &[u8],
+    work: &[u32],
+    scope: &Scope,
+    o: Operand,
+    whole: Operand,
+    left: usize,
+) -> bool
+    requires { Ready s.now work.now scope.now.roots scope.now.frames × OperandAt s.now (table work.now) o × Holds s.now (table work.now) false whole.node }
+    ensures { result ≡ one_alike (alike (sheet_in s.now) left (frames_of s.now (table work.now) scope.now.frames)) (operand_of s.now (table work.now) o) (each_node (part_at (sheet_in s.now) s.now (table work.now) (frames_of s.now (table work.now) scope.now.frames) whole) (kids s.now (table work.now) whole.node false)) }
 {
     let mut c = Children::of(work, whole.node, false);
     while let Some(x) = c.next(work) {
@@ -106,9 +113,9 @@ fn nesting(depth: usize) -> usize
 }
 
 // Array and element, text and part, object and key; else false.
-fn contains(s: &[u8], work: &[u32], scope: Scope, a: Operand, b: Operand) -> bool
-    requires { Ready s.now work.now scope.roots scope.frames × OperandAt s.now (table work.now) a × OperandAt s.now (table work.now) b }
-    ensures { result ≡ holds_of (sheet_in s.now) (frames_of s.now (table work.now) scope.frames) contains (operand_of s.now (table work.now) a) (operand_of s.now (table work.now) b) }
+fn contains(s: &[u8], work: &[u32], scope: &Scope, a: Operand, b: Operand) -> bool
+    requires { Ready s.now work.now scope.now.roots scope.now.frames × OperandAt s.now (table work.now) a × OperandAt s.now (table work.now) b }
+    ensures { result ≡ holds_of (sheet_in s.now) (frames_of s.now (table work.now) scope.now.frames) contains (operand_of s.now (table work.now) a) (operand_of s.now (table work.now) b) }
 {
     match (a.kind.class(), b.kind.class()) {
         (Kind::Text, _) => two_texts(s, work, a, b, has_part),
@@ -119,9 +126,9 @@ fn contains(s: &[u8], work: &[u32], scope: Scope, a: Operand, b: Operand) -> boo
 }
 
 // An array's element; without an array false.
-fn is_in(s: &[u8], work: &[u32], scope: Scope, a: Operand, b: Operand) -> bool
-    requires { Ready s.now work.now scope.roots scope.frames × OperandAt s.now (table work.now) a × OperandAt s.now (table work.now) b }
-    ensures { result ≡ holds_of (sheet_in s.now) (frames_of s.now (table work.now) scope.frames) is_in (operand_of s.now (table work.now) a) (operand_of s.now (table work.now) b) }
+fn is_in(s: &[u8], work: &[u32], scope: &Scope, a: Operand, b: Operand) -> bool
+    requires { Ready s.now work.now scope.now.roots scope.now.frames × OperandAt s.now (table work.now) a × OperandAt s.now (table work.now) b }
+    ensures { result ≡ holds_of (sheet_in s.now) (frames_of s.now (table work.now) scope.now.frames) is_in (operand_of s.now (table work.now) a) (operand_of s.now (table work.now) b) }
 {
     match b.kind.class() {
         Kind::Array => is_element(s, work, scope, a, b, nesting(scope.frames.depth)),
@@ -129,9 +136,9 @@ fn is_in(s: &[u8], work: &[u32], scope: Scope, a: Operand, b: Operand) -> bool
     }
 }
 
-pub fn holds(s: &[u8], work: &[u32], scope: Scope, form: Form, a: Operand, b: Operand) -> bool
-    requires { Ready s.now work.now scope.roots scope.frames × OperandAt s.now (table work.now) a × OperandAt s.now (table work.now) b }
-    ensures { result ≡ holds_of (sheet_in s.now) (frames_of s.now (table work.now) scope.frames) (form_of form) (operand_of s.now (table work.now) a) (operand_of s.now (table work.now) b) }
+pub fn holds(s: &[u8], work: &[u32], scope: &Scope, form: Form, a: Operand, b: Operand) -> bool
+    requires { Ready s.now work.now scope.now.roots scope.now.frames × OperandAt s.now (table work.now) a × OperandAt s.now (table work.now) b }
+    ensures { result ≡ holds_of (sheet_in s.now) (frames_of s.now (table work.now) scope.now.frames) (form_of form) (operand_of s.now (table work.now) a) (operand_of s.now (table work.now) b) }
 {
     // a match on the operator, which is the form that the paper names
     match form {

@@ -1,4 +1,4 @@
-// The members of every object by ascending name, found once for a sheet: links behind the rows of its table. The definitions stand in the reader's specs (Links), the laws in proofs/.
+// The members of every object by ascending name, found once for a sheet: links behind the rows of its table. The definitions stand in json_text/specs (Links), the laws in proofs/.
 #![tactic(auto)]
 
 mod links;

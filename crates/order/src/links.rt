@@ -17,7 +17,7 @@ pub fn chain(work: &mut [u32], node: usize, names: &[u16], end: usize)
 {
     let mut at = node;
     for name in names {
-        let next = *name as usize;
+        let next = usize::from(*name);
         link(work, at, next);
         at = next;
     }

@@ -54,9 +54,7 @@ fn clear_behind(work: &mut [u32], count: usize)
     requires { (16384 ≤ length work.old) × (count ≤ 4096) }
     ensures { ClearedBehind work.old count work.new }
 {
-    for k in 3 * count..12288 {
-        work[k] = 0;
-    }
+    work[3 * count..12288].fill(0);
 }
 
 // The objects among so many rows, one after the other.

@@ -18,7 +18,7 @@ fn right_first(s: &[u8], work: &[u32], left: &[u16], i: usize, right: &[u16], j:
     requires { (12288 ≤ length work.now) × TextNodes s.now work.now left.now × TextNodes s.now work.now (drop j right.now) × (i < length left.now) }
     ensures { result ≡ is_above (key_at s.now work.now) (get_or left.now i 0) (drop j right.now) }
 {
-    j < right.len() && is_after(s, work, left[i] as usize, right[j] as usize)
+    j < right.len() && is_after(s, work, usize::from(left[i]), usize::from(right[j]))
 }
 
 // Nodes in order and those behind the place where they stood, in order too, become one list in order.
@@ -48,7 +48,12 @@ fn join(s: &[u8], work: &[u32], nodes: &mut [u16], mid: usize, spare: &mut [u16]
     ensures { nodes.new ≡ by_key (key_at s.now work.now) nodes.old }
 {
     // names that are written in order need no merging
-    if is_after(s, work, nodes[mid - 1] as usize, nodes[mid] as usize) {
+    if is_after(
+        s,
+        work,
+        usize::from(nodes[mid - 1]),
+        usize::from(nodes[mid]),
+    ) {
         let left = &mut spare[..mid];
         left.copy_from_slice(&nodes[..mid]);
         merge(s, work, left, nodes);

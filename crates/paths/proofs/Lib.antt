@@ -9,5 +9,4 @@ pub mod Trees
 pub mod Unbound
 pub mod Lookup
 pub mod Reaching
-pub mod Searching
 pub mod Naming

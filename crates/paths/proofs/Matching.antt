@@ -1,29 +1,22 @@
 -- The first part of a path compared byte by byte with a text, turn by turn.
 -- Assumes nothing.
 use mathlib.Core.List.{[], ◌∷◌}
-use mathlib.Core.Bool.{Bool, false, not, true}
-use Rattle.std.specs.Option.{is_some}
-use mathlib.Core.Path.{ap, refl, subst, sym, ◌≡◌, ◌∙◌}
-use Rattle.std.specs.Prelude.{Option, None, Some}
-use Prim.Native.Nat.{ℕ, ◌+◌, ◌<◌, ◌≤◌}
+use mathlib.Core.Bool.{Bool, cond, false, not, true}
+use mathlib.Core.Path.{ap, refl, sym, ◌≡◌, ◌∙◌}
+use Rattle.std.specs.Prelude.{MatchOption, Option, None, Some}
+use Prim.Native.Nat.{suc, ℕ, ◌+◌, ◌<◌, ◌≤◌}
 use native.Mathlib.Numerals.{add-one}
 use native.Mathlib.Omega.{arith}
 use lib.Dec.{eqb}
-use lib.ListN.{drop, drop_of_length-le, get_or, length}
+use lib.ListN.{drop, drop_of_length-le, get_or, length, take}
+use Rattle.std.specs.List.{prefix_len}
 use lib.Seq.{drop-cons}
 use borrow.Author.Tests.{eq-eqb, eqb-false, eqb-true, ne_eqb}
-use Rattle.json_text.proofs.Cursor.{same_long, same_none, same_short, text_begins, text_behind, text_ends}
+use Rattle.json_text.proofs.Cursor.{same_none, same_short, text_begins, text_behind, text_ends}
 use Rattle.json_text.specs.Bytes.{Bytes, same_bytes}
-use Rattle.json_text.specs.Cursor.{OnText, before}
+use Rattle.json_text.specs.Cursor.{OnText}
 use Rattle.json_text.specs.Spans.{text_at}
-use Rattle.paths.proofs.Searching.{start_before}
-use Rattle.paths.proofs.Stands.{impossible}
 use Rattle.paths.specs.Path.{part}
-use Rattle.paths.specs.Told.{PartStepped, PartTook}
-use Rattle.strings.proofs.Leaves.{was_byte, was_end}
-use Rattle.strings.specs.Answers.{Stepped}
-use Rattle.strings.specs.declared.text.Cursor.{Cursor}
-use Rattle.strings.specs.declared.text.Taken.{Taken}
 
 -- l is what stands before the path's cursor, m what the part is compared with
 part_more : {l : Bytes} {c : ℕ} {k : Bytes} → l ≡ c ∷ k → (c ≡ 46 → ⊥) → part l ≡ c ∷ part k
@@ -52,42 +45,16 @@ module _ {l : Bytes} (m : Bytes) where
     unfolding same_bytes
     part_on {d} f g = rw (part_more e n, f, eq-eqb c d g, same_bytes)
 
--- what a step in the part said
-pub part_byte : {path : Bytes} {c : Cursor} {r : Option Taken} (x : Taken) → PartStepped path c r → r ≡ Some x → PartTook path c x
-unfolding PartStepped
-part_byte {path} {c} x h e = subst (PartStepped path c) e h
-
-pub part_end : (path : Bytes) (c : Cursor) {r : Option Taken} → PartStepped path c r → r ≡ None → part (before path c.at c.unit c.left) ≡ []
-unfolding PartStepped
-part_end path c h e = subst (PartStepped path c) e h
-
-pub part_over : (path : Bytes) (c : Cursor) (r : Option Taken) {b : Bool} → PartStepped path c r → is_some r ≡ not b → b ≡ same_bytes (part (before path c.at c.unit c.left)) []
-part_over path c r {b} h k = go r refl b k
+-- what std takes while no dot comes is the part
+pub part_taken : (l : Bytes) → take (prefix_len (λ c. not (eqb c 46)) l) l ≡ part l
+unfolding part
+part_taken [] = refl
+part_taken (c ∷ l) = go (eqb c 46) (part_taken l)
   where
-    go : (x : Option Taken) → r ≡ x → (b : Bool) → is_some r ≡ not b → b ≡ same_bytes (part (before path c.at c.unit c.left)) []
-    go None e true k = sym (same_none (part_end path c h e) refl)
-    go None e false k = let q : false ≡ true = sym (ap is_some e) ∙ k in absurd (impossible (cc))
-    go (Some x) e true k = let q : false ≡ true = sym k ∙ ap is_some e in absurd (impossible (cc))
-    go (Some x) e false k = sym (same_long (part_byte x h e).byte refl)
-
--- a byte of the text taken, which is one of the part where it is no dot
-pub part_stepped : (path : Bytes) (c : Cursor) {r q : Option Taken} → Stepped path c r → (r ≡ None → q ≡ None) →
-    ((x : Taken) → r ≡ Some x → x.byte ≡ 46 → q ≡ None) → ((x : Taken) → r ≡ Some x → (x.byte ≡ 46 → ⊥) → q ≡ Some x) → PartStepped path c q
-unfolding PartStepped part
-part_stepped path c {r} {q} h ended dot other = go r refl
-  where
-    byte_of : (x : Taken) → r ≡ Some x → (b : Bool) → eqb x.byte 46 ≡ b → PartStepped path c q
-    byte_of x e true k =
-        let t = was_byte x h e in
-        subst (PartStepped path c) (sym (dot x e (eqb-true x.byte 46 k))) (rw (t.byte, k, part))
-    byte_of x e false k =
-        let t = was_byte x h e in
-        let n = eqb-false x.byte 46 k in
-        subst (PartStepped path c) (sym (other x e n)) (record { byte = part_more t.byte n; on_text = t.on_text; falls = t.falls })
-
-    go : (x : Option Taken) → r ≡ x → PartStepped path c q
-    go None e = subst (PartStepped path c) (sym (ended e)) (ap part (was_end path c h e))
-    go (Some x) e = byte_of x e (eqb x.byte 46) refl
+    go : (b : Bool) → take (prefix_len (λ c. not (eqb c 46)) l) l ≡ part l →
+        take (cond (not b) (1 + prefix_len (λ c. not (eqb c 46)) l) 0) (c ∷ l) ≡ elim b [ true ↦ [] | false ↦ c ∷ part l ]
+    go true e = refl
+    go false e = let n : 1 + prefix_len (λ c. not (eqb c 46)) l ≡ suc (prefix_len (λ c. not (eqb c 46)) l) = omega arith in rw n (ap (λ (k : Bytes). c ∷ k) e)
 
 -- a word from a place on
 pub word_over : (w : Bytes) (i : ℕ) → length w ≤ i → drop i w ≡ []
@@ -122,12 +89,6 @@ pub alongside : (path s : Bytes) (name : ℕ) → OnText path 0 0 → OnText s n
 alongside path s name p q = let x : name + 0 ≡ name = omega arith in record { on_path = p; on_name = rw x q; same = rw x }
 
 module _ {path s : Bytes} {name n : ℕ} (l : Alongside path s name n) where
-  pub alongside_in_path : n < length path
-  alongside_in_path = omega (arith, l.on_path.text.order, l.on_path.text.upto)
-
-  pub alongside_in_name : name + n < length s
-  alongside_in_name = omega (arith, l.on_name.text.order, l.on_name.text.upto)
-
   pub alongside_dot : get_or path n 0 ≡ 46 → (get_or s (name + n) 0 ≡ 92 → ⊥) → eqb (get_or s (name + n) 0) 34 ≡ same_bytes (part (text_at path 0)) (text_at s name)
   alongside_dot e g = text_ended l.on_name g ∙ sym (l.same ∙ part_dot _ (text_begins l.on_path (λ q. omega arith) (λ q. omega arith)) e)
 
@@ -184,32 +145,34 @@ pub spelled : (path word : Bytes) → OnText path 0 0 → Spelled path word 0
 spelled path word o = record { on_path = o; upto = omega arith; same = refl }
 
 module _ {path word : Bytes} {n : ℕ} (l : Spelled path word n) where
-  pub spelled_in : n < length path
-  spelled_in = omega (arith, l.on_path.text.order, l.on_path.text.upto)
-
   pub spelled_end : get_or path n 0 ≡ 34 → eqb n (length word) ≡ same_bytes (part (text_at path 0)) word
   spelled_end q = word_ended word n l.upto ∙ sym (l.same ∙ part_ended _ (text_ends l.on_path q))
 
   pub spelled_dot : get_or path n 0 ≡ 46 → eqb n (length word) ≡ same_bytes (part (text_at path 0)) word
   spelled_dot e = word_ended word n l.upto ∙ sym (l.same ∙ part_dot _ (text_begins l.on_path (λ q. omega arith) (λ q. omega arith)) e)
 
-  module _ (g : get_or path n 0 ≡ 92 → ⊥) (f : get_or path n 0 ≡ 34 → ⊥) (m : get_or path n 0 ≡ 46 → ⊥) where
-    pub spelled_longer : length word ≤ n → false ≡ same_bytes (part (text_at path 0)) word
-    spelled_longer h = sym (l.same ∙ part_longer _ (text_begins l.on_path f g) m (word_over word n h))
+  module _ (g : get_or path n 0 ≡ 92 → ⊥) (f : get_or path n 0 ≡ 34 → ⊥) (m : get_or path n 0 ≡ 46 → ⊥) (h : n < length word) where
+    pub spelled_apart : (get_or path n 0 ≡ get_or word n 0 → ⊥) → false ≡ same_bytes (part (text_at path 0)) word
+    spelled_apart a = sym (l.same ∙ part_apart _ (text_begins l.on_path f g) m (word_here word n h) a)
 
-    module _ (h : n < length word) where
-      pub spelled_apart : (get_or path n 0 ≡ get_or word n 0 → ⊥) → false ≡ same_bytes (part (text_at path 0)) word
-      spelled_apart a = sym (l.same ∙ part_apart _ (text_begins l.on_path f g) m (word_here word n h) a)
-
-      pub spelled_on : get_or path n 0 ≡ get_or word n 0 → Spelled path word (n + 1)
-      spelled_on e = record { on_path = text_behind l.on_path f g; upto = omega arith; same = l.same ∙ part_on _ (text_begins l.on_path f g) m (word_here word n h) e }
+    pub spelled_on : get_or path n 0 ≡ get_or word n 0 → Spelled path word (n + 1)
+    spelled_on e = record { on_path = text_behind l.on_path f g; upto = omega arith; same = l.same ∙ part_on _ (text_begins l.on_path f g) m (word_here word n h) e }
 
 -- the whole word stands there: the part is the same where it ends there too
-pub spelled_over : {path word : Bytes} {n : ℕ} → Spelled path word n → length word ≤ n → {c : Cursor} → c ≡ record { at = length word; unit = 0; left = 0 } →
-    (r : Option Taken) {b : Bool} → PartStepped path c r → is_some r ≡ not b → b ≡ same_bytes (part (text_at path 0)) word
-spelled_over {path} {word} {n} l h {c} q r {b} p k =
-    let upto : n ≤ length word = l.upto in
-    let e : length word ≡ n = omega arith in
-    part_over path c r p k ∙
-    ap (λ (x : Bytes). same_bytes (part x) []) (start_before path (length word) q ∙ ap (text_at path) e) ∙
-    sym (l.same ∙ ap (same_bytes (part (text_at path n))) (word_over word n h))
+module _ {path word : Bytes} {n : ℕ} (l : Spelled path word n) (h : length word ≤ n) where
+  stands : length word ≡ n
+  stands = let u = l.upto in omega arith
+
+  over : same_bytes (part (text_at path (length word))) [] ≡ same_bytes (part (text_at path 0)) word
+  over = rw stands (sym (l.same ∙ ap (same_bytes (part (text_at path n))) (word_over word n h)))
+
+  -- the byte that stands behind the word, if one does, and whether it may
+  pub spelled_over :
+      (rest behind : Bytes) → rest ≡ text_at path (length word) → (r : Option ℕ) → MatchOption r ((rest ≡ []) × (behind ≡ [])) (λ c. rest ≡ c ∷ behind) → (b : Bool) →
+      MatchOption r (b ≡ true) (λ c. b ≡ eqb c 46) → b ≡ same_bytes (part (text_at path 0)) word
+  spelled_over rest behind e None s b h = h ∙ sym (sym over ∙ part_ended [] (sym e ∙ s.0) ∙ same_none refl refl)
+  spelled_over rest behind e (Some c) s b h = go (eqb c 46) refl
+    where
+      go : (x : Bool) → eqb c 46 ≡ x → b ≡ same_bytes (part (text_at path 0)) word
+      go true k = h ∙ k ∙ sym (sym over ∙ part_dot [] (sym e ∙ s) (eqb-true c 46 k) ∙ same_none refl refl)
+      go false k = h ∙ k ∙ sym (sym over ∙ part_longer [] (sym e ∙ s) (eqb-false c 46 k) refl)

@@ -5,7 +5,7 @@ use mathlib.Core.Bool.{false, true}
 use mathlib.Core.List.{List, [], ◌∷◌}
 use Rattle.std.specs.Prelude.{Option, None, Some, Ok, Err}
 use mathlib.Core.Path.{ap, refl, subst, sym, ◌∙◌, ◌≡◌}
-use Prim.Native.Nat.{suc, zero, ℕ, ◌-◌, ◌≤◌}
+use Prim.Native.Nat.{suc, ℕ, ◌-◌, ◌≤◌}
 use native.Mathlib.Omega.{arith}
 use lib.ListN.{length}
 use Rattle.json_text.proofs.Laws.{same_bytes_true}
@@ -23,7 +23,7 @@ use Rattle.paths.specs.Lazy.{given, look, look_parts, map_some, or_null, outer, 
 use Rattle.semantics.specs.Operand.{escaped, expression, plain, read_text}
 use Rattle.paths.specs.Path.{further, part}
 use Rattle.paths.specs.Reached.{BoundAs, BoundFits, FoundNode, LookedAs, LookedFits, MemberTold, NullTold, bound_of, found_tree, looked_of, written_kind}
-use Rattle.paths.specs.Rooted.{base_gives, base_members, root_gives, root_of}
+use Rattle.paths.specs.Rooted.{base_gives, base_named, root_gives, root_of}
 use Rattle.semantics.specs.Semantics.{kernel, member_step}
 use Rattle.paths.specs.Stored.{Fits, HasKind, Means, OperandAt, fields_of, less_one, meant, operand_of, tree}
 use Rattle.paths.specs.Told.{Behind}
@@ -150,7 +150,7 @@ module _ (sheet : Sheet Condition) (touched : lazy.Frames → Value → lazy.Ope
     unfolding root_gives
     look_root q z w = rw (look_free sheet touched fs e (parts_last e z) (bound_not h q), root_whole sheet e (part e)) w
 
-    module _ (rest : Bytes) (z : further e ≡ Some rest) where
+    module _ {rest : Bytes} (z : further e ≡ Some rest) where
       pub look_walk : (o : Operand) → b ≡ Some o → {w : Option Operand} →
           BoundAs s t w (walk_from sheet touched fs (parts rest) (operand_of s t o)) →
           LookedAs s t e (Ok w) (look sheet touched fs e)
@@ -165,9 +165,9 @@ module _ (sheet : Sheet Condition) (touched : lazy.Frames → Value → lazy.Ope
 
         pub look_unknown : c ≡ None → LookedAs s t e (Err lookups.Unknown) (look sheet touched fs e)
         unfolding base_gives map_some looked_of LookedFits
-        look_unknown p = go (base_members sheet (root_of (part e))) refl (bound_not g p)
+        look_unknown p = go (base_named sheet (root_of (part e))) refl (bound_not g p)
           where
-            go : (x : Option Members) → base_members sheet (root_of (part e)) ≡ x → map_some (λ ms. given (object ms)) x ≡ None →
+            go : (x : Option Members) → base_named sheet (root_of (part e)) ≡ x → map_some (λ ms. given (object ms)) x ≡ None →
                 LookedAs s t e (Err lookups.Unknown) (look sheet touched fs e)
             go None k l = record { means = sym (free ∙ rw (no_base sheet e (part e) (part rest) others (base_whole sheet (part e) ∙ k))); fits = tt }
             go (Some ms) k l = absurd (impossible (cc))
@@ -175,9 +175,9 @@ module _ (sheet : Sheet Condition) (touched : lazy.Frames → Value → lazy.Ope
         module _ (o : Operand) (p : c ≡ Some o) where
           based : {A : Type 0} → ((ms : Members) → find (part e) (bases sheet) ≡ Some ms → given (object ms) ≡ operand_of s t o → A) → A
           unfolding base_gives map_some
-          based {A} f = go (base_members sheet (root_of (part e))) refl (bound_is g o p)
+          based {A} f = go (base_named sheet (root_of (part e))) refl (bound_is g o p)
             where
-              go : (x : Option Members) → base_members sheet (root_of (part e)) ≡ x → map_some (λ ms. given (object ms)) x ≡ Some (operand_of s t o) → A
+              go : (x : Option Members) → base_named sheet (root_of (part e)) ≡ x → map_some (λ ms. given (object ms)) x ≡ Some (operand_of s t o) → A
               go None k l = absurd (impossible (cc))
               go (Some ms) k l = f ms (base_whole sheet (part e) ∙ k) (cc)
 

@@ -2,22 +2,24 @@
 -- Assumes nothing.
 use Rattle.std.specs.Prelude.{Some, None}
 use mathlib.Core.Bool.{Bool, cond, false, true}
-use mathlib.Core.List.{List, [], ◌∷◌, map}
+use mathlib.Core.List.{List, [], ◌∷◌, ◌++◌, map}
 use mathlib.Core.Logic.{◌≢◌, ⊎_elim}
-use mathlib.Core.Path.{ap, refl, sym, ◌∙◌, ◌≡◌}
+use mathlib.Core.Path.{ap, refl, subst, sym, ◌∙◌, ◌≡◌}
 use Prim.Native.Nat.{suc, zero, ℕ, ◌+◌, ◌-◌, ◌<◌, ◌≤◌}
 use native.Mathlib.Nat.{eq-or-lt_of_le, le_of_suc-le-suc}
 use native.Mathlib.Numerals.{add-one}
 use native.Mathlib.Omega.{arith}
 use lib.Dec.{leb}
-use lib.ListN.{get_or, length, length-map, set}
-use lib.Seq.{get_or-set_other, get_or-set_same}
+use lib.ListN.{drop, get_or, length, length-map, set, take}
+use lib.Seq.{get_or-append_seam, get_or-set_other, get_or-set_same}
+use Rattle.std.proofs.lemmas.List.{get_or_append_left, length-take-le, length_push, take-append-drop}
 use borrow.Author.Tests.{leb-false, leb-true}
 use Rattle.json_text.specs.Bytes.{Bytes, same_bytes}
 use Rattle.json_text.specs.Cursor.{OnText}
 use Rattle.json_text.specs.Spans.{text_at}
 use Rattle.paths.specs.Lazy.{outer}
 use Rattle.paths.specs.Stack.{Named, bound_in, frame_in, no_slot, top}
+use Rattle.paths.specs.declared.frames.Frame.{Frame}
 use Rattle.paths.specs.declared.frames.Slot.{Slot}
 use Rattle.paths.proofs.Stands.{outer_all, outer_cons}
 
@@ -68,27 +70,49 @@ top_least d n m xs w h k = ⊎_elim (λ e. rw e (top_whole d n xs (omega arith))
     whole : m ≡ d → m < n → top m xs ≡ outer d (top n xs)
     whole e l = rw e (top_outer d n xs (omega arith))
 
--- a frame's name among the first n
-pub name_at : (s : Bytes) (n i : ℕ) (xs : List Slot) → i < n → Named s (top n xs) → OnText s (get_or xs i no_slot).name 0
-unfolding top Named
-name_at s zero i xs h p = absurd (omega arith)
-name_at s (suc n) i xs h p = ⊎_elim (λ e. rw e p.0) (λ l. name_at s n i xs l p.1) (eq-or-lt_of_le (le_of_suc-le-suc h))
+-- the frames of slots that stand one behind the other, the last first
+abbrev pub frames_in : List Slot → List Frame
+frames_in xs = top (length xs) xs
 
-module _ (s k : Bytes) (xs : List Slot) (i : ℕ) (h : 0 < i) where
-  suc_pred : i ≡ suc (i - 1)
-  suc_pred = omega arith
+top_front : (n : ℕ) (xs ys : List Slot) → n ≤ length xs → top n (xs ++ ys) ≡ top n xs
+unfolding top
+top_front zero xs ys h = refl
+top_front (suc n) xs ys h = rw (get_or_append_left xs ys no_slot n (omega arith), top_front n xs ys (omega arith))
 
-  step : bound_in s k (top i xs) ≡ cond (same_bytes k (text_at s (get_or xs (i - 1) no_slot).name)) (Some (frame_in (get_or xs (i - 1) no_slot)).operand) (bound_in s k (top (i - 1) xs))
-  unfolding top bound_in
-  step = ap (λ (n : ℕ). bound_in s k (top n xs)) suc_pred
+-- the first n slots
+pub frames_front : (n : ℕ) (xs : List Slot) → n ≤ length xs → frames_in (take n xs) ≡ top n xs
+frames_front n xs h =
+    let long : length (take n xs) ≡ n = length-take-le n xs h in
+    rw long (sym (top_front n (take n xs) (drop n xs) (omega (arith, long))) ∙ ap (λ (l : List Slot). top n l) (take-append-drop n xs))
 
-  pub bound_here : true ≡ same_bytes k (text_at s (get_or xs (i - 1) no_slot).name) → bound_in s k (top i xs) ≡ Some (frame_in (get_or xs (i - 1) no_slot)).operand
-  bound_here e = step ∙ rw (← e)
+-- the innermost of them
+pub frames_last : (xs : List Slot) (v : Slot) → frames_in (xs ++ v ∷ []) ≡ frame_in v ∷ frames_in xs
+unfolding top
+frames_last xs v =
+    let long : length (xs ++ v ∷ []) ≡ suc (length xs) = length_push xs v ∙ add-one (length xs) in
+    rw (long, get_or-append_seam xs v [] no_slot, top_front (length xs) xs (v ∷ []) (omega arith))
 
-  pub bound_on : false ≡ same_bytes k (text_at s (get_or xs (i - 1) no_slot).name) → bound_in s k (top i xs) ≡ bound_in s k (top (i - 1) xs)
-  bound_on e = step ∙ rw (← e)
+-- what is looked up is among the slots left, whose names are texts
+pub record Sought (s k : Bytes) (fs : List Frame) (left : List Slot) : Type 0 where
+  pub named : Named s (frames_in left)
+  pub found : bound_in s k fs ≡ bound_in s k (frames_in left)
 
-pub bound_none : (s k : Bytes) (xs : List Slot) (i : ℕ) → i ≤ 0 → bound_in s k (top i xs) ≡ None
+module _ {s k : Bytes} {fs : List Frame} {left : List Slot} (rest : List Slot) (v : Slot) (h : Sought s k fs left) (e : left ≡ rest ++ v ∷ []) where
+  whole : frames_in left ≡ frame_in v ∷ frames_in rest
+  whole = ap frames_in e ∙ frames_last rest v
+
+  pub sought_name : OnText s v.name 0
+  unfolding Named
+  sought_name = (subst (Named s) whole h.named).0
+
+  pub sought_here : true ≡ same_bytes k (text_at s v.name) → bound_in s k fs ≡ Some (frame_in v).operand
+  unfolding bound_in
+  sought_here q = h.found ∙ ap (bound_in s k) whole ∙ rw (← q)
+
+  pub sought_on : false ≡ same_bytes k (text_at s v.name) → Sought s k fs rest
+  unfolding Named bound_in
+  sought_on q = record { named = (subst (Named s) whole h.named).1; found = h.found ∙ ap (bound_in s k) whole ∙ rw (← q) }
+
+pub sought_none : {s k : Bytes} {fs : List Frame} {left : List Slot} → Sought s k fs left → length left ≡ 0 → bound_in s k fs ≡ None
 unfolding top bound_in
-bound_none s k xs zero h = refl
-bound_none s k xs (suc i) h = absurd (omega arith)
+sought_none h z = h.found ∙ rw z

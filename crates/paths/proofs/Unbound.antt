@@ -4,14 +4,14 @@ use mathlib.Core.Bool.{Bool, false, true}
 use mathlib.Core.List.{List, [], ◌∷◌}
 use Rattle.std.specs.Prelude.{Option, None, Some, Ok, Err}
 use mathlib.Core.Path.{refl, subst, sym, ◌≡◌}
-use Prim.Native.Nat.{suc, zero, ℕ}
+use Prim.Native.Nat.{ℕ}
 use native.Mathlib.Omega.{arith}
 use Rattle.json_text.proofs.Laws.{same_bytes_true}
 use Rattle.json_text.specs.Bytes.{Bytes, ascii, find, same_bytes}
 use Rattle.json_text.specs.Json.{Members, Value, number, object, text}
 use Rattle.json_text.specs.Refusal.{Result, ok, refused, unknown_expression}
 use Rattle.members.specs.Condition.{Condition}
-use Rattle.members.specs.Sheet.{Sheet, no_sheet}
+use Rattle.members.specs.Sheet.{Sheet}
 use Rattle.semantics.specs.Expression.{bases, below, roots, unbound}
 use Rattle.paths.specs.Lazy.{given, map_some}
 use Rattle.paths.specs.Reached.{BoundAs, BoundFits, LookedAs, LookedFits, bound_of, looked_of}
@@ -24,7 +24,8 @@ use Rattle.paths.specs.Rooted.{
   RootTold,
   base_gives,
   base_members,
-  or_unknown,
+  base_named,
+  named_value,
   root_gives,
   root_names,
   root_of,
@@ -38,7 +39,6 @@ use Rattle.paths.specs.declared.operand.LookupError.TheVariants as lookups
 use Rattle.paths.specs.declared.roots.Root.{Root}
 use Rattle.paths.specs.declared.roots.Root.TheVariants as root
 use Rattle.paths.specs.declared.roots.Roots.{Roots}
-use Rattle.paths.proofs.Stands.{impossible}
 use Rattle.paths.proofs.Trees.{operand_at}
 
 -- the definition's tables, by roots
@@ -49,13 +49,13 @@ module _ (sheet : Sheet Condition) (e k : Bytes) where
 
   -- the entries from some root on
   record Entries (xs : List (Bytes × Root)) (ys : List (Bytes × Result (Option Value))) : Type 0 where
-    agree : or_refused (find k ys) ≡ root_value sheet e (or_unknown (find k xs))
+    agree : or_refused (find k ys) ≡ named_value sheet e (find k xs)
 
-  entry : {w : Bytes} (x : Root) {xs : List (Bytes × Root)} {ys : List (Bytes × Result (Option Value))} → Entries xs ys → Entries ((w, x) ∷ xs) ((w, root_value sheet e x) ∷ ys)
+  entry : {w : Bytes} (x : Root) {xs : List (Bytes × Root)} {ys : List (Bytes × Result (Option Value))} → Entries xs ys → Entries ((w, x) ∷ xs) ((w, root_value sheet x) ∷ ys)
   unfolding find
   entry {w} x {xs} {ys} below = record { agree = go (same_bytes k w) refl }
     where
-      go : (b : Bool) → same_bytes k w ≡ b → or_refused (find k ((w, root_value sheet e x) ∷ ys)) ≡ root_value sheet e (or_unknown (find k ((w, x) ∷ xs)))
+      go : (b : Bool) → same_bytes k w ≡ b → or_refused (find k ((w, root_value sheet x) ∷ ys)) ≡ named_value sheet e (find k ((w, x) ∷ xs))
       go true q = rw (q, find)
       go false q = rw (q, find) below.agree
 
@@ -71,14 +71,14 @@ module _ (sheet : Sheet Condition) (e k : Bytes) where
       (entry root.FromState
       (entry root.ToState (entry root.ToState (entry root.Args (entry root.Fields (entry root.OldFields no_entry))))))))
 
-  pub root_whole : unbound kernel sheet e k [] ≡ root_value sheet e (root_of k)
+  pub root_whole : unbound kernel sheet e k [] ≡ named_value sheet e (root_of k)
   unfolding unbound root_of find
   root_whole = all_entries.agree
 
 -- a path's base is one of the roots
 module _ (sheet : Sheet Condition) (k : Bytes) where
   abbrev Base : Bytes → Type 0
-  Base j = find j (bases sheet) ≡ base_members sheet (root_of j)
+  Base j = find j (bases sheet) ≡ base_named sheet (root_of j)
 
   pick : (w : Bytes) → Base w → (same_bytes k w ≡ false → Base k) → Base k
   pick w h f = go (same_bytes k w) refl
@@ -87,7 +87,7 @@ module _ (sheet : Sheet Condition) (k : Bytes) where
       go true q = subst Base (sym (same_bytes_true k w q)) h
       go false q = f q
 
-  pub base_whole : find k (bases sheet) ≡ base_members sheet (root_of k)
+  pub base_whole : find k (bases sheet) ≡ base_named sheet (root_of k)
   unfolding find root_of
   base_whole =
       pick (ascii "id") refl λ q₁.
@@ -127,12 +127,17 @@ some_text : (s : Bytes) (t : List ℕ) (n : ℕ) {r : Option ℕ} {o : Option By
 unfolding MayBeText
 some_text s t n {o = o} q h = subst (λ (r : Option ℕ). MayBeText s t r o) q h
 
+-- what names no root
+pub no_root : (sheet : Sheet Condition) (s : Bytes) (t : List ℕ) (e : Bytes) → LookedAs s t e (Err lookups.Unknown) (root_gives sheet e None)
+unfolding root_gives looked_of LookedFits
+no_root sheet s t e = record { means = refl; fits = tt }
+
+pub no_base_root : (sheet : Sheet Condition) (s : Bytes) (t : List ℕ) → BoundAs s t None (base_gives sheet None)
+unfolding base_gives bound_of BoundFits map_some
+no_base_root sheet s t = record { means = refl; fits = tt }
+
 -- the answers of the code, root by root
 module _ (rs : Roots) {x : Root} where
-  pub told_unknown : x ≡ root.Unknown → RootTold rs x (Err lookups.Unknown)
-  unfolding root_gives looked_of LookedFits
-  told_unknown q sheet s t e h = record { means = rw q; fits = tt }
-
   pub told_no_id : x ≡ root.Id → rs.id ≡ None → RootTold rs x (Err lookups.NoId)
   unfolding root_gives looked_of LookedFits
   told_no_id q z sheet s t e h = record { means = rw (q, no_text s t z h.id); fits = tt }
@@ -197,8 +202,7 @@ pub base_none : (rs : Roots) (x : Root) → (x ≡ root.Args → ⊥) → (x ≡
 unfolding base_gives bound_of BoundFits map_some
 base_none rs x a f o sheet s t h = record { means = go x a f o; fits = tt }
   where
-    go : (y : Root) → (y ≡ root.Args → ⊥) → (y ≡ root.Fields → ⊥) → (y ≡ root.OldFields → ⊥) → None ≡ base_gives sheet y
-    go root.Unknown a f o = refl
+    go : (y : Root) → (y ≡ root.Args → ⊥) → (y ≡ root.Fields → ⊥) → (y ≡ root.OldFields → ⊥) → None ≡ base_gives sheet (Some y)
     go root.Id a f o = refl
     go root.Entity a f o = refl
     go root.Version a f o = refl

@@ -63,33 +63,32 @@ root_names =
     (ascii "old_fields", root.OldFields) ∷
     []
 
-abbrev pub or_unknown : Option Root → Root
-or_unknown None = root.Unknown
-or_unknown (Some r) = r
-
-unfoldable pub root_of : Bytes → Root
+unfoldable pub root_of : Bytes → Option Root
 unfolding find
-root_of k = or_unknown (find k root_names)
+root_of k = find k root_names
 
--- what a root gives, for the expression whose text behind the `$` is e
-abbrev pub root_value : Sheet Condition → Bytes → Root → Result (Option Value)
-root_value sheet e root.Unknown = refused (unknown_expression (36 ∷ e))
-root_value sheet e root.Id = id_of sheet.id
-root_value sheet e root.Entity = ok (Some (text sheet.entity))
-root_value sheet e root.Version = ok (Some (number sheet.version))
-root_value sheet e root.FromState = ok (if_any sheet.from_state)
-root_value sheet e root.ToState = ok (Some (text sheet.to_state))
-root_value sheet e root.Args = ok (Some (object sheet.args))
-root_value sheet e root.Fields = ok (Some (object sheet.fields))
-root_value sheet e root.OldFields = ok (Some (object sheet.old_fields))
+-- what a root gives
+abbrev pub root_value : Sheet Condition → Root → Result (Option Value)
+root_value sheet root.Id = id_of sheet.id
+root_value sheet root.Entity = ok (Some (text sheet.entity))
+root_value sheet root.Version = ok (Some (number sheet.version))
+root_value sheet root.FromState = ok (if_any sheet.from_state)
+root_value sheet root.ToState = ok (Some (text sheet.to_state))
+root_value sheet root.Args = ok (Some (object sheet.args))
+root_value sheet root.Fields = ok (Some (object sheet.fields))
+root_value sheet root.OldFields = ok (Some (object sheet.old_fields))
 
-unfoldable pub root_gives : Sheet Condition → Bytes → Root → Result (Option lazy.Operand)
+-- what the expression gives whose text behind the `$` is e and names a root, or none
+abbrev pub named_value : Sheet Condition → Bytes → Option Root → Result (Option Value)
+named_value sheet e None = refused (unknown_expression (36 ∷ e))
+named_value sheet e (Some r) = root_value sheet r
+
+unfoldable pub root_gives : Sheet Condition → Bytes → Option Root → Result (Option lazy.Operand)
 unfolding map_some
-root_gives sheet e r = root_value sheet e r >>= λ g. ok (map_some given g)
+root_gives sheet e r = named_value sheet e r >>= λ g. ok (map_some given g)
 
 -- what a path may start from
 abbrev pub base_members : Sheet Condition → Root → Option Members
-base_members sheet root.Unknown = None
 base_members sheet root.Id = None
 base_members sheet root.Entity = None
 base_members sheet root.Version = None
@@ -99,12 +98,16 @@ base_members sheet root.Args = Some sheet.args
 base_members sheet root.Fields = Some sheet.fields
 base_members sheet root.OldFields = Some sheet.old_fields
 
-unfoldable pub base_gives : Sheet Condition → Root → Option lazy.Operand
+abbrev pub base_named : Sheet Condition → Option Root → Option Members
+base_named sheet None = None
+base_named sheet (Some r) = base_members sheet r
+
+unfoldable pub base_gives : Sheet Condition → Option Root → Option lazy.Operand
 unfolding map_some
-base_gives sheet r = map_some (λ ms. given (object ms)) (base_members sheet r)
+base_gives sheet r = map_some (λ ms. given (object ms)) (base_named sheet r)
 
 abbrev pub RootTold : Roots → Root → Fallible (Option Operand) LookupError → Type 0
-RootTold rs x r = (sheet : Sheet Condition) (s : Bytes) (t : List ℕ) (e : Bytes) → Rooted sheet s t rs → LookedAs s t e r (root_gives sheet e x)
+RootTold rs x r = (sheet : Sheet Condition) (s : Bytes) (t : List ℕ) (e : Bytes) → Rooted sheet s t rs → LookedAs s t e r (root_gives sheet e (Some x))
 
 abbrev pub BaseTold : Roots → Root → Option Operand → Type 0
-BaseTold rs x b = (sheet : Sheet Condition) (s : Bytes) (t : List ℕ) → Rooted sheet s t rs → BoundAs s t b (base_gives sheet x)
+BaseTold rs x b = (sheet : Sheet Condition) (s : Bytes) (t : List ℕ) → Rooted sheet s t rs → BoundAs s t b (base_gives sheet (Some x))

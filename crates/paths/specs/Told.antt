@@ -2,13 +2,11 @@
 -- Assumes nothing.
 use Rattle.std.specs.Prelude.{[], ◌++◌, ◌∷◌, ◌≡◌, ℕ, ◌<◌, ◌≤◌, length, Option, None, Some}
 use Rattle.json_text.specs.Bytes.{Bytes}
-use Rattle.json_text.specs.Cursor.{OnText, before, weight}
+use Rattle.json_text.specs.Cursor.{OnText}
 use Rattle.json_text.specs.Spans.{text_at}
 use Rattle.semantics.specs.Operand.{escaped, expression, plain, read_text}
-use Rattle.paths.specs.Path.{further, part}
+use Rattle.paths.specs.Path.{further}
 use Rattle.strings.specs.declared.escape.Scalar.{Scalar}
-use Rattle.strings.specs.declared.text.Cursor.{Cursor}
-use Rattle.strings.specs.declared.text.Taken.{Taken}
 use Rattle.paths.specs.declared.written.Written as writtens
 use Rattle.paths.specs.declared.written.Written.TheVariants as written
 
@@ -42,17 +40,6 @@ unfoldable pub WrittenTold : Bytes → ℕ → writtens.Written → Type 0
 WrittenTold s at written.Plain = read_text (text_at s at) ≡ plain
 WrittenTold s at (written.Escaped p) = (read_text (text_at s at) ≡ escaped (text_at s p)) × Behind s at p
 WrittenTold s at (written.Expression p) = (read_text (text_at s at) ≡ expression (text_at s p)) × Behind s at p
-
--- a byte of a path's first part taken
-pub record PartTook (path : Bytes) (c : Cursor) (x : Taken) : Type 0 where
-  pub byte : part (before path c.at c.unit c.left) ≡ x.byte ∷ part (before path x.rest.at x.rest.unit x.rest.left)
-  pub on_text : OnText path x.rest.at x.rest.left
-  pub falls : weight path x.rest.at x.rest.left < weight path c.at c.left
-
--- a byte of it taken, or its end
-unfoldable pub PartStepped : Bytes → Cursor → Option Taken → Type 0
-PartStepped path c None = part (before path c.at c.unit c.left) ≡ []
-PartStepped path c (Some x) = PartTook path c x
 
 -- the text behind the first dot of a path
 unfoldable pub RestTold : Bytes → Option ℕ → Type 0

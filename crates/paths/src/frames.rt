@@ -43,8 +43,8 @@ impl Slot {
         ensures { result ≡ (frame_in self).operand }
     {
         Operand {
-            node: self.node as usize,
-            depth: self.depth as usize,
+            node: usize::from(self.node),
+            depth: usize::from(self.depth),
             kind: self.kind,
         }
     }
@@ -98,13 +98,12 @@ impl Frames {
     }
 
     // What the innermost frame stands for whose name is the first part of a path.
-    pub fn find(self, s: &[u8], path: &[u8]) -> Option<Operand>
-        requires { (self.depth ≤ 32) × Named s.now (held self) × OnText path.now 0 0 }
-        ensures { result ≡ bound_in s.now (part (text_at path.now 0)) (held self) }
+    pub fn find(&self, s: &[u8], path: &[u8]) -> Option<Operand>
+        requires { (self.now.depth ≤ 32) × Named s.now (held self.now) × OnText path.now 0 0 }
+        ensures { result ≡ bound_in s.now (part (text_at path.now 0)) (held self.now) }
     {
-        for i in (0..self.depth).rev() {
-            let slot = self.slots[i];
-            if part_is(path, s, slot.name as usize) {
+        for slot in self.slots[..self.depth].iter().rev() {
+            if part_is(path, s, usize::from(slot.name)) {
                 return Some(slot.operand());
             }
         }

@@ -7,6 +7,8 @@ ghost use Rattle.paths.specs.Path.{part};
 ghost use Rattle.paths.specs.Reached.{MemberTold};
 ghost use Rattle.paths.specs.Stored.{HasKind, Room, table};
 
+use strings::rows::Keys;
+
 // The value's node, if there is one. Names are not repeated; sorting would keep the last of a name, and so does this.
 // Not one function with members' `named`: the last of a name is kept here, and a part of a path is compared.
 pub fn member_of(s: &[u8], work: &[u32], node: usize, path: &[u8]) -> Option<usize>
@@ -15,14 +17,11 @@ pub fn member_of(s: &[u8], work: &[u32], node: usize, path: &[u8]) -> Option<usi
 {
     let end = crate::rows::after_at(work, node);
     let mut found = None;
-    let mut k = node + 1;
-    // from row to row, as each row says which is next: no range counts these
-    while k < end {
+    for k in Keys::new(work, node + 1, end) {
         let name = crate::rows::start_at(work, k);
         if crate::path::part_is(path, s, name) {
             found = Some(k + 1);
         }
-        k = crate::rows::after_at(work, k + 1);
     }
     found
 }

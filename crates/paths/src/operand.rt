@@ -10,7 +10,7 @@ use strings::rows::Kind as RowKind;
 
 // Which kind of value it is. Less is a text less its first `$`; Listed and Named are a written array and object.
 // Not the rows' kinds: a text less its `$`, a written array and a written object are kinds of their own. The paper names the form.
-#[derive(Clone, Copy)]
+#[derive(Clone, Copy, PartialEq, Eq)]
 pub enum Kind {
     Null,
     False,

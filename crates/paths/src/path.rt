@@ -5,10 +5,10 @@ ghost use Rattle.json_text.specs.Bytes.{same_bytes};
 ghost use Rattle.json_text.specs.Cursor.{OnText};
 ghost use Rattle.json_text.specs.Spans.{text_at};
 ghost use Rattle.paths.specs.Path.{part};
-ghost use Rattle.paths.specs.Told.{PartStepped, RestTold};
+ghost use Rattle.paths.specs.Told.{RestTold};
 
 use crate::written::unit_at;
-use strings::text::{Cursor, Taken, begin, next};
+use strings::text::Decoded;
 
 // Where the text goes on behind the first dot.
 pub fn rest_at(path: &[u8]) -> Option<usize>
@@ -16,44 +16,25 @@ pub fn rest_at(path: &[u8]) -> Option<usize>
     ensures { RestTold path.now result }
 {
     let mut at = 0;
+    // unit by unit, and no iterator over the bytes: the place behind the dot is asked
     loop {
         let x = unit_at(path, at)?;
-        if x.unit == b'.' as u32 {
+        if x.unit == u32::from(b'.') {
             return Some(x.next);
         }
         at = x.next;
     }
 }
 
-// The next byte of the first part, decoded, and the cursor behind it.
-fn in_part(path: &[u8], x: Cursor) -> Option<Taken>
-    requires { OnText path.now x.at x.left }
-    ensures { PartStepped path.now x result }
-{
-    next(path, x).filter(|p| p.byte != b'.')
-}
-
 // Whether the first part of a path's text, from a place of it on, is the text at a place of the sheet, decoded as they are compared.
-// Not one function with search's `begins`, nor `word_decoded` with members' `spells`: a dot ends a part, and the step as a parameter would need a law of its own.
+// Not one function with `word_decoded`: each is what the two have in common, and what it is compared with.
 fn part_decoded(path: &[u8], at: usize, s: &[u8], name: usize) -> bool
     requires { OnText path.now at 0 × OnText s.now name 0 }
     ensures { result ≡ same_bytes (part (text_at path.now at)) (text_at s.now name) }
 {
-    let mut x = begin(at);
-    let mut y = begin(name);
-    loop {
-        let Some(p) = in_part(path, x) else {
-            return next(s, y).is_none();
-        };
-        let Some(q) = next(s, y) else {
-            return false;
-        };
-        if p.byte != q.byte {
-            return false;
-        }
-        x = p.rest;
-        y = q.rest;
-    }
+    Decoded::new(path, at)
+        .take_while(|b| *b != b'.')
+        .eq(Decoded::new(s, name))
 }
 
 // Whether the first part of a path is the text at a place of the sheet. Few names have an escape: up to the first one, bytes are compared as they
@@ -80,20 +61,13 @@ fn word_decoded(path: &[u8], at: usize, word: &[u8]) -> bool
     requires { OnText path.now at 0 }
     ensures { result ≡ same_bytes (part (text_at path.now at)) word.now }
 {
-    let mut x = begin(at);
-    for b in word {
-        let Some(p) = in_part(path, x) else {
-            return false;
-        };
-        if p.byte != *b {
-            return false;
-        }
-        x = p.rest;
-    }
-    in_part(path, x).is_none()
+    Decoded::new(path, at)
+        .take_while(|b| *b != b'.')
+        .eq(word.iter().copied())
 }
 
 // Whether the first part of a path is a word. Up to the first escape, bytes are compared as they stand.
+// Not one function with members' `matches`: a dot ends a part, and each keeps its equation.
 pub fn part_is_word(path: &[u8], word: &[u8]) -> bool
     requires { OnText path.now 0 0 }
     ensures { result ≡ same_bytes (part (text_at path.now 0)) word.now }
@@ -107,5 +81,7 @@ pub fn part_is_word(path: &[u8], word: &[u8]) -> bool
             return false;
         }
     }
-    in_part(path, begin(word.len())).is_none()
+    Decoded::new(path, word.len())
+        .next()
+        .is_none_or(|b| b == b'.')
 }

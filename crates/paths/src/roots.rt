@@ -26,7 +26,6 @@ pub struct Roots {
 // `$state` gives `to_state`.
 #[derive(Clone, Copy)]
 pub enum Root {
-    Unknown,
     Id,
     Entity,
     Version,
@@ -37,8 +36,8 @@ pub enum Root {
     OldFields,
 }
 
-// The root that the first part of a path names.
-pub fn root_named(path: &[u8]) -> Root
+// The root that the first part of a path names; other parts name none.
+pub fn root_named(path: &[u8]) -> Option<Root>
     requires { OnText path.now 0 0 }
     ensures { result ≡ root_of (part (text_at path.now 0)) }
 {
@@ -55,10 +54,10 @@ pub fn root_named(path: &[u8]) -> Root
     ];
     for (word, root) in names {
         if part_is_word(path, word) {
-            return root;
+            return Some(root);
         }
     }
-    Root::Unknown
+    None
 }
 
 fn text_at(node: usize) -> Operand
@@ -74,11 +73,10 @@ fn object_at(node: usize) -> Operand
 }
 
 // What a whole expression gives.
-pub fn root_at(roots: Roots, root: Root) -> Result<Option<Operand>, LookupError>
-    ensures { RootTold roots root result }
+pub fn root_at(roots: &Roots, root: Root) -> Result<Option<Operand>, LookupError>
+    ensures { RootTold roots.now root result }
 {
     match root {
-        Root::Unknown => Err(LookupError::Unknown),
         Root::Id => Ok(Some(text_at(roots.id.ok_or(LookupError::NoId)?))),
         Root::Entity => Ok(Some(text_at(roots.entity))),
         Root::Version => Ok(Some(Operand::at(roots.version, Kind::Number))),
@@ -91,8 +89,8 @@ pub fn root_at(roots: Roots, root: Root) -> Result<Option<Operand>, LookupError>
 }
 
 // What a path may start from.
-pub fn base_at(roots: Roots, root: Root) -> Option<Operand>
-    ensures { BaseTold roots root result }
+pub fn base_at(roots: &Roots, root: Root) -> Option<Operand>
+    ensures { BaseTold roots.now root result }
 {
     match root {
         Root::Args => Some(object_at(roots.args)),

@@ -24,24 +24,24 @@ impl Scope {
     }
 
     // One binder more.
-    pub fn push(self, frame: Frame) -> Scope
-        requires { (self.frames.depth < 32) × Small frame }
-        ensures { (result.roots ≡ self.roots) × (result.frames.depth ≡ self.frames.depth + 1) × (held result.frames ≡ frame ∷ held self.frames) }
+    pub fn push(&self, frame: Frame) -> Scope
+        requires { (self.now.frames.depth < 32) × Small frame }
+        ensures { (result.roots ≡ self.now.roots) × (result.frames.depth ≡ self.now.frames.depth + 1) × (held result.frames ≡ frame ∷ held self.now.frames) }
     {
         Scope {
+            roots: self.roots,
             frames: self.frames.push(frame),
-            ..self
         }
     }
 
     // The outermost binders, at most so many.
-    pub fn outer(self, depth: usize) -> Scope
-        requires { self.frames.depth ≤ 32 }
-        ensures { (result.roots ≡ self.roots) × (result.frames.depth ≤ depth) × (result.frames.depth ≤ self.frames.depth) × (held result.frames ≡ outer depth (held self.frames)) }
+    pub fn outer(&self, depth: usize) -> Scope
+        requires { self.now.frames.depth ≤ 32 }
+        ensures { (result.roots ≡ self.now.roots) × (result.frames.depth ≤ depth) × (result.frames.depth ≤ self.now.frames.depth) × (held result.frames ≡ outer depth (held self.now.frames)) }
     {
         Scope {
+            roots: self.roots,
             frames: self.frames.outer(depth),
-            ..self
         }
     }
 }

@@ -21,7 +21,7 @@ pub fn unit_at(s: &[u8], at: usize) -> Option<Scalar>
         b'"' => None,
         b'\\' => strings::escape::escape(s, at + 1),
         b => Some(Scalar {
-            unit: b as u32,
+            unit: u32::from(b),
             next: at + 1,
         }),
     }
@@ -31,7 +31,7 @@ pub fn classify(s: &[u8], at: usize) -> Written
     requires { OnText s.now at 0 }
     ensures { WrittenTold s.now at result }
 {
-    let dollar = b'$' as u32;
+    let dollar = u32::from(b'$');
     match unit_at(s, at) {
         Some(x) if x.unit == dollar => match unit_at(s, x.next) {
             Some(y) if y.unit == dollar => Written::Escaped(x.next),

@@ -1,11 +1,10 @@
 -- Lines answered one by one: the answers put so far stand for what was used of the input.
 -- Assumes nothing.
-use mathlib.Core.Bool.{Bool, false, true}
+use mathlib.Core.Bool.{false, true}
 use mathlib.Core.List.{[], append-nil, ◌++◌, ◌∷◌}
 use mathlib.Core.Path.{ap, refl, sym, ◌∙◌, ◌≡◌}
 use Prim.Native.Nat.{suc, ℕ, ◌+◌, ◌-◌, ◌<◌, ◌≤◌}
 use native.Mathlib.Omega.{arith}
-use lib.Dec.{eqb}
 use lib.ListN.{drop, length, length-append, length-drop, take}
 use lib.Seq.{drop-drop, length-take-le, take-append-add, take-append-le, take-append_seam}
 use Rattle.calling.specs.declared.Call.TheVariants as calls

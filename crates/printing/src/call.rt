@@ -12,9 +12,9 @@ pub fn answer(call: Call, sheet: &[u8], work: &mut [u32], out: &mut [u8]) -> usi
     requires { (length work.old ≡ 16384) × (length out.old ≡ 65536) }
     ensures { Shown (answer_to call sheet.now) out.old out.new result }
 {
-    let sent = run(sheet, work, out, call);
-    if sent.size == 0 {
-        return number_line(out, sent.number);
+    let reply = run(sheet, work, out, call);
+    match reply.size() {
+        Some(size) => size,
+        None => number_line(out, reply.number()),
     }
-    sent.size
 }

@@ -17,6 +17,7 @@ pub struct Progress {
 }
 
 // The place of the first LF from a place on, or the end.
+// The end and no None: a line is as long as what stands before its LF, or as all that is left, as `line_length` has it.
 fn line_end(text: &[u8], from: usize) -> usize
     requires { from ≤ length text.now }
     ensures { result ≡ from + line_length (drop from text.now) }

@@ -7,7 +7,6 @@ use mathlib.Core.List.{List, append_assoc, [], ◌++◌, ◌∷◌}
 use mathlib.Core.Path.{ap, refl, subst, sym, ◌∙◌, ◌≡◌}
 use Prim.Native.Nat.{suc, zero, ℕ, ◌*◌, ◌+◌, ◌-◌, ◌<◌, ◌≤◌}
 use native.Mathlib.Omega.{arith}
-use lib.Dec.{eqb}
 use lib.ListN.{get_or-eq_default, drop, get_or, length, take}
 use lib.Seq.{drop_at, length-sets, length-take-le, sets, sets-eq}
 use Rattle.json_text.proofs.Agree.{ValueAgrees, read_facts}
@@ -16,6 +15,7 @@ use Rattle.json_text.proofs.Decoded.{length_rows_of}
 use Rattle.json_text.proofs.Laws.{ok_injective, same_bytes_true}
 use Rattle.leaves.proofs.Loops.{Naming, closes_of, joined_of, keys_more, member_ends, member_fails, member_on, object_opens, object_shut, one_more, size_of_more, value_refused}
 use Rattle.leaves.proofs.MemberName.{byte_inside, no_quote, skip_past}
+use Rattle.tokens.proofs.Scans.{byte_not, byte_was}
 use Rattle.json_text.proofs.Sound.{bind_inv, new_name_sound, one_node_sound}
 use Rattle.json_text.proofs.Texts.{text_read}
 use Rattle.leaves.proofs.Values.{told_bad}
@@ -37,10 +37,8 @@ use Rattle.json_text.specs.Table.{rows_of}
 use Rattle.strings.specs.declared.answer.Place.{Place}
 use Rattle.strings.specs.declared.answer.Refusal.{Refusal as Why}
 use Rattle.strings.specs.declared.answer.Refusal.TheVariants as whys
-use Rattle.leaves.specs.declared.names.Spelt.{Spelt}
 use Rattle.leaves.specs.declared.bracket.Sep.{Sep}
 use Rattle.leaves.specs.declared.bracket.Sep.TheVariants as seps
-use borrow.Author.Tests.{eqb-true}
 
 -- ---- a name that was refused, and one that was read
 both_refuse : {A B C : Type 0} (x : Result A) (f : A → Result B) (g : A → Result C) (r : Refusal) → (x >>= f) ≡ refused r →
@@ -63,14 +61,6 @@ module _ (s : Bytes) (val : Placer Node) (names keyed : List Bytes) (same : (k :
       (both_refuse (new_name (text_at s a) keyed []) _ _ r e₃ λ _ e₄.
       both_refuse (byte_at 58 s (skip_at s x)) _ _ r e₄ λ u e₅.
       let z : ◌≡◌ {A = ℕ} 0 1 = cc in absurd (omega arith))
-
-byte_was : (c : ℕ) (s : Bytes) (at a : ℕ) → byte_at c s at ≡ ok a → (get_or s at 0 ≡ c) × (a ≡ at + 1)
-unfolding byte_at
-byte_was c s at a e = go (eqb c (get_or s at 0)) refl
-  where
-    go : (b : Bool) → eqb c (get_or s at 0) ≡ b → (get_or s at 0 ≡ c) × (a ≡ at + 1)
-    go true q = (sym (eqb-true c (get_or s at 0) q), sym (ok_injective (rw (q, byte_at) at e)))
-    go false q = let f : refused not_json ≡ ok a = rw (q, byte_at) at e in let z : ◌≡◌ {A = ℕ} 0 1 = cc in absurd (omega arith)
 
 -- what is known of a name that was read
 pub record NameFacts (s : Bytes) (names : List Bytes) (n at : ℕ) (x : NameSpan) : Type 0 where
@@ -246,46 +236,46 @@ module _ (s : Bytes) (left at n₀ : ℕ) where
           is = ap (λ (xs : List Bytes). name_at s xs n here) (sym (object_earlier l long depth)) ∙ e
 
           past : length s ≤ here → not_json ≡ refusal_of r
-          past h = cc (no_quote s (keys (erase_of s l.fs)) n here (λ z. let y : get_or s here 0 ≡ 0 = get_or-eq_default s 0 h in omega arith), is)
+          past h = cc (no_quote s (keys (erase_of s l.fs)) n here not_json (byte_not 34 s here (λ z. let y : get_or s here 0 ≡ 0 = get_or-eq_default s 0 h in omega arith)), is)
 
           go : (m : ℕ) → length s ≤ m + here → closes_of at l.fs (fields_at s (λ m a. read_at left s m a) m naming.names n here) ≡ refused (refusal_of r)
           go zero h = ap {B = Result (Placed Node)} (λ y. refused y) (past (omega arith))
           go (suc m) h = ap (closes_of at l.fs) (fields_refused s (λ m a. read_at left s m a) naming.names (keys (erase_of s l.fs)) naming.named n here m (refusal_of r) is)
 
-      module _ {w₁ : List ℕ} {seen₁ : List Bool} {k : Spelt} (a : NameLaid s w w₁ seen seen₁ n₀ here n k) where
-        facts : NameFacts s (keys (erase_of s l.fs)) n here (record { stop = k.stop; value = k.value })
+      module _ {w₁ : List ℕ} {seen₁ : List Bool} {value : ℕ} (a : NameLaid s w w₁ seen seen₁ n₀ here n value) where
+        facts : NameFacts s (keys (erase_of s l.fs)) n here (record { stop = a.stop; value = value })
         facts =
-            name_facts s (keys (erase_of s l.fs)) n here (record { stop = k.stop; value = k.value })
+            name_facts s (keys (erase_of s l.fs)) n here (record { stop = a.stop; value = value })
             (ap (λ (xs : List Bytes). name_at s xs n here) (sym (object_earlier l long depth)) ∙ a.read)
 
         inside : here < length s
         inside = byte_inside s here 34 facts.is_quote (omega arith)
 
-        pub object_value_here : (k.value ≤ length s) × (n + 1 ≤ max_nodes)
+        pub object_value_here : (value ≤ length s) × (n + 1 ≤ max_nodes)
         object_value_here = (
-          (skip_past s (skip_at s facts.end + 1) k.value
+          (skip_past s (skip_at s facts.end + 1) value
               (omega (arith, byte_inside s (skip_at s facts.end) 58 facts.is_colon (omega arith))) facts.value).1,
           omega (arith, facts.room),
         )
 
         pub object_value_long : length w₁ ≡ length w₀
-        object_value_long = ap length a.words ∙ length-sets w (3 * n) ((8 * (here + 1) + 4) ∷ k.stop ∷ (n + 1) ∷ []) ∙ object_long l
+        object_value_long = ap length a.words ∙ length-sets w (3 * n) ((8 * (here + 1) + 4) ∷ a.stop ∷ (n + 1) ∷ []) ∙ object_long l
 
-        pub object_value_bad : (w₂ : List ℕ) (r : Why) → ParsedTold (read_at left s (n + 1) k.value) w₁ w₂ (n + 1) (Err r) →
+        pub object_value_bad : (w₂ : List ℕ) (r : Why) → ParsedTold (read_at left s (n + 1) value) w₁ w₂ (n + 1) (Err r) →
             ParsedTold whole w₀ w₂ n₀ (Err r)
         unfolding ParsedTold
         object_value_bad w₂ r p = (
           value_refused naming facts.is_quote inside facts.room facts.end facts.is_text facts.is_new facts.is_colon
               (refusal_of r) (ap (read_at left s (n + 1)) (sym facts.value) ∙ p.0),
-          p.1 ∙ past_rows w w₁ ((8 * (here + 1) + 4) ∷ k.stop ∷ (n + 1) ∷ []) (3 * n) a.words (omega (arith, facts.room)) ∙ object_still l,
+          p.1 ∙ past_rows w w₁ ((8 * (here + 1) + 4) ∷ a.stop ∷ (n + 1) ∷ []) (3 * n) a.words (omega (arith, facts.room)) ∙ object_still l,
         )
 
-        module _ {w₂ : List ℕ} {p : Place} (r : Rows (read_at left s (n + 1) k.value) w₁ w₂ (n + 1) p) where
+        module _ {w₂ : List ℕ} {p : Place} (r : Rows (read_at left s (n + 1) value) w₁ w₂ (n + 1) p) where
           abbrev v : Placed Node
           v = record { tree = r.tree; place = p.at; count = p.node }
 
-          read : (q : Parsed Value) × ValueAgrees s left (n + 1) k.value q v
-          read = read_facts left s (n + 1) k.value v object_value_here.0 r.read
+          read : (q : Parsed Value) × ValueAgrees s left (n + 1) value q v
+          read = read_facts left s (n + 1) value v object_value_here.0 r.read
 
           is_v : read_at left s (n + 1) (skip_at s (skip_at s facts.end + 1)) ≡ ok v
           is_v = ap (read_at left s (n + 1)) (sym facts.value) ∙ r.read
@@ -294,7 +284,7 @@ module _ (s : Bytes) (left at n₀ : ℕ) where
           object_past =
               let t = text_read s (here + 1) facts.end (omega (arith, inside)) facts.is_text in
               let i = skip_past s facts.end (skip_at s facts.end) t.2 refl in
-              let j = skip_past s (skip_at s facts.end + 1) k.value (omega (arith, byte_inside s (skip_at s facts.end) 58 facts.is_colon (omega arith))) facts.value in
+              let j = skip_past s (skip_at s facts.end + 1) value (omega (arith, byte_inside s (skip_at s facts.end) 58 facts.is_colon (omega arith))) facts.value in
               (omega (arith, t.1, i.0, j.0, read.1.past), read.1.upto)
 
           abbrev more : Fields
@@ -348,7 +338,7 @@ pub name_was_bad : (s : Bytes) (w w' : List ℕ) (seen seen' : List Bool) (objec
 unfolding NameTold
 name_was_bad s w w' seen seen' object at n q t = t
 
-pub name_was : (s : Bytes) (w w' : List ℕ) (seen seen' : List Bool) (object at n : ℕ) (k : Spelt) →
-    NameTold s w w' seen seen' object at n (Ok k) → NameLaid s w w' seen seen' object at n k
+pub name_was : (s : Bytes) (w w' : List ℕ) (seen seen' : List Bool) (object at n value : ℕ) →
+    NameTold s w w' seen seen' object at n (Ok value) → NameLaid s w w' seen seen' object at n value
 unfolding NameTold
-name_was s w w' seen seen' object at n k t = t
+name_was s w w' seen seen' object at n value t = t

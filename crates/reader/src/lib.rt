@@ -1,4 +1,4 @@
-// Reading a sheet: its bytes become the node table, or the refusal that they show first. The definitions stand in specs/, the laws in proofs/.
+// Reading a sheet: its bytes become the node table, or the refusal that they show first. The definitions stand in the specs of json_text and strings, the laws in proofs/.
 #![tactic(auto)]
 
 ghost use Rattle.strings.specs.Reads.{ReadTold};

@@ -26,7 +26,10 @@ pub fn value(
     if left == 0 {
         return leaf(s, work, at, node);
     }
-    match tokens::scan::byte_at(s, at) {
+    let Some(c) = s.get(at) else {
+        return Err(Refusal::NotJson);
+    };
+    match c {
         b'[' => array(s, work, seen, at, node, left - 1),
         b'{' => object(s, work, seen, at, node, left - 1),
         _ => leaf(s, work, at, node),
@@ -95,8 +98,8 @@ fn object(
         match sep {
             Sep::Shut(end) => return Ok(lay(work, node, Kind::Object, at, end, count, end)),
             Sep::On(here) => {
-                let spelt = name(s, work, seen, node, here, count)?;
-                let member = value(s, work, seen, spelt.value, count + 1, left)?;
+                let from = name(s, work, seen, node, here, count)?;
+                let member = value(s, work, seen, from, count + 1, left)?;
                 sep = following(s, member.at, b'}')?;
                 count = member.node;
             }

@@ -44,7 +44,7 @@ fn answer(rt: &impl Print, sheet: &[u8], work: &mut [u32]) {
     let _ = rt.write_all(b"\n");
 }
 
-// The length in the next line, of at most five digits; none at the list's end.
+// The length in the next line, of at most five digits; none at the list's end. By hand, since the digits are read one by one.
 fn next_length<R: io::Read>(input: &mut R) -> Option<usize> {
     let mut n = 0;
     for _ in 0..6 {

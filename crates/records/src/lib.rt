@@ -1,13 +1,16 @@
 // Stored lists on standard input: one record a line, its fields with a tab between. A list is read part by part.
 #![tactic(auto)]
 
-ghost use Rattle.std.specs.Prelude.{◌≤◌, ◌<◌, length};
+ghost use Rattle.std.specs.Prelude.{Bool, ◌+◌, ◌≡◌, ◌≤◌, ◌<◌, cond, is_err, length, min};
+ghost use Rattle.records.specs.Records.{Bytes, Checked, Tallied, Tells, field_of, most, records_of};
 
 use std::fmt::Display;
 use std::io::Read;
 
 // A record's field by its place, 0 the first one; what a record has not is empty.
-pub fn field(record: &[u8], place: usize) -> &[u8] {
+pub fn field(record: &[u8], place: usize) -> &[u8]
+    ensures { result.now ≡ field_of «record».now place }
+{
     record.split(|c| *c == b'\t').nth(place).unwrap_or(&[])
 }
 
@@ -23,7 +26,7 @@ fn digit(c: u8) -> usize
     }
 }
 
-// The number that decimal digits spell, up to 99,999,999,999.
+// The number that decimal digits spell, up to 99,999,999,999. By hand: `parse` takes a str, and also a sign.
 pub fn decimal(text: &[u8]) -> usize {
     let mut n = 0;
     for c in text {
@@ -62,6 +65,7 @@ pub fn read_full<R: Read>(input: &mut R, buf: &mut [u8]) -> usize
     ensures { result ≤ length buf.new }
 {
     let mut done = 0;
+    // each read says how many bytes it brought: no range counts these
     while done < buf.len() {
         let n = input.read(&mut buf[done..]).unwrap_or(0);
         if n == 0 {
@@ -90,19 +94,22 @@ pub struct Tally {
 }
 
 // A record's check counted; of the first 20 that differ it is said where they stand in the list, and what differs. A write that fails is passed over.
-fn counted<E: Display + Drop>(rt: &impl Print, before: Tally, checked: Result<(), E>) -> Tally {
-    let ran = before.ran.wrapping_add(1);
+fn counted<E: Display + Drop>(rt: &impl Print, before: Tally, checked: Result<(), E>) -> Tally
+    ensures ran { result.ran ≡ min (before.ran + 1) most }
+    ensures differ { result.differ ≡ min (before.differ + cond (is_err checked) 1 0) most }
+{
+    let ran = before.ran.saturating_add(1);
     let mut differ = before.differ;
     if let Err(what) = checked {
         if differ < 20 {
             let _ = println!(rt; "record {ran}{what}");
         }
-        differ = differ.wrapping_add(1);
+        differ = differ.saturating_add(1);
     }
     Tally { ran, differ }
 }
 
-// Checks the records of a text, each of which a line feed ends.
+// Checks the records of a text, each of which a line feed ends; what stands behind the last one is left.
 fn check_all<E: Display + Drop, F: Fn(&[u8]) -> Result<(), E>>(
     rt: &impl Print,
     text: &[u8],
@@ -110,13 +117,15 @@ fn check_all<E: Display + Drop, F: Fn(&[u8]) -> Result<(), E>>(
     check: &F,
 ) -> Tally
     requires { F.IsAlwaysCallable check.now }
+    ensures counts { (p : Bytes → Bool) → Tells (F.post check.now) p → Tallied p before (records_of text.now) result }
+    ensures at_most { before.differ ≤ before.ran → result.differ ≤ result.ran }
 {
     let mut all = before;
-    let Some(records) = text.strip_suffix(b"\n") else {
-        return all;
-    };
-    for record in records.split(|c| *c == b'\n') {
-        all = counted(rt, all, check(record));
+    let mut rest = text;
+    // no `for` over `split`: the proof of such a loop doesn't close in a function that is generic in the check
+    while let Some(at) = rest.iter().position(|c| *c == b'\n') {
+        all = counted(rt, all, check(&rest[..at]));
+        rest = &rest[at + 1..];
     }
     all
 }
@@ -129,6 +138,8 @@ pub fn check_list<R: Read, E: Display + Drop, F: Fn(&[u8]) -> Result<(), E>>(
     check: &F,
 ) -> Tally
     requires { F.IsAlwaysCallable check.now }
+    ensures counts { (p : Bytes → Bool) → Tells (F.post check.now) p → Checked p result }
+    ensures at_most { result.differ ≤ result.ran }
 {
     let mut all = Tally { ran: 0, differ: 0 };
     let mut n = more(input, list, 0, 0);

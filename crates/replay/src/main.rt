@@ -6,6 +6,7 @@ ghost use Rattle.std.specs.Prelude.{◌<◌, ◌≤◌, length};
 
 use calling::Call;
 use decision::call::run;
+use line::reply::Reply;
 use records::{check_list, field, is_line, number};
 use std::fmt;
 
@@ -14,7 +15,7 @@ const BYTE: u8 = 165;
 
 const WORD: u32 = 2779096485;
 
-// The places of a record's fields; the first is the call's letter.
+// The places of a record's fields; the first is the call's letter. Numbers and no enum: `field` takes a place.
 const PLACE: usize = 1;
 
 const WORDS: usize = 2;
@@ -52,6 +53,7 @@ impl fmt::Display for Difference {
 }
 
 // A hexadecimal digit's value in lower case, 0 for any other byte.
+// 0 and no Option: a record that is written wrongly shows as one that differs, and this list is the repository's own.
 fn nibble(c: u8) -> u8
     ensures { result < 16 }
 {
@@ -62,7 +64,7 @@ fn nibble(c: u8) -> u8
     }
 }
 
-// The bytes that hexadecimal digits spell, at the start of a buffer, and how many there are; 0 where it is too short.
+// The bytes that hexadecimal digits spell, at the start of a buffer, and how many there are; 0 where it is too short, which shows as a difference too.
 fn from_hex(digits: &[u8], bytes: &mut [u8]) -> usize
     ensures { result ≤ length bytes.new }
 {
@@ -90,12 +92,11 @@ fn call_of(record: &[u8], letter: u8) -> Call {
     }
 }
 
-// Whether so many bytes at the start of the output are the record's line; `-` stands for none.
-fn is_the_line(out: &[u8], size: usize, line: &[u8]) -> bool {
-    if line == b"-".as_slice() {
-        size == 0
-    } else {
-        is_line(out, size, line)
+// Whether the line at the start of the output is the record's; `-` stands for none.
+fn is_the_line(out: &[u8], size: Option<usize>, line: &[u8]) -> bool {
+    match size {
+        Some(size) => is_line(out, size, line),
+        None => line == b"-".as_slice(),
     }
 }
 
@@ -124,17 +125,21 @@ fn check_call(record: &[u8], sheet: &[u8]) -> Result<(), Difference> {
     let room = out
         .get_mut(..number(record, BYTES))
         .ok_or(Difference::NoRecord)?;
-    let sent = run(sheet, table, room, call_of(record, letter));
-    if sent.number != number(record, NUMBER) {
+    let reply = run(sheet, table, room, call_of(record, letter));
+    if reply.number() != number(record, NUMBER) {
         return Err(Difference::Number);
     }
-    if !is_the_line(&out, sent.size, field(record, LINE)) {
+    if !is_the_line(&out, reply.size(), field(record, LINE)) {
         return Err(Difference::Line);
     }
-    if !is_untouched(&out, sent.size) {
+    if !is_untouched(&out, reply.size().unwrap_or(0)) {
         return Err(Difference::Output);
     }
-    let zeros = if sent.number == 1 { 0 } else { 16384 };
+    let zeros = if reply == Reply::WorkTooSmall {
+        0
+    } else {
+        16384
+    };
     if is_cleared(&work, zeros) {
         Ok(())
     } else {

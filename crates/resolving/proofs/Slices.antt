@@ -111,13 +111,17 @@ module _ (s : Bytes) (t : List ℕ) where
       go true q below = rw (q, find) (record { means = refl; fits = h.0 })
       go false q below = rw (q, find) below
 
-  pub binder_told : {r : Option Operand} (k : Bytes) (fs : List Frame) → Bound s t fs → r ≡ bound_in s k fs → BoundAs s t r (find k (framed s t fs))
+  binder_told : {r : Option Operand} (k : Bytes) (fs : List Frame) → Bound s t fs → r ≡ bound_in s k fs → BoundAs s t r (find k (framed s t fs))
   binder_told k fs h e = rw e (binder_as k fs h)
 
 -- what the code asks
 module _ {s : Bytes} {w : List ℕ} {roots : Roots} {f : Frames} (r : Ready s w roots f) where
   pub node_room : {n : ℕ} → HasNode s (table w) n → Room w n
   node_room h = record { rows = r.rows; node = node_below s (table w) h }
+
+  -- what a name is bound to
+  pub binder : (k : Bytes) {b : Option Operand} → b ≡ bound_in s k (held f) → BoundAs s (table w) b (find k (frames_of s (table w) f))
+  binder k e = binder_told s (table w) k (held f) r.bound.operands e
 
   pub frames_length : length (frames_of s (table w) f) ≡ f.depth
   frames_length = framed_length s (table w) (held f) ∙ top_length f.depth f.slots

@@ -51,14 +51,14 @@ pub fn same_leaf(s: &[u8], work: &[u32], a: Operand, b: Operand, class: RowKind)
 }
 
 // The part at a node below an operand: a written one is touched under the frames of the whole.
-pub fn part_of(s: &[u8], work: &[u32], scope: Scope, o: Operand, node: usize) -> Operand
-    requires { Ready s.now work.now scope.roots scope.frames × HasNode s.now (table work.now) node }
-    ensures { Means s.now (table work.now) result (part_at (sheet_in s.now) s.now (table work.now) (frames_of s.now (table work.now) scope.frames) o node) }
+pub fn part_of(s: &[u8], work: &[u32], scope: &Scope, o: Operand, node: usize) -> Operand
+    requires { Ready s.now work.now scope.now.roots scope.now.frames × HasNode s.now (table work.now) node }
+    ensures { Means s.now (table work.now) result (part_at (sheet_in s.now) s.now (table work.now) (frames_of s.now (table work.now) scope.now.frames) o node) }
 {
     match o.kind {
         Kind::Listed | Kind::Named => {
             let under = scope.outer(o.depth);
-            crate::reach::touch_at(s, work, under, node, under.frames.depth + 1)
+            crate::reach::touch_at(s, work, &under, node, under.frames.depth + 1)
         }
         _ => paths::operand::value_at(work, node),
     }

@@ -20,9 +20,9 @@ use strings::rows::Kind as RowKind;
 
 // A written node under frames, its parts untouched. The number falls from expression to expression.
 #[cycle(look_up_step_to_touch_at_walk_on)]
-pub fn touch_at(s: &[u8], work: &[u32], scope: Scope, node: usize, left: usize) -> Operand
-    requires { Ready s.now work.now scope.roots scope.frames × HasNode s.now (table work.now) node }
-    ensures { Means s.now (table work.now) result (touch (sheet_in s.now) left (frames_of s.now (table work.now) scope.frames) (tree s.now (table work.now) node)) }
+pub fn touch_at(s: &[u8], work: &[u32], scope: &Scope, node: usize, left: usize) -> Operand
+    requires { Ready s.now work.now scope.now.roots scope.now.frames × HasNode s.now (table work.now) node }
+    ensures { Means s.now (table work.now) result (touch (sheet_in s.now) left (frames_of s.now (table work.now) scope.now.frames) (tree s.now (table work.now) node)) }
 {
     if left == 0 {
         return nothing();
@@ -46,30 +46,29 @@ pub fn touch_at(s: &[u8], work: &[u32], scope: Scope, node: usize, left: usize) 
 pub fn look_up(
     s: &[u8],
     work: &[u32],
-    scope: Scope,
+    scope: &Scope,
     path: &[u8],
     left: usize,
 ) -> Result<Option<Operand>, LookupError>
-    requires { Ready s.now work.now scope.roots scope.frames × PathAt path.now }
-    ensures { LookedAs s.now (table work.now) (text_at path.now 0) result (look (sheet_in s.now) (touch (sheet_in s.now) left) (frames_of s.now (table work.now) scope.frames) (text_at path.now 0)) }
+    requires { Ready s.now work.now scope.now.roots scope.now.frames × PathAt path.now }
+    ensures { LookedAs s.now (table work.now) (text_at path.now 0) result (look (sheet_in s.now) (touch (sheet_in s.now) left) (frames_of s.now (table work.now) scope.now.frames) (text_at path.now 0)) }
 {
     let bound = scope.frames.find(s, path);
     match rest_at(path) {
         None => match bound {
             Some(o) => Ok(Some(o)),
-            None => root_at(scope.roots, root_named(path)),
+            None => root_at(&scope.roots, root_named(path).ok_or(LookupError::Unknown)?),
         },
         Some(next) => match bound {
             Some(o) => Ok(walk_on(s, work, scope, &path[next..], o, left)),
-            None => match base_at(scope.roots, root_named(path)) {
-                None => Err(LookupError::Unknown),
-                Some(o) => {
-                    if part_is_word(&path[next..], b"") {
-                        return Ok(None);
-                    }
-                    Ok(walk_on(s, work, scope, &path[next..], o, left))
+            None => {
+                let root = root_named(path).ok_or(LookupError::Unknown)?;
+                let o = base_at(&scope.roots, root).ok_or(LookupError::Unknown)?;
+                if part_is_word(&path[next..], b"") {
+                    return Ok(None);
                 }
-            },
+                Ok(walk_on(s, work, scope, &path[next..], o, left))
+            }
         },
     }
 }
@@ -79,13 +78,13 @@ pub fn look_up(
 pub fn step_to(
     s: &[u8],
     work: &[u32],
-    scope: Scope,
+    scope: &Scope,
     path: &[u8],
     o: Operand,
     left: usize,
 ) -> Option<Operand>
-    requires { Ready s.now work.now scope.roots scope.frames × PathAt path.now × OperandAt s.now (table work.now) o }
-    ensures { BoundAs s.now (table work.now) result (step_from (sheet_in s.now) (touch (sheet_in s.now) left) (frames_of s.now (table work.now) scope.frames) (part (text_at path.now 0)) (operand_of s.now (table work.now) o)) }
+    requires { Ready s.now work.now scope.now.roots scope.now.frames × PathAt path.now × OperandAt s.now (table work.now) o }
+    ensures { BoundAs s.now (table work.now) result (step_from (sheet_in s.now) (touch (sheet_in s.now) left) (frames_of s.now (table work.now) scope.now.frames) (part (text_at path.now 0)) (operand_of s.now (table work.now) o)) }
 {
     match o.kind {
         Kind::Object => {
@@ -94,7 +93,7 @@ pub fn step_to(
         }
         Kind::Named => {
             let v = member_of(s, work, o.node, path)?;
-            Some(touch_at(s, work, scope.outer(o.depth), v, left))
+            Some(touch_at(s, work, &scope.outer(o.depth), v, left))
         }
         _ => None,
     }
@@ -105,13 +104,13 @@ pub fn step_to(
 pub fn walk_on(
     s: &[u8],
     work: &[u32],
-    scope: Scope,
+    scope: &Scope,
     path: &[u8],
     o: Operand,
     left: usize,
 ) -> Option<Operand>
-    requires { Ready s.now work.now scope.roots scope.frames × PathAt path.now × OperandAt s.now (table work.now) o }
-    ensures { BoundAs s.now (table work.now) result (walk_from (sheet_in s.now) (touch (sheet_in s.now) left) (frames_of s.now (table work.now) scope.frames) (parts (text_at path.now 0)) (operand_of s.now (table work.now) o)) }
+    requires { Ready s.now work.now scope.now.roots scope.now.frames × PathAt path.now × OperandAt s.now (table work.now) o }
+    ensures { BoundAs s.now (table work.now) result (walk_from (sheet_in s.now) (touch (sheet_in s.now) left) (frames_of s.now (table work.now) scope.now.frames) (parts (text_at path.now 0)) (operand_of s.now (table work.now) o)) }
 {
     let p = step_to(s, work, scope, path, o, left)?;
     match rest_at(path) {

@@ -33,10 +33,9 @@ fn miss(work: &mut [u32], node: usize, quiet: bool)
     requires { (16384 ≤ length work.old) × (node < 4096) }
     ensures { work.new ≡ missed quiet work.old node }
 {
-    if quiet {
-        return;
+    if !quiet {
+        mark(work, node);
     }
-    mark(work, node);
 }
 
 // What an expression gave: null is missing.
@@ -44,41 +43,34 @@ fn observed(work: &mut [u32], found: Option<Operand>, node: usize, quiet: bool) 
     requires { (16384 ≤ length work.old) × (node < 4096) }
     ensures { Observed quiet work.old work.new found node result }
 {
-    match but_null(found) {
-        Some(o) => Some(o),
-        None => {
-            miss(work, node, quiet);
-            None
-        }
+    let there = but_null(found);
+    if there.is_none() {
+        miss(work, node, quiet);
     }
+    there
 }
 
 // What was found, but for null.
 fn but_null(found: Option<Operand>) -> Option<Operand>
     ensures { result ≡ but_null found }
 {
-    match found {
-        Some(o) => match o.kind {
-            Kind::Null => None,
-            _ => Some(o),
-        },
-        None => None,
-    }
+    found.filter(|o| o.kind != Kind::Null)
 }
 
 pub fn resolve_text(
     s: &[u8],
     work: &mut [u32],
-    scope: Scope,
+    scope: &Scope,
     node: usize,
     quiet: bool,
 ) -> Result<Option<Operand>, EvalError>
-    requires { Ready s.now work.old scope.roots scope.frames × HasKind s.now (table work.old) node 4 }
-    ensures { ResolvedAs quiet s.now work.old work.new result (operand (sheet_in s.now) (frames_of s.now (table work.old) scope.frames) (tree s.now (table work.old) node)) }
+    requires { Ready s.now work.old scope.now.roots scope.now.frames × HasKind s.now (table work.old) node 4 }
+    ensures { ResolvedAs quiet s.now work.old work.new result (operand (sheet_in s.now) (frames_of s.now (table work.old) scope.now.frames) (tree s.now (table work.old) node)) }
 {
     match classify(s, start_at(work, node)) {
         Written::Plain => Ok(Some(Operand::at(node, Kind::Text))),
         Written::Escaped(_) => Ok(Some(Operand::at(node, Kind::Less))),
+        // a match and no `map_err`: both arms change what they hold
         Written::Expression(next) => match look_up(s, work, scope, &s[next..], scope.frames.depth) {
             Ok(found) => Ok(observed(work, found, node, quiet)),
             Err(e) => Err(e.at(node)),
@@ -90,24 +82,21 @@ pub fn resolve_text(
 fn gathered(node: usize, depth: usize, named: bool, whole: bool) -> Option<Operand>
     ensures { result ≡ gathered_of node depth named whole }
 {
-    if !whole {
-        return None;
-    }
     let kind = if named { Kind::Named } else { Kind::Listed };
-    Some(Operand { node, depth, kind })
+    whole.then_some(Operand { node, depth, kind })
 }
 
 #[cycle(resolve_resolve_parts)]
 pub fn resolve(
     s: &[u8],
     work: &mut [u32],
-    scope: Scope,
+    scope: &Scope,
     node: usize,
     quiet: bool,
     left: usize,
 ) -> Result<Option<Operand>, EvalError>
-    requires { Ready s.now work.old scope.roots scope.frames × HasNode s.now (table work.old) node × (depth (tree s.now (table work.old) node) ≤ left) }
-    ensures { ResolvedAs quiet s.now work.old work.new result (operand (sheet_in s.now) (frames_of s.now (table work.old) scope.frames) (tree s.now (table work.old) node)) }
+    requires { Ready s.now work.old scope.now.roots scope.now.frames × HasNode s.now (table work.old) node × (depth (tree s.now (table work.old) node) ≤ left) }
+    ensures { ResolvedAs quiet s.now work.old work.new result (operand (sheet_in s.now) (frames_of s.now (table work.old) scope.now.frames) (tree s.now (table work.old) node)) }
 {
     match kind_at(work, node) {
         RowKind::Text => resolve_text(s, work, scope, node, quiet),
@@ -122,24 +111,22 @@ pub fn resolve(
 fn resolve_parts(
     s: &[u8],
     work: &mut [u32],
-    scope: Scope,
+    scope: &Scope,
     node: usize,
     named: bool,
     quiet: bool,
     left: usize,
 ) -> Result<Option<Operand>, EvalError>
-    requires { Ready s.now work.old scope.roots scope.frames × Holds s.now (table work.old) named node × (depth (tree s.now (table work.old) node) ≤ left) }
-    ensures { ResolvedAs quiet s.now work.old work.new result (operand (sheet_in s.now) (frames_of s.now (table work.old) scope.frames) (tree s.now (table work.old) node)) }
+    requires { Ready s.now work.old scope.now.roots scope.now.frames × Holds s.now (table work.old) named node × (depth (tree s.now (table work.old) node) ≤ left) }
+    ensures { ResolvedAs quiet s.now work.old work.new result (operand (sheet_in s.now) (frames_of s.now (table work.old) scope.now.frames) (tree s.now (table work.old) node)) }
 {
     let mut whole = true;
     let mut c = Children::of(work, node, named);
-    loop {
-        let Some(x) = c.next(work) else {
-            return Ok(gathered(node, scope.frames.depth, named, whole));
-        };
+    while let Some(x) = c.next(work) {
         let v = value_node(named, x.node);
         let part = resolve(s, work, scope, v, quiet, left - 1)?;
         whole &= part.is_some();
         c = x.rest;
     }
+    Ok(gathered(node, scope.frames.depth, named, whole))
 }

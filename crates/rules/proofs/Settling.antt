@@ -4,7 +4,7 @@ use Rattle.std.specs.Prelude.{IsErrAnd, IsSomeAnd, MatchOption, Result as Fallib
 use mathlib.Core.List.{List, [], ◌∷◌}
 use Rattle.std.specs.Prelude.{Option, Some, None, Ok, Err}
 use mathlib.Core.Path.{ap, refl, subst, sym, ◌∙◌, ◌≡◌}
-use Prim.Native.Nat.{ℕ, ◌+◌, ◌≤◌}
+use Prim.Native.Nat.{ℕ, ◌+◌}
 use Rattle.writer.specs.Meaning.{Held, meaning, rules_of}
 use Rattle.writer.specs.Texts.{IsText, TextTold, text_of}
 use Rattle.answers.specs.Verdict.{Verdict}

@@ -1,6 +1,5 @@
 // Rules in order: the first that is not True settles.
-ghost use Rattle.std.specs.Prelude.{List, ◌≤◌, length};
-ghost use Rattle.std.specs.Prelude.{Option};
+ghost use Rattle.std.specs.Prelude.{List, Option, ◌≤◌, length};
 ghost use Rattle.writer.specs.Meaning.{rules_of};
 ghost use Rattle.writer.specs.Texts.{TextTold};
 ghost use Rattle.json_text.specs.Bytes.{Bytes};

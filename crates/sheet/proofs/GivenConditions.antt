@@ -385,10 +385,17 @@ quantified_here {s} {w} {n} h t m c e = go (value_at s w n) refl e
 abbrev MadeOf : Bytes → List ℕ → ℕ → Option Operator → Result Condition
 MadeOf s w m o = formed (sorted (value_at s w m)) (condition (sorted (value_at s w m))) (condition_array (sorted (value_at s w m))) (condition_object (sorted (value_at s w m))) o
 
+made_as : {s : Bytes} {w : List ℕ} {n : ℕ} {c : Condition} → OneMember s w n c → (a : ℕ) → a ≡ start_at w (n + 1) → {o : Option Operator} →
+    find (text_at s a) operators ≡ o → MadeOf s w (n + 1 + 1) o ≡ ok c
+made_as {s} {w} {n} g a q t = sym (ap (MadeOf s w (n + 1 + 1)) (ap (λ (z : ℕ). find (text_at s z) operators) (sym q) ∙ t)) ∙ g.is_formed
+
+pub given_known : {s : Bytes} {w : List ℕ} {n : ℕ} {c : Condition} → OneMember s w n c → (a : ℕ) → a ≡ start_at w (n + 1) → find (text_at s a) operators ≡ None → ⊥
+given_known {c = c} g a q t = never wrong_shape c (made_as g a q t)
+
 module _ {s : Bytes} {w : List ℕ} {n : ℕ} {c : Condition} (g : OneMember s w n c) (a : ℕ) (q : a ≡ start_at w (n + 1)) (r : CodeOperator)
-    (t : find (text_at s a) operators ≡ operator_of r) where
-  by : (x : CodeOperator) → r ≡ x → MadeOf s w (n + 1 + 1) (operator_of x) ≡ ok c
-  by x f = sym (ap (MadeOf s w (n + 1 + 1)) (ap (λ (z : ℕ). find (text_at s z) operators) (sym q) ∙ t ∙ ap operator_of f)) ∙ g.is_formed
+    (t : find (text_at s a) operators ≡ Some (operator_of r)) where
+  by : (x : CodeOperator) → r ≡ x → MadeOf s w (n + 1 + 1) (Some (operator_of x)) ≡ ok c
+  by x f = made_as g a q (t ∙ ap (λ (y : CodeOperator). Some (operator_of y)) f)
 
   pub given_negation : r ≡ ops.Negation → (d : Condition) × (c ≡ negation d) × Gives condition s w (n + 1 + 1) d
   unfolding operator_of
@@ -421,7 +428,3 @@ module _ {s : Bytes} {w : List ℕ} {n : ℕ} {c : Condition} (g : OneMember s w
   pub given_carried : r ≡ ops.NotCarried → ⊥
   unfolding operator_of
   given_carried f = never not_carried c (by ops.NotCarried f)
-
-  pub given_known : r ≡ ops.Unknown → ⊥
-  unfolding operator_of
-  given_known f = never wrong_shape c (by ops.Unknown f)

@@ -58,13 +58,14 @@ pub fn is_move(s: &[u8], work: &[u32], node: usize) -> bool
     requires { IsNode s.now work.now 64 node }
     ensures { result ≡ is_ok (a_move (value_at s.now work.now node)) }
 {
+    // a return of its own: with `&&` all that follows would stand in a block
     if kind_at(work, node) != Kind::Object {
         return false;
     }
     let from = node + 1;
     let end = after_at(work, node);
     let m = move_members(s, work, from, end);
-    // `&` and no `&&`: with `&&` each test is a branch of its own in the proof
+    // `&` and no `&&`, here and where a rule and an outcome are told: as plain, and no test is a branch of the others
     only(s, work, from, end, &[b"to", b"from"])
         & needs(s, work, m.to, is_text)
         & needs(s, work, m.from, is_text_or_texts)
@@ -92,6 +93,7 @@ pub fn is_outcome(s: &[u8], work: &[u32], node: usize) -> bool
     requires { IsNode s.now work.now 64 node }
     ensures { result ≡ is_ok (an_outcome not_null (value_at s.now work.now node)) }
 {
+    // a return of its own: with `&&` all that follows would stand in a block
     if kind_at(work, node) != Kind::Object {
         return false;
     }

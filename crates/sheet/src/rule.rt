@@ -37,6 +37,7 @@ pub fn is_rule(s: &[u8], work: &[u32], node: usize) -> bool
     requires { IsNode s.now work.now 64 node }
     ensures { result ≡ is_ok (a_rule not_null (value_at s.now work.now node)) }
 {
+    // a return of its own: with `&&` all that follows would stand in a block
     if kind_at(work, node) != Kind::Object {
         return false;
     }

@@ -55,6 +55,7 @@ pub fn node_of(found: Option<usize>) -> usize
 }
 
 // The members of a sheet whose required members are there.
+// No `From`: it is right only for members that were looked for in a sheet, and says so by its name.
 pub fn placed(m: SheetMembers) -> Members
     ensures { result ≡ members_of m }
 {
@@ -81,6 +82,7 @@ pub fn shape_of(s: &[u8], work: &[u32]) -> Result<Members, Misshapen>
     requires { Stored s.now work.now }
     ensures { Shaped s.now work.now result }
 {
+    // first: only an object has members to look for
     if kind_at(work, 0) != Kind::Object {
         return Err(Misshapen::WrongSheet);
     }

@@ -13,7 +13,7 @@ ghost use Rattle.members.specs.Verdicts.{fault_of};
 use members::member::named;
 use members::told::Fault;
 use members::word::is_word;
-use strings::rows::{Kind, after_at, kind_at, start_at};
+use strings::rows::{Elements, Keys, Kind, after_at, kind_at, start_at};
 use syntax::condition::condition;
 
 // The fault of the condition that an element has under a name.
@@ -21,13 +21,13 @@ pub fn under(s: &[u8], work: &[u32], node: usize, word: &[u8]) -> Result<(), Fau
     requires { IsNode s.now work.now 64 node }
     ensures { fault_of (sound (member_of word.now (value_at s.now work.now node))) ≡ fault_is result }
 {
-    if kind_at(work, node) != Kind::Object {
-        return Ok(());
+    if kind_at(work, node) == Kind::Object
+        && let Some(n) = named(s, work, node + 1, after_at(work, node), word)
+    {
+        condition(s, work, n, 64)
+    } else {
+        Ok(())
     }
-    let Some(n) = named(s, work, node + 1, after_at(work, node), word) else {
-        return Ok(());
-    };
-    condition(s, work, n, 64)
 }
 
 // The first fault of the conditions that the elements of an array have under a name.
@@ -39,11 +39,8 @@ pub fn under_each(s: &[u8], work: &[u32], node: usize, word: &[u8]) -> Result<()
         return Ok(());
     }
     let end = after_at(work, node);
-    let mut k = node + 1;
-    // from row to row, as each row says which is next: no range counts these
-    while k < end {
+    for k in Elements::new(work, node + 1, end) {
         under(s, work, k, word)?;
-        k = after_at(work, k);
     }
     Ok(())
 }
@@ -56,10 +53,7 @@ pub fn held(s: &[u8], work: &[u32], name: usize, node: usize) -> Result<(), Faul
     if is_word(s, name, b"condition") {
         return condition(s, work, node, 64);
     }
-    if is_word(s, name, b"preconditions") {
-        return under_each(s, work, node, b"assert");
-    }
-    if is_word(s, name, b"invariants") {
+    if is_word(s, name, b"preconditions") || is_word(s, name, b"invariants") {
         return under_each(s, work, node, b"assert");
     }
     if is_word(s, name, b"outcomes") {
@@ -73,11 +67,8 @@ pub fn first_fault(s: &[u8], work: &[u32], from: usize, end: usize) -> Result<()
     requires { AreMembers s.now work.now 64 from end }
     ensures { fault_of (sound (written (entries (members_at s.now work.now from end)))) ≡ fault_is result }
 {
-    let mut k = from;
-    // from row to row, as each row says which is next: no range counts these
-    while k < end {
+    for k in Keys::new(work, from, end) {
         held(s, work, start_at(work, k), k + 1)?;
-        k = after_at(work, k + 1);
     }
     Ok(())
 }

@@ -1,7 +1,7 @@
 -- What a comparison of a row's kind with one of the eight says of its code.
 -- Assumes nothing.
 use mathlib.Core.Bool.{false, true}
-use mathlib.Core.Path.{ap, refl, sym, ◌∙◌, ◌≡◌}
+use mathlib.Core.Path.{refl, sym, ◌∙◌, ◌≡◌}
 use Prim.Native.Nat.{ℕ}
 use lib.Dec.{eqb}
 use borrow.Author.Tests.{eqb-false, eqb-true}

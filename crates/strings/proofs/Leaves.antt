@@ -15,21 +15,17 @@ use Rattle.std.specs.List.{starts_with}
 use Rattle.std.proofs.lemmas.List.{drop-drop, get_or-drop, get_or-take, take_rest}
 use lib.Seq.{drop-cons}
 use borrow.Author.Tests.{eq-eqb, ltb-false, ltb-true, ne_eqb}
-use Rattle.strings.specs.declared.text.Cursor.{Cursor}
-use Rattle.strings.specs.declared.text.Taken.{Taken}
 use Rattle.strings.specs.declared.escape.Scalar.{Scalar}
-use Rattle.json_text.proofs.Cursor.{order_less, order_more, order_on}
+use Rattle.json_text.proofs.Cursor.{order_less, order_more}
 use Rattle.json_text.specs.Orders.{order_of}
 use Rattle.std.specs.Ordering.{nat_cmp}
 use Rattle.json_text.proofs.Sound.{between_of, between_out}
-use Rattle.strings.specs.Answers.{EscapedIn, EscapedTold, FirstOf, HexIn, HexTold, Stepped, escaped_of, hex_of}
-use Rattle.json_text.specs.Bytes.{Bytes, choose, order_bytes}
-use Rattle.json_text.specs.Cursor.{OnText, Took, before}
+use Rattle.strings.specs.Answers.{EscapedIn, EscapedTold, HexIn, HexTold, escaped_of, hex_of}
+use Rattle.json_text.specs.Bytes.{Bytes, order_bytes}
 use Rattle.json_text.specs.Escapes.{escaped, high_scalar, low_scalar, unit_scalar}
 use Rattle.json_text.specs.Placing.{chars_at, place_of, skip_at, word_at}
 use Rattle.json_text.specs.Refusal.{Result, ◌>>=◌, not_json, ok, refused}
 use Rattle.json_text.specs.Scan.{Read, is_space, word}
-use Rattle.json_text.specs.Spans.{text_at}
 use Rattle.json_text.specs.Strings.{hex, hex_digit, simple_escape}
 
 first_byte : (s : Bytes) (at : ℕ) → at < length s → drop at s ≡ get_or s at 0 ∷ drop (at + 1) s
@@ -232,41 +228,7 @@ pub escape_was : {s : Bytes} {at : ℕ} {x : Result (Read ℕ)} {r : Option Scal
 unfolding escaped_of EscapedIn
 escape_was {s} {at} q h e = let b = subst (EscapedIn s at) e h.bounds in (h.answers ∙ ap (escaped_of s) e, b.0, b.1, b.2)
 
--- ---- cursors
-pub first_taken :
-    {s : Bytes} {at u left : ℕ} {x : Scalar} {t : Taken} → FirstOf x t → Took s at u left t.byte x.next x.unit t.rest.left →
-    Took s at u left t.byte t.rest.at t.rest.unit t.rest.left
-first_taken {s} {at} {u} {left} {x} {t} f k =
-    subst (λ (n : ℕ). Took s at u left t.byte n t.rest.unit t.rest.left) (sym f.at)
-    (subst (λ (n : ℕ). Took s at u left t.byte x.next n t.rest.left) (sym f.unit) k)
-
-abbrev pub before_of : Bytes → Cursor → Bytes
-before_of s c = before s c.at c.unit c.left
-
-pub was_end : (s : Bytes) (c : Cursor) {r : Option Taken} → Stepped s c r → r ≡ None → before_of s c ≡ []
-unfolding Stepped
-was_end s c h e = subst (Stepped s c) e h
-
-pub was_byte : {s : Bytes} {c : Cursor} {r : Option Taken} (t : Taken) → Stepped s c r → r ≡ Some t →
-    Took s c.at c.unit c.left t.byte t.rest.at t.rest.unit t.rest.left
-unfolding Stepped
-was_byte {s} {c} t h e = subst (Stepped s c) e h
-
--- two cursors have before them what decides the order of the two texts
-pub record Comparing (s : Bytes) (a b : ℕ) (x y : Cursor) : Type 0 where
-  pub on_x : OnText s x.at x.left
-  pub on_y : OnText s y.at y.left
-  pub same : order_bytes (text_at s a) (text_at s b) ≡ order_bytes (before_of s x) (before_of s y)
-
-pub comparing : (s : Bytes) (a b : ℕ) → OnText s a 0 → OnText s b 0 → Comparing s a b (record { at = a; unit = 0; left = 0 }) (record { at = b; unit = 0; left = 0 })
-unfolding before
-comparing s a b p q = record { on_x = p; on_y = q; same = refl }
-
-pub on : {s : Bytes} {a b : ℕ} {x y : Cursor} (p q : Taken) → Comparing s a b x y →
-    Took s x.at x.unit x.left p.byte p.rest.at p.rest.unit p.rest.left →
-    Took s y.at y.unit y.left q.byte q.rest.at q.rest.unit q.rest.left → p.byte ≡ q.byte → Comparing s a b p.rest q.rest
-on p q h i j e = record { on_x = i.on_text; on_y = j.on_text; same = h.same ∙ order_on i.byte j.byte e }
-
+-- ---- texts compared
 -- two different bytes decide
 pub order_differ : {x y s t : Bytes} {c d : ℕ} → x ≡ c ∷ s → y ≡ d ∷ t → (c ≡ d → ⊥) → order_bytes x y ≡ order_of (nat_cmp c d)
 order_differ {x} {y} {s} {t} {c} {d} i j ne = go (ltb c d) refl

@@ -1,4 +1,6 @@
 pub mod Leaves
+pub mod Decoding
+pub mod Nodes
 pub mod Members
 pub mod Encoding
 pub mod KindCodes

@@ -1,26 +1,24 @@
 -- What each answer of the code says of the sheet and the table.
 -- Assumes nothing.
 use Rattle.std.specs.Prelude.{Result as Fallible}
-use Rattle.std.specs.Prelude.{cond, List, [], ◌∷◌, ◌≡◌, eqb, ltb, drop, length, Ok, Err}
+use Rattle.std.specs.Prelude.{false, true, List, [], ◌∷◌, ◌≡◌, drop, length, Ok, Err}
 use Rattle.std.specs.Prelude.{Option, None, Some}
-use Prim.Native.Nat.{Ordering, suc, zero, ℕ, ◌+◌, ◌<◌, ◌≤◌}
-use Rattle.json_text.specs.Bytes.{Bytes, choose}
-use Rattle.json_text.specs.Cursor.{Took, before, tails}
+use Prim.Native.Nat.{ℕ, ◌+◌, ◌<◌, ◌≤◌}
+use Rattle.json_text.specs.Bytes.{Bytes, between}
+use Rattle.json_text.specs.Cursor.{tails}
 use Rattle.json_text.specs.Held.{HasNode}
 use Rattle.json_text.specs.Json.{Value}
-use Rattle.json_text.specs.Numerals.{whole}
 use Rattle.json_text.specs.Refusal.{Refusal, Result, not_json, not_utf8, number_too_long, ok, refused, repeated_name, too_deep, too_long, too_many_nodes, work_too_small}
 use Rattle.json_text.specs.Scan.{Read}
 use Rattle.json_text.specs.Strings.{hex}
 use Rattle.json_text.specs.Table.{value_at}
-use Rattle.json_text.specs.Utf8.{Expect, encode, never, scalar, tail, utf8}
+use Rattle.json_text.specs.Utf8.{Expect, after, encode, lead, never, scalar, tail}
 use Rattle.strings.specs.declared.rows.Kind.{Kind}
 use Rattle.strings.specs.declared.rows.Kind.TheVariants as kinds
 use Rattle.strings.specs.declared.answer.Refusal.{Refusal as Why}
 use Rattle.strings.specs.declared.escape.Scalar.{Scalar}
-use Rattle.strings.specs.declared.text.Cursor.{Cursor}
-use Rattle.strings.specs.declared.text.Taken.{Taken}
 use Rattle.strings.specs.declared.utf8.Expect.{Expect as Expected}
+use Rattle.strings.specs.declared.utf8.Expect.TheVariants as expects
 use Rattle.strings.specs.declared.answer.Refusal.TheVariants as whys
 
 -- a refusal of the code is one of the paper's
@@ -77,17 +75,22 @@ scan_of (Err r) = refused (refusal_of r)
 scan_of (Ok p) = ok p
 
 -- what may come next in UTF-8
-abbrev pub expecting : ℕ → ℕ → ℕ → Expect
-expecting low high zero = scalar
-expecting low high (suc n) = tail low high n
-
 abbrev pub expect_of : Option Expected → Expect
 expect_of None = never
-expect_of (Some e) = expecting e.low e.high e.left
+expect_of (Some expects.Scalar) = scalar
+expect_of (Some expects.One) = tail 128 191 0
+expect_of (Some expects.Two) = tail 128 191 1
+expect_of (Some expects.Three) = tail 128 191 2
+expect_of (Some expects.TwoFromA0) = tail 160 191 1
+expect_of (Some expects.TwoTo9F) = tail 128 159 1
+expect_of (Some expects.ThreeFrom90) = tail 144 191 2
+expect_of (Some expects.ThreeTo8F) = tail 128 143 2
 
--- what a byte makes of it: the same answer for every rest
-abbrev pub Follows : Expected → ℕ → Option Expected → Type 0
-Follows e c r = (t : Bytes) → utf8 (expect_of (Some e)) (c ∷ t) ≡ utf8 (expect_of r) t
+-- what a byte makes of it
+abbrev pub step : Expect → ℕ → Expect
+step scalar c = lead c
+step (tail low high n) c = elim (between low high c) [ true ↦ after n | false ↦ never ]
+step never c = never
 
 -- the code of a kind in its row
 abbrev pub code_of : Kind → ℕ
@@ -109,17 +112,10 @@ pub record RowFits (words node kind start end after : ℕ) : Type 0 where
   pub end_fits : end ≤ 32768
   pub after_fits : after ≤ 4096
 
--- a scalar value's first byte, and the cursor that has its others
-pub record FirstOf (x : Scalar) (r : Taken) : Type 0 where
-  pub bytes : encode x.unit ≡ r.byte ∷ tails r.rest.left x.unit
-  pub few : r.rest.left ≤ 3
-  pub unit : r.rest.unit ≡ x.unit
-  pub at : r.rest.at ≡ x.next
-
--- a byte taken, or the end
-unfoldable pub Stepped : Bytes → Cursor → Option Taken → Type 0
-Stepped s c None = before s c.at c.unit c.left ≡ []
-Stepped s c (Some t) = Took s c.at c.unit c.left t.byte t.rest.at t.rest.unit t.rest.left
+-- a scalar value's first byte, and how many follow it
+pub record FirstOf (unit byte left : ℕ) : Type 0 where
+  pub bytes : encode unit ≡ byte ∷ tails left unit
+  pub few : left ≤ 3
 
 -- a member that was found, by its node
 unfoldable pub found_of : Bytes → List ℕ → Option ℕ → Option Value

@@ -17,9 +17,9 @@ pub fn hex_digit(c: u8) -> Option<u32>
     ensures upper_bound { IfSome result (λ d. d < 16) }
 {
     match c {
-        b'0'..=b'9' => Some((c - b'0') as u32),
-        b'A'..=b'F' => Some((c - b'A' + 10) as u32),
-        b'a'..=b'f' => Some((c - b'a' + 10) as u32),
+        b'0'..=b'9' => Some(u32::from(c - b'0')),
+        b'A'..=b'F' => Some(u32::from(c - b'A' + 10)),
+        b'a'..=b'f' => Some(u32::from(c - b'a' + 10)),
         _ => None,
     }
 }

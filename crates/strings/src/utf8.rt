@@ -1,49 +1,57 @@
 // UTF-8 (RFC 3629), of the whole text before it is read.
-ghost use Rattle.std.specs.Prelude.{◌≡◌};
+ghost use Rattle.std.specs.Prelude.{Some, ◌≡◌};
 ghost use Rattle.json_text.specs.Utf8.{is_ascii, lead, scalar, utf8};
-ghost use Rattle.strings.specs.Answers.{Follows, expect_of};
+ghost use Rattle.strings.specs.Answers.{expect_of, step};
 
-// What may come next: `left` bytes more of a scalar value, the first of them from `low` to `high`; where none is left, any first byte.
+// What may come next: a scalar value's first byte, or so many further bytes of one. Behind four first bytes the next one has a narrower range.
 #[derive(Clone, Copy)]
-pub struct Expect {
-    pub low: u8,
-    pub high: u8,
-    pub left: usize,
+pub enum Expect {
+    Scalar,
+    One,
+    Two,
+    Three,
+    // behind E0, from A0 on: two bytes spell what lies below
+    TwoFromA0,
+    // behind ED, up to 9F: what lies above are surrogates
+    TwoTo9F,
+    // behind F0, from 90 on: three bytes spell what lies below
+    ThreeFrom90,
+    // behind F4, up to 8F: what lies above is no scalar value
+    ThreeTo8F,
 }
 
 // What a scalar value's first byte leads to; some bytes are none.
 fn lead(c: u8) -> Option<Expect>
     ensures { lead c ≡ expect_of result }
 {
-    let (low, high, left) = match c {
-        0..=0x7F => (0x80, 0xBF, 0),
-        0xC2..=0xDF => (0x80, 0xBF, 1),
-        0xE0 => (0xA0, 0xBF, 2),
-        0xED => (0x80, 0x9F, 2),
-        0xE1..=0xEF => (0x80, 0xBF, 2),
-        0xF0 => (0x90, 0xBF, 3),
-        0xF1..=0xF3 => (0x80, 0xBF, 3),
-        0xF4 => (0x80, 0x8F, 3),
-        _ => return None,
-    };
-    Some(Expect { low, high, left })
+    match c {
+        0..=0x7F => Some(Expect::Scalar),
+        0xC2..=0xDF => Some(Expect::One),
+        0xE0 => Some(Expect::TwoFromA0),
+        0xED => Some(Expect::TwoTo9F),
+        0xE1..=0xEF => Some(Expect::Two),
+        0xF0 => Some(Expect::ThreeFrom90),
+        0xF1..=0xF3 => Some(Expect::Three),
+        0xF4 => Some(Expect::ThreeTo8F),
+        _ => None,
+    }
 }
 
 // What a further byte makes of it.
 fn next(e: Expect, c: u8) -> Option<Expect>
-    ensures { Follows e c result }
+    ensures { step (expect_of (Some e)) c ≡ expect_of result }
 {
-    if e.left == 0 {
-        return lead(c);
+    match (e, c) {
+        (Expect::Scalar, _) => lead(c),
+        (Expect::One, 0x80..=0xBF) => Some(Expect::Scalar),
+        (Expect::Two, 0x80..=0xBF) => Some(Expect::One),
+        (Expect::TwoFromA0, 0xA0..=0xBF) => Some(Expect::One),
+        (Expect::TwoTo9F, 0x80..=0x9F) => Some(Expect::One),
+        (Expect::Three, 0x80..=0xBF) => Some(Expect::Two),
+        (Expect::ThreeFrom90, 0x90..=0xBF) => Some(Expect::Two),
+        (Expect::ThreeTo8F, 0x80..=0x8F) => Some(Expect::Two),
+        _ => None,
     }
-    if c < e.low || e.high < c {
-        return None;
-    }
-    Some(Expect {
-        low: 0x80,
-        high: 0xBF,
-        left: e.left - 1,
-    })
 }
 
 // Whether every byte is below 128. The greatest one tells: its loop has no way out but its end, so the compiler takes many bytes at once.
@@ -60,16 +68,12 @@ pub fn utf8(s: &[u8]) -> bool
     if is_ascii(s) {
         return true;
     }
-    let mut e = Expect {
-        low: 0x80,
-        high: 0xBF,
-        left: 0,
-    };
+    let mut e = Expect::Scalar;
     for c in s {
         match next(e, *c) {
             Some(further) => e = further,
             None => return false,
         }
     }
-    e.left == 0
+    matches!(e, Expect::Scalar)
 }

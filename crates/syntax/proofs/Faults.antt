@@ -4,7 +4,7 @@ use mathlib.Core.Bool.{Bool, false, true, ◌||◌}
 use mathlib.Core.List.{List}
 use Rattle.std.specs.Prelude.{Result as Fallible}
 use Rattle.std.specs.Prelude.{Option, None, Some, Ok, Err}
-use Rattle.std.specs.Prelude.{ok_or}
+use Rattle.std.specs.Prelude.{ok_or, option_map}
 use Rattle.std.specs.Result.{result_ok}
 use mathlib.Core.Path.{ap, refl, subst, sym, ◌∙◌, ◌≡◌}
 use Prim.Native.Nat.{ℕ, ◌*◌, ◌+◌, ◌-◌, ◌<◌, ◌≤◌}
@@ -54,6 +54,7 @@ use Rattle.members.proofs.Walks.{OverNodes, an_element, element_on, full_members
 use Rattle.members.specs.declared.told.Fault.{Fault}
 use Rattle.members.specs.declared.told.Fault.TheVariants as faults
 use Rattle.members.specs.Answers.{FoundLeft, Located, fault_is, form_of, mode_of, operator_of}
+use Rattle.members.specs.Condition as conditions
 use Rattle.members.specs.Condition.{condition, condition_array, conditions_of, every, operators, quantifier}
 use Rattle.members.specs.Faults.{pair_fault, quantifier_fault}
 use Rattle.members.specs.Verdicts.{fault_of}
@@ -104,11 +105,11 @@ module _ {s : Bytes} {w : List ℕ} {left n : ℕ} (h : IsNode s w left n) (k : 
     object_left = (object_at h (sym p ∙ q)).2
 
     module _ (e : ℕ) (j : e ≡ after_at w n) where
-      pub members_left : AreMembers s w (left - 1) (n + 1) e
-      members_left = subst (AreMembers s w (left - 1) (n + 1)) (sym j) (object_at h (sym p ∙ q)).1
+      pub keys_left : AreMembers s w (left - 1) (n + 1) e
+      keys_left = subst (AreMembers s w (left - 1) (n + 1)) (sym j) (object_at h (sym p ∙ q)).1
 
       pub members_full : AreMembers s w 64 (n + 1) e
-      members_full = full_members members_left
+      members_full = full_members keys_left
 
       object_is : value_at s w n ≡ object (members_at s w (n + 1) e)
       object_is = (object_at h (sym p ∙ q)).0 ∙ ap (λ (x : ℕ). object (members_at s w (n + 1) x)) (sym j)
@@ -125,17 +126,17 @@ module _ {s : Bytes} {w : List ℕ} {left n : ℕ} (h : IsNode s w left n) (k : 
           has_one = go (leb e (n + 1)) refl
             where
               go : (b : Bool) → leb e (n + 1) ≡ b → n + 1 < e
-              go true g = absurd (omega (arith, ap (λ (ms : Members). length (entries ms)) (members_done s w members_left (leb-true e (n + 1) g))))
+              go true g = absurd (omega (arith, ap (λ (ms : Members). length (entries ms)) (members_done s w keys_left (leb-true e (n + 1) g))))
               go false g = leb-false e (n + 1) g
 
           the_one : MoreMembers s w (left - 1) (n + 1) e
-          the_one = members_more s w members_left has_one
+          the_one = members_more s w keys_left has_one
 
           pub inner_node : IsNode s w (left - 1) (n + 1 + 1)
           inner_node = the_one.here
 
           pub name_place : (3 * (n + 1) + 3 ≤ length w) × (n + 1 < 4096)
-          name_place = (omega (arith, inside s w inner_node), omega (arith, members_left.most, has_one))
+          name_place = (omega (arith, inside s w inner_node), omega (arith, keys_left.most, has_one))
 
           module _ (a : ℕ) (g : a ≡ start_at w (n + 1)) where
             pub inner_name : OnText s a 0
@@ -150,9 +151,12 @@ module _ {s : Bytes} {w : List ℕ} {left n : ℕ} (h : IsNode s w left n) (k : 
                 ap (λ (x : ℕ). member (text_at s x) (value_at s w (n + 1 + 1)) (members_at s w (after_at w (n + 1 + 1)) e)) (sym g) ∙
                 ap (member (text_at s a) (value_at s w (n + 1 + 1))) (no_entries (members_at s w (after_at w (n + 1 + 1)) e) r))
 
-            module _ (r : Operator) (t : find (text_at s a) operators ≡ operator_of r) where
-              by : (x : Operator) → r ≡ x → fault_of (condition (value_at s w n)) ≡ made (value_at s w (n + 1 + 1)) (operator_of x)
-              by x f = ap (λ (v : Value). fault_of (condition v)) alone ∙ by_operator (text_at s a) (value_at s w (n + 1 + 1)) (t ∙ ap operator_of f)
+            pub cond_unknown : find (text_at s a) operators ≡ None → fault_of (condition (value_at s w n)) ≡ Some wrong_shape
+            cond_unknown f = ap (λ (v : Value). fault_of (condition v)) alone ∙ by_operator (text_at s a) (value_at s w (n + 1 + 1)) f
+
+            module _ (r : Operator) (t : find (text_at s a) operators ≡ Some (operator_of r)) where
+              by : (x : Operator) → r ≡ x → fault_of (condition (value_at s w n)) ≡ made (value_at s w (n + 1 + 1)) (Some (operator_of x))
+              by x f = ap (λ (v : Value). fault_of (condition v)) alone ∙ by_operator (text_at s a) (value_at s w (n + 1 + 1)) (t ∙ ap (λ (y : Operator). Some (operator_of y)) f)
 
               pub cond_junction :
                   (m : Mode) {o : Option Refusal} → r ≡ ops.Junction m → fault_of (condition_array (value_at s w (n + 1 + 1))) ≡ o →
@@ -180,10 +184,6 @@ module _ {s : Bytes} {w : List ℕ} {left n : ℕ} (h : IsNode s w left n) (k : 
               pub cond_not_carried : r ≡ ops.NotCarried → fault_of (condition (value_at s w n)) ≡ Some not_carried
               unfolding operator_of
               cond_not_carried f = by ops.NotCarried f
-
-              pub cond_unknown : r ≡ ops.Unknown → fault_of (condition (value_at s w n)) ≡ Some wrong_shape
-              unfolding operator_of
-              cond_unknown f = by ops.Unknown f
 
         -- ---- a quantifier
         pub quant_several : (c ≡ 3 → ⊥) → quantifier_fault (value_at s w n) ≡ Some wrong_shape
@@ -230,15 +230,19 @@ module _ {s : Bytes} {w : List ℕ} {left n : ℕ} (h : IsNode s w left n) (k : 
                     (value_at s w u) found_that (text_at s (start_at w y)) (ap as_text (text_at_lem hy (sym py ∙ f)).0) ∙
                     g
 
--- a member that code has found, or asked for and not found
-pub found_so : {r : Option ℕ} {x : Fallible ℕ Fault} {n : ℕ} → r ≡ result_ok x → x ≡ Ok n → r ≡ Some n
+-- a member or an operator that code has found, or asked for and not found
+pub found_so : {A : Type 0} {r : Option A} {x : Fallible A Fault} {a : A} → r ≡ result_ok x → x ≡ Ok a → r ≡ Some a
 found_so p q = p ∙ ap result_ok q
 
-pub missed : {r : Option ℕ} {x : Fallible ℕ Fault} {e : Fault} → x ≡ ok_or r faults.Shape → x ≡ Err e → (r ≡ None) × (Some wrong_shape ≡ fault_is (Err e))
+pub known_so : {o : Option conditions.Operator} {r : Option Operator} {x : Fallible Operator Fault} {a : Operator} → o ≡ option_map operator_of r → r ≡ result_ok x →
+    x ≡ Ok a → o ≡ Some (operator_of a)
+known_so t p q = t ∙ ap (option_map operator_of) (found_so p q)
+
+pub missed : {A : Type 0} {r : Option A} {x : Fallible A Fault} {e : Fault} → x ≡ ok_or r faults.Shape → x ≡ Err e → (r ≡ None) × (Some wrong_shape ≡ fault_is (Err e))
 unfolding fault_is
-missed {r} {x} {e} p q = go r (sym p ∙ q)
+missed {A} {r} {x} {e} p q = go r (sym p ∙ q)
   where
-    go : (o : Option ℕ) → ok_or o faults.Shape ≡ Err e → (o ≡ None) × (Some wrong_shape ≡ fault_is (Err e))
+    go : (o : Option A) → ok_or o faults.Shape ≡ Err e → (o ≡ None) × (Some wrong_shape ≡ fault_is (Err e))
     go None i = let z : faults.Shape ≡ e = cc in (refl, ap (λ (y : Fault). fault_is (Err y)) z)
     go (Some n) i = absurd (cc)
 

@@ -1,5 +1,5 @@
 // Conditions: the refusals 10 and 11. A condition's own fault comes before those inside.
-ghost use Rattle.std.specs.Prelude.{◌≡◌, length};
+ghost use Rattle.std.specs.Prelude.{◌≡◌, length, option_map};
 ghost use Rattle.json_text.specs.Bytes.{find};
 ghost use Rattle.json_text.specs.Cursor.{OnText};
 ghost use Rattle.json_text.specs.Held.{AreMembers, AreNodes, IsNode};
@@ -15,7 +15,7 @@ ghost use Rattle.members.specs.Verdicts.{fault_of};
 use members::member::named;
 use members::told::{Fault, Form, Mode, Operator};
 use members::word::is_word;
-use strings::rows::{Kind, after_at, kind_at, start_at};
+use strings::rows::{Elements, Keys, Kind, after_at, kind_at, start_at};
 
 // Every operator by its name.
 const OPERATORS: [(&[u8], Operator); 20] = [
@@ -42,57 +42,34 @@ const OPERATORS: [(&[u8], Operator); 20] = [
 ];
 
 // The operator that a table has under a text.
-fn operator_in(s: &[u8], at: usize, table: &[(&[u8], Operator)]) -> Operator
+fn operator_in(s: &[u8], at: usize, table: &[(&[u8], Operator)]) -> Option<Operator>
     requires { OnText s.now at 0 }
-    ensures { (named : _) → Names table.now named → find (text_at s.now at) named ≡ operator_of result }
+    ensures { (named : _) → Names table.now named → find (text_at s.now at) named ≡ option_map operator_of result }
 {
     for (word, operator) in table {
         if is_word(s, at, word) {
-            return *operator;
+            return Some(*operator);
         }
     }
-    Operator::Unknown
+    None
 }
 
 // The operator that a text names. Those that stand late in the table and are met at every element of a collection are told by
 // their first byte.
-pub fn operator_at(s: &[u8], at: usize) -> Operator
+pub fn operator_at(s: &[u8], at: usize) -> Option<Operator>
     requires { OnText s.now at 0 }
-    ensures { find (text_at s.now at) operators ≡ operator_of result }
+    ensures { find (text_at s.now at) operators ≡ option_map operator_of result }
 {
     match s[at] {
-        b'e' => {
-            if is_word(s, at, b"eq") {
-                return Operator::Pair(Form::Eq);
-            }
-        }
-        b'f' => {
-            if is_word(s, at, b"for_all") {
-                return Operator::Quantified(Mode::Every);
-            }
-            if is_word(s, at, b"for_any") {
-                return Operator::Quantified(Mode::Any);
-            }
-        }
-        b'g' => {
-            if is_word(s, at, b"gt") {
-                return Operator::Pair(Form::Gt);
-            }
-            if is_word(s, at, b"gte") {
-                return Operator::Pair(Form::Gte);
-            }
-        }
-        b'l' => {
-            if is_word(s, at, b"lt") {
-                return Operator::Pair(Form::Lt);
-            }
-            if is_word(s, at, b"lte") {
-                return Operator::Pair(Form::Lte);
-            }
-        }
-        _ => {}
+        b'e' if is_word(s, at, b"eq") => Some(Operator::Pair(Form::Eq)),
+        b'f' if is_word(s, at, b"for_all") => Some(Operator::Quantified(Mode::Every)),
+        b'f' if is_word(s, at, b"for_any") => Some(Operator::Quantified(Mode::Any)),
+        b'g' if is_word(s, at, b"gt") => Some(Operator::Pair(Form::Gt)),
+        b'g' if is_word(s, at, b"gte") => Some(Operator::Pair(Form::Gte)),
+        b'l' if is_word(s, at, b"lt") => Some(Operator::Pair(Form::Lt)),
+        b'l' if is_word(s, at, b"lte") => Some(Operator::Pair(Form::Lte)),
+        _ => operator_in(s, at, &OPERATORS),
     }
-    operator_in(s, at, &OPERATORS)
 }
 
 // How many members stand from `from` up to `end`. The rows tell no number, so the walk counts. Not one function with `count_elements`: its contract would be these two by cases.
@@ -100,13 +77,7 @@ pub fn count_members(s: &[u8], work: &[u32], from: usize, end: usize) -> usize
     requires { AreMembers s.now work.now 64 from end }
     ensures { result ≡ length (entries (members_at s.now work.now from end)) }
 {
-    let mut n = 0;
-    let mut k = from;
-    while k < end {
-        n += 1;
-        k = after_at(work, k + 1);
-    }
-    n
+    Keys::new(work, from, end).count()
 }
 
 // How many elements stand from `from` up to `end`, counted along the rows as members are.
@@ -114,13 +85,7 @@ pub fn count_elements(s: &[u8], work: &[u32], from: usize, end: usize) -> usize
     requires { AreNodes s.now work.now 64 from end }
     ensures { result ≡ length (elements (values_at s.now work.now from end)) }
 {
-    let mut n = 0;
-    let mut k = from;
-    while k < end {
-        n += 1;
-        k = after_at(work, k);
-    }
-    n
+    Elements::new(work, from, end).count()
 }
 
 // The fault of a pair form that holds the node: exactly two operands.
@@ -128,14 +93,13 @@ pub fn pair_fault(s: &[u8], work: &[u32], node: usize) -> Result<(), Fault>
     requires { IsNode s.now work.now 64 node }
     ensures { pair_fault (value_at s.now work.now node) ≡ fault_is result }
 {
-    if kind_at(work, node) != Kind::Array {
-        return Err(Fault::Shape);
+    if kind_at(work, node) == Kind::Array
+        && count_elements(s, work, node + 1, after_at(work, node)) == 2
+    {
+        Ok(())
+    } else {
+        Err(Fault::Shape)
     }
-    let end = after_at(work, node);
-    if count_elements(s, work, node + 1, end) == 2 {
-        return Ok(());
-    }
-    Err(Fault::Shape)
 }
 
 // The fault of a condition that begins first, the condition's own or one inside; `left` brackets may open in it.
@@ -155,14 +119,13 @@ pub fn condition(s: &[u8], work: &[u32], node: usize, left: usize) -> Result<(),
         return Err(Fault::Shape);
     }
     let inner = from + 1;
-    match operator_at(s, start_at(work, from)) {
+    match operator_at(s, start_at(work, from)).ok_or(Fault::Shape)? {
         Operator::Junction(_) => conditions(s, work, inner, left - 1),
         Operator::Negation => condition(s, work, inner, left - 1),
         Operator::Exists => Ok(()),
         Operator::Pair(_) => pair_fault(s, work, inner),
         Operator::Quantified(_) => quantifier(s, work, inner, left - 1),
         Operator::NotCarried => Err(Fault::NotCarried),
-        Operator::Unknown => Err(Fault::Shape),
     }
 }
 
@@ -176,11 +139,8 @@ pub fn conditions(s: &[u8], work: &[u32], node: usize, left: usize) -> Result<()
         return Err(Fault::Shape);
     }
     let end = after_at(work, node);
-    let mut k = node + 1;
-    // from row to row, as each row says which is next: no range counts these
-    while k < end {
+    for k in Elements::new(work, node + 1, end) {
         condition(s, work, k, left - 1)?;
-        k = after_at(work, k);
     }
     Ok(())
 }

@@ -1,25 +1,51 @@
 -- The string scanner and the escape, by place: a law for each turn of the code.
 -- Assumes nothing.
-use mathlib.Core.Bool.{false, true}
+use mathlib.Core.Bool.{Bool, false, true}
 use mathlib.Core.List.{[], ◌++◌, ◌∷◌}
-use mathlib.Core.Path.{refl, ◌∙◌, ◌≡◌}
+use mathlib.Core.Path.{refl, subst, sym, ◌∙◌, ◌≡◌}
 use Prim.Native.Nat.{suc, zero, ℕ, ◌+◌, ◌-◌, ◌<◌, ◌≤◌}
 use native.Mathlib.Numerals.{add-one}
 use native.Mathlib.Omega.{arith}
 use lib.ListN.{drop, drop_of_length-le, get_or, length, length-drop}
 use lib.Seq.{drop-cons}
 use Rattle.json_text.proofs.Complete.{escape_length}
+use Rattle.json_text.proofs.Laws.{ok_injective}
 use Rattle.json_text.proofs.Sound.{escape_sound}
 use Rattle.json_text.proofs.Texts.{escape_is}
 use Rattle.json_text.specs.Bytes.{Bytes, choose}
 use Rattle.json_text.specs.Escapes.{escaped}
-use Rattle.json_text.specs.Placing.{chars_at, place_of, skip_at}
+use Rattle.json_text.specs.Placing.{byte_at, chars_at, place_of, skip_at}
 use Rattle.json_text.specs.Refusal.{Result, not_json, ok, refused, ◌>>=◌}
 use Rattle.json_text.specs.Scan.{Read, is_space, skip}
 use Rattle.json_text.specs.Strings.{Char, backslash, char, chars, control, escape, other, quote}
 use Rattle.json_text.specs.Utf8.{encode}
-use borrow.Author.Tests.{le-ltb, lt-ltb, ne_eqb}
+use borrow.Author.Tests.{eq-eqb, eqb-true, le-ltb, lt-ltb, ne_eqb}
+use Rattle.std.specs.Borrow.{Bor}
+use Rattle.std.specs.Prelude.{None, Option, option_map, unwrap_or}
+use lib.Dec.{eqb}
 
+-- what `get` says of a place where nothing stands
+pub none_there : (s : Bytes) (at : ℕ) {r : Option (Bor ℕ)} → unwrap_or (option_map (λ (x : Bor ℕ). x.now) r) 0 ≡ get_or s at 0 → r ≡ None → get_or s at 0 ≡ 0
+none_there s at h e = sym (subst (λ (r : Option (Bor ℕ)). unwrap_or (option_map (λ (x : Bor ℕ). x.now) r) 0 ≡ get_or s at 0) e h)
+
+-- ---- one byte
+pub byte_is : (c : ℕ) (s : Bytes) (at : ℕ) → get_or s at 0 ≡ c → byte_at c s at ≡ ok (at + 1)
+unfolding byte_at
+byte_is c s at e = rw (eq-eqb c (get_or s at 0) (sym e), byte_at)
+
+pub byte_not : (c : ℕ) (s : Bytes) (at : ℕ) → (get_or s at 0 ≡ c → ⊥) → byte_at c s at ≡ refused not_json
+unfolding byte_at
+byte_not c s at f = rw (ne_eqb c (get_or s at 0) (λ e. f (sym e)), byte_at)
+
+pub byte_was : (c : ℕ) (s : Bytes) (at a : ℕ) → byte_at c s at ≡ ok a → (get_or s at 0 ≡ c) × (a ≡ at + 1)
+unfolding byte_at
+byte_was c s at a e = go (eqb c (get_or s at 0)) refl
+  where
+    go : (b : Bool) → eqb c (get_or s at 0) ≡ b → (get_or s at 0 ≡ c) × (a ≡ at + 1)
+    go true q = (sym (eqb-true c (get_or s at 0) q), sym (ok_injective (rw (q, byte_at) at e)))
+    go false q = let f : refused not_json ≡ ok a = rw (q, byte_at) at e in let z : ◌≡◌ {A = ℕ} 0 1 = cc in absurd (omega arith)
+
+-- ---- a text
 -- enough steps are enough
 pub chars_enough : (n m : ℕ) (t : Bytes) → length t ≤ n → length t ≤ m → chars n t ≡ chars m t
 unfolding chars

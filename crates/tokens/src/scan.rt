@@ -1,7 +1,7 @@
 // Scans of the sheet: spaces, and a text up to its closing quote.
-ghost use Rattle.std.specs.Prelude.{◌≡◌, ◌≤◌, get_or, length};
+ghost use Rattle.std.specs.Prelude.{◌≡◌, ◌≤◌, ◌<◌, length};
 ghost use Rattle.json_text.specs.Scan.{is_space};
-ghost use Rattle.json_text.specs.Placing.{chars_at, skip_at, word_at};
+ghost use Rattle.json_text.specs.Placing.{byte_at, chars_at, skip_at, word_at};
 ghost use Rattle.strings.specs.Answers.{scan_of};
 
 use strings::answer::Refusal;
@@ -62,11 +62,15 @@ pub fn skip(s: &[u8], at: usize) -> usize
     s.len()
 }
 
-// The byte at a place; 0 past the end, which is no byte of JSON outside a text.
-pub fn byte_at(s: &[u8], at: usize) -> u8
-    ensures { result ≡ get_or s.now at 0 }
+// The place behind the byte `c`, which has to stand at `at`.
+pub fn byte(s: &[u8], at: usize, c: u8) -> Result<usize, Refusal>
+    requires { 0 < c }
+    ensures { byte_at c s.now at ≡ scan_of result }
 {
-    s.get(at).copied().unwrap_or(0)
+    match s.get(at) {
+        Some(d) if *d == c => Ok(at + 1),
+        _ => Err(Refusal::NotJson),
+    }
 }
 
 // The place behind the word `w`.

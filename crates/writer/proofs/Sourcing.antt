@@ -137,9 +137,6 @@ module _ {s : Bytes} {w : List ℕ} {whole : List Bytes} {a b : Output} {k e : �
     pub source_node : IsNode s w g.left k
     source_node = (values_more s w g.nodes h).here
 
-    pub source_falls : {j : ℕ} → j ≡ after_at w k → (k < j) × (j ≤ e)
-    source_falls q = rw q ((values_more s w g.nodes h).past, (values_more s w g.nodes h).upto)
-
     pub next_source : {j t : ℕ} {c : Output} → t ≡ start_at w k → j ≡ after_at w k → Laid b (32 ∷ quoted (text_at s t)) c → Sourcing s w whole a c j e
     next_source i q l =
         let f = first in

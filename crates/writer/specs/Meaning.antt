@@ -1,9 +1,8 @@
 -- What an answer of the code says of the sheet and the table: the verdict or refusal with its texts and names.
 -- Assumes nothing.
-use Rattle.std.specs.Prelude.{List, ◌≡◌, ℕ, length}
+use Rattle.std.specs.Prelude.{List, ℕ}
 use Rattle.semantics.specs.Names.{Names, ascending}
 use Rattle.semantics.specs.Truth as truths
-use Rattle.answers.specs.Reply.{line_size, output_after, reply}
 use Rattle.writer.specs.Texts.{IsText, NamesHeld, TextsHeld, text_of, texts_in}
 use Rattle.answers.specs.Verdict.{Verdict, admitted, answered, passed, selected}
 use Rattle.json_text.specs.Bytes.{Bytes}
@@ -18,7 +17,6 @@ use Rattle.writer.specs.declared.answer.Answer.TheVariants as answers
 use Rattle.writer.specs.declared.answer.Rule.{Rule}
 use Rattle.writer.specs.declared.answer.Rules.{Rules}
 use Rattle.writer.specs.declared.answer.Rules.TheVariants as rules
-use Rattle.writer.specs.declared.answer.Sent.{Sent}
 
 -- the names, each once and ascending
 abbrev pub names_in : Bytes → List ℕ → Names
@@ -66,9 +64,3 @@ Held s w answers.NoOutcome = Unit {0}
 Held s w (answers.GuardUnknown o) = OnText s o.name 0 × NamesHeld s w
 Held s w (answers.WrongState e) = OnText s e 0
 Held s w (answers.NotASource m) = OnText s m.outcome.name 0 × OnText s m.state 0 × TextsHeld s w m.from
-
--- an answer given back: its number, its line's size, and its line at the start of the output, or 23 and nothing changed
-pub record Emitted (s : Bytes) (w : List ℕ) (a : Answer) (o o' : Bytes) (r : Sent) : Type 0 where
-  pub number : r.number ≡ (reply (length o) (meaning s w a)).number
-  pub size : r.size ≡ line_size (reply (length o) (meaning s w a))
-  pub output : o' ≡ output_after (reply (length o) (meaning s w a)) o

@@ -70,10 +70,3 @@ pub enum Answer {
     WrongState(usize),
     NotASource(Move),
 }
-
-// The number of an answer, and the bytes of its line, 0 where it has none.
-#[derive(Clone, Copy)]
-pub struct Sent {
-    pub number: usize,
-    pub size: usize,
-}

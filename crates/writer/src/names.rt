@@ -47,7 +47,7 @@ impl<'a> Output<'a> {
     {
         let mut last = None;
         for &node in nodes {
-            let text = start_at(work, node as usize);
+            let text = start_at(work, usize::from(node));
             if !is_again(s, last, text) {
                 self.element(s, text);
             }

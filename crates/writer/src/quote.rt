@@ -6,7 +6,7 @@ ghost use Rattle.writer.specs.Laid.{Laid};
 ghost use Rattle.answers.specs.Line.{quoted};
 
 use crate::lay::Output;
-use strings::text::{begin, next};
+use strings::text::Decoded;
 
 impl<'a> Output<'a> {
     // The text that starts at `text`.
@@ -15,10 +15,8 @@ impl<'a> Output<'a> {
         ensures { Laid self.old (quoted (text_at s.now text)) self.new }
     {
         self.byte(b'"');
-        let mut cursor = begin(text);
-        while let Some(taken) = next(s, cursor) {
-            self.quoted_byte(taken.byte);
-            cursor = taken.rest;
+        for b in Decoded::new(s, text) {
+            self.quoted_byte(b);
         }
         self.byte(b'"');
     }

@@ -6,7 +6,7 @@ ghost use Rattle.answers.specs.Line.{listed};
 ghost use Rattle.writer.specs.Texts.{TextsHeld, texts_in};
 
 use crate::lay::Output;
-use strings::rows::{Kind, after_at, kind_at, start_at};
+use strings::rows::{Elements, Kind, after_at, kind_at, start_at};
 
 impl<'a> Output<'a> {
     pub fn sources(&mut self, s: &[u8], work: &[u32], node: usize)
@@ -20,11 +20,8 @@ impl<'a> Output<'a> {
             return;
         }
         let end = after_at(work, node);
-        let mut k = node + 1;
-        // From row to row by what each holds: no range counts these.
-        while k < end {
+        for k in Elements::new(work, node + 1, end) {
             self.element(s, start_at(work, k));
-            k = after_at(work, k);
         }
         self.byte(b')');
     }

@@ -3,6 +3,7 @@
 use Rattle.std.proofs.Common.{ap, ◌∙◌}
 use Rattle.json_text.specs.Orders.{order_of}
 use Rattle.number.specs.Compare.{is_negative, is_nought, is_positive}
+use Rattle.number.proofs.Parts.{parsed_trimmed}
 use Rattle.number.proofs.Steps.{alike, apart, left_long, right_long}
 use Rattle.number.proofs.compare.Goals.{then-left-gt-LONGEST-via-else-left-gt-LONGEST+then-right-gt-LONGEST, then-left-gt-LONGEST-via-then-left-gt-LONGEST}
 use Rattle.number.proofs.compare.Goals as goal
@@ -13,6 +14,12 @@ returns-then-left-gt-LONGEST c =
       | then-left-gt-LONGEST-via-then-left-gt-LONGEST w ↦ left_long c.args.left.now c.args.right.now w.if-left-gt-LONGEST.true
       | then-left-gt-LONGEST-via-else-left-gt-LONGEST+then-right-gt-LONGEST w ↦ right_long c.args.left.now c.args.right.now w.if-left-gt-LONGEST.false w.if-right-gt-LONGEST.true
     ]
+
+pub sign-x-requires : goal.sign-x-requires
+sign-x-requires c = parsed_trimmed c.args.left.now _ c.parse-a.ensures
+
+pub sign-y-requires : goal.sign-y-requires
+sign-y-requires c = parsed_trimmed c.args.right.now _ c.parse-b.ensures
 
 pub returns-then-ne : goal.returns-then-ne
 returns-then-ne c =

@@ -1,6 +1,5 @@
 -- `admission::admit::entry` meets its contract: from the node that is found under `name`.
 -- Assumes nothing.
-use Rattle.members.proofs.Walks.{room}
 use Rattle.admission.proofs.Admitting.{entered, name_room}
 use Rattle.admission.proofs.admit.entry.Goals as goal
 

@@ -1,6 +1,5 @@
 -- `admission::eligible::fits` meets its contract: by which of the two states are there.
 -- Assumes nothing.
-use mathlib.Core.Path.{refl}
 use Rattle.members.specs.Kinds.{a_text}
 use Rattle.rules.proofs.Eligibility.{both_states, no_own, no_state, state_on_text, there_room}
 use Rattle.admission.proofs.eligible.fits.Goals as goal

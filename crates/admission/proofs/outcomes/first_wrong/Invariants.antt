@@ -1,11 +1,12 @@
 -- `admission::outcomes::first_wrong` meets its contract: the loop says that the search from its node on is the whole search.
 -- Assumes nothing.
-use Prim.Native.Nat.{◌-◌}
+use Rattle.std.specs.Iterator.Adapters.{enumerate_count, enumerate_source}
 use Rattle.admission.proofs.Seeking.{Passing}
+use Rattle.strings.proofs.Nodes.{Along}
+use Rattle.strings.specs.Leads.{of_array}
+use Rattle.strings.specs.Nodes.{elements_left}
 use Rattle.admission.proofs.outcomes.first_wrong.Given as goal
 
-abbrev pub invariant-loop-here : goal.invariant-loop-here
-invariant-loop-here l = Passing l.s l.work l.from l.end l.here.place l.here.node
-
-abbrev pub decreases-loop-here : goal.decreases-loop-here
-decreases-loop-here l = l.end - l.here.node
+abbrev pub invariant-loop-place : goal.invariant-loop-place
+invariant-loop-place l =
+    Along l.work of_array l.end (Passing l.s l.work l.from l.end (enumerate_count l.place-iterator)) (elements_left (enumerate_source l.place-iterator))

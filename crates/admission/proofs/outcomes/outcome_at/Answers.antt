@@ -1,31 +1,29 @@
--- `admission::outcomes::outcome_at` meets its contract: the loop counts the places that it has passed.
+-- `admission::outcomes::outcome_at` meets its contract: as many outcomes come before it as its place says.
 -- Assumes nothing.
 use native.Mathlib.Omega.{arith}
-use Rattle.admission.proofs.Seeking.{at_place, counting, counts_on, past_all, spot_falls}
-use Rattle.rules.proofs.Walking.{element_room}
+use Rattle.admission.proofs.Seeking.{Passed, at_place, passed, passed_on, past_all}
+use Rattle.strings.proofs.Members.{elements_lead}
+use Rattle.strings.proofs.Nodes.{begun, counted, over, turn}
+use Rattle.strings.specs.Nodes.{elements_left}
 use Rattle.admission.proofs.outcomes.outcome_at.Goals as goal
 
-pub loop-here-init : goal.loop-here-init
-loop-here-init c = (c.requires, λ s g. counting c.args.place g)
+pub new-requires : goal.new-requires
+new-requires c = elements_lead c.requires.known.known.nodes
 
-pub returns-then-here-place : goal.returns-then-here-place
-returns-then-here-place c = λ s os g. at_place (c.loop-here.invariant.1 s (record { given = os; known = g })) c.loop-here-test.true c.if-here-place.true os g
-
-pub next-here-requires : goal.next-here-requires
-next-here-requires c =
-    let l = c.loop-here.invariant.1 c.loop-here.invariant.0.given c.loop-here.invariant.0.known in
-    let x = element_room l.walking c.loop-here-test.true in
-    (l.low, x.0, x.1)
-
-pub loop-here-smaller : goal.loop-here-smaller
-loop-here-smaller c =
-    let l = c.loop-here.invariant.1 c.loop-here.invariant.0.given c.loop-here.invariant.0.known in
-    let f = spot_falls l.walking c.loop-here-test.true c.next-here.ensures in
-    omega (arith, f.0, f.1)
-
-pub loop-here-preserved : goal.loop-here-preserved
-loop-here-preserved c =
-    (c.loop-here.invariant.0, λ s g. counts_on (c.loop-here.invariant.1 s g) c.loop-here-test.true c.if-here-place.false c.next-here.ensures)
+pub returns-in_err-node : goal.returns-in_err-node
+returns-in_err-node c =
+    rw c.from_residual.ensures
+    (λ s os g.
+    let r = c.in_err-node.ensures.ran in
+    let first = begun c.new.ensures (passed (record { given = os; known = g })) in
+    let a = counted elements_left (Passed s c.args.work.now c.args.from c.args.end) (λ n k p h. passed_on p h) 0 r.0 r.1.1 first in
+    past_all a.rest c.args.place os g (over a r.1.2) (omega (arith, r.2)))
 
 pub returns : goal.returns
-returns c = λ s os g. past_all (c.loop-here.invariant.1 s (record { given = os; known = g })) c.loop-here-test.false os g
+returns c =
+    λ s os g.
+    let r = c.in_ok-node.ensures.ran in
+    let first = begun c.new.ensures (passed (record { given = os; known = g })) in
+    let a = counted elements_left (Passed s c.args.work.now c.args.from c.args.end) (λ n k p h. passed_on p h) 0 r.0 r.1.1 first in
+    let t = turn a r.1.2 in
+    at_place t.here c.args.place os g t.more (omega (arith, r.2))

@@ -2,10 +2,8 @@
 -- Assumes nothing.
 use Rattle.std.proofs.Common.{rules}
 use Rattle.std.specs.Prelude.{Some}
-use mathlib.Core.List.{List}
 use mathlib.Core.Path.{◌≡◌}
 use Prim.Native.Nat.{ℕ}
-use Rattle.json_text.specs.Bytes.{Bytes}
 use Rattle.json_text.specs.Spans.{text_at}
 use Rattle.members.specs.Kinds.{some_texts}
 use Rattle.members.specs.Outcome.{or_stays}

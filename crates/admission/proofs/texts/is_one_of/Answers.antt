@@ -25,21 +25,21 @@ returns-then-eq c =
     λ ts g. alone_same g (is_kind _ kinds.Text c.kind_at.ensures (sym c.if-eq.true ∙ c.eq.ensures))
     c.start_at.ensures _ _ c.same.ensures
 
-pub after_at-end-requires : goal.after_at-end-requires
-after_at-end-requires c = room c.requires.0.known.node
+pub after_at-requires : goal.after_at-requires
+after_at-requires c = room c.requires.0.known.node
 
 pub is_among-requires : goal.is_among-requires
 is_among-requires c = (
   record {
     given = c.requires.0.given;
     known = behind c.requires.0.known (is_other _ kinds.Text c.kind_at.ensures (sym c.if-eq.false ∙ c.eq.ensures))
-        c.after_at-end.ensures;
+        c.after_at.ensures;
   },
   c.requires.1,
 )
 
-pub returns : goal.returns
-returns c =
+pub returns-else-eq : goal.returns-else-eq
+returns-else-eq c =
     λ ts g. c.is_among.ensures ts
     (behind g (is_other _ kinds.Text c.kind_at.ensures (sym c.if-eq.false ∙ c.eq.ensures))
-    c.after_at-end.ensures)
+    c.after_at.ensures)

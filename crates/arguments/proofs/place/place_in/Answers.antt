@@ -2,19 +2,20 @@
 -- Assumes nothing.
 use mathlib.Core.Path.{◌∙◌}
 use native.Mathlib.Omega.{arith}
-use Rattle.arguments.proofs.First.{no_place, no_zero_in_front, one_byte, zero_in_front}
+use Rattle.std.proofs.lemmas.Grind.{common_steps}
+use Rattle.arguments.proofs.First.{no_place, no_zero_in_front, zero_in_front}
 use Rattle.arguments.proofs.place.place_in.Goals as goal
-use Rattle.arguments.proofs.place.place_in.Goals.{else-text-gt1-via-then-text-gt1+else-text-eq48, else-text-gt1-via-else-text-gt1}
+use Rattle.arguments.proofs.place.place_in.Goals.{in_default-via-then-text-lt2, in_default-via-else-text-lt2+in_default-1}
 
-pub returns-then-text-eq0 : goal.returns-then-text-eq0
-returns-then-text-eq0 c = no_place c.args.text.now c.if-text-eq0.true
+pub returns-in-empty : goal.returns-in-empty
+returns-in-empty c = no_place c.args.text.now (omega arith)
 
-pub returns-then-text-eq48 : goal.returns-then-text-eq48
-returns-then-text-eq48 c = zero_in_front c.args.text.now c.if-text-gt1.true c.if-text-eq48.true
+pub returns-in-empty-2 : goal.returns-in-empty-2
+returns-in-empty-2 c = zero_in_front c.args.text.now (omega arith) (omega arith)
 
-pub returns : goal.returns
-returns c =
-    c.number.ensures ∙ elim c.else-text-gt1.branch [
-      | else-text-gt1-via-then-text-gt1+else-text-eq48 w ↦ no_zero_in_front c.args.text.now w.if-text-gt1.true w.if-text-eq48.false
-      | else-text-gt1-via-else-text-gt1 w ↦ one_byte c.args.text.now (omega (arith, c.if-text-eq0.false, w.if-text-gt1.false))
+pub returns-in_default : goal.returns-in_default
+returns-in_default c =
+    c.number.ensures ∙ elim c.in_default.branch [
+      | in_default-via-then-text-lt2 w ↦ no_zero_in_front c.args.text.now (grind (arith, common_steps)) (grind (arith, common_steps))
+      | in_default-via-else-text-lt2+in_default-1 w ↦ no_zero_in_front c.args.text.now (grind (arith, common_steps)) (grind (arith, common_steps))
     ]

@@ -7,19 +7,6 @@ use Rattle.arguments.proofs.First.{begins_by_pairs}
 use Rattle.arguments.specs.Words.{option_of}
 use Rattle.arguments.proofs.word.option.Goals as goal
 
-pub returns-then-eq : goal.returns-then-eq
-unfolding option_of
-returns-then-eq c =
-    rw (by_equality c.args.text.now _ (ascii "--help") c.eq.ensures c.as_slice.ensures c.if-eq.true)
-
-pub returns-then-eq-2 : goal.returns-then-eq-2
-unfolding option_of
-returns-then-eq-2 c =
-    rw (
-      by_equality c.args.text.now _ (ascii "--help") c.eq.ensures c.as_slice.ensures c.if-eq.false,
-      by_equality c.args.text.now _ (ascii "--version") c.eq-else-eq.ensures c.as_slice-else-eq.ensures c.if-eq-2.true,
-    )
-
 pub returns-then-starts_with : goal.returns-then-starts_with
 unfolding option_of
 returns-then-starts_with c =
@@ -27,13 +14,4 @@ returns-then-starts_with c =
       by_equality c.args.text.now _ (ascii "--help") c.eq.ensures c.as_slice.ensures c.if-eq.false,
       by_equality c.args.text.now _ (ascii "--version") c.eq-else-eq.ensures c.as_slice-else-eq.ensures c.if-eq-2.false,
       sym (begins_by_pairs 45 c.args.text.now) ∙ sym c.starts_with.ensures.value ∙ c.if-starts_with.true,
-    )
-
-pub returns-else-starts_with : goal.returns-else-starts_with
-unfolding option_of
-returns-else-starts_with c =
-    rw (
-      by_equality c.args.text.now _ (ascii "--help") c.eq.ensures c.as_slice.ensures c.if-eq.false,
-      by_equality c.args.text.now _ (ascii "--version") c.eq-else-eq.ensures c.as_slice-else-eq.ensures c.if-eq-2.false,
-      sym (begins_by_pairs 45 c.args.text.now) ∙ sym c.starts_with.ensures.value ∙ c.if-starts_with.false,
     )

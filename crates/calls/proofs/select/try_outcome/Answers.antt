@@ -1,5 +1,6 @@
 -- `calls::select::try_outcome` meets its contract: by whether the outcome is eligible.
 -- Assumes nothing.
+use Rattle.members.proofs.Verdicts.{handed_on}
 use Rattle.calls.proofs.Trying.{by_its_guard, passed_over}
 use Rattle.calls.proofs.select.try_outcome.Goals as goal
 
@@ -17,13 +18,19 @@ try_guard-requires c = (
   c.requires.2,
 )
 
-pub returns-then-eligible : goal.returns-then-eligible
-returns-then-eligible c =
+pub returns-in_ok-try_guard : goal.returns-in_ok-try_guard
+returns-in_ok-try_guard c =
     λ sheet o a g. let x = c.members_at-o.ensures o g in
     by_its_guard c.args.s.now c.args.work.now sheet c.args.p.place o _ (c.eligible.ensures o sheet.state x a.state) c.if-eligible.true
-    (c.try_guard.ensures sheet o.when o a x.when g)
+    (c.in_ok-try_guard.ensures sheet o.when o a x.when g)
 
-pub returns : goal.returns
-returns c =
-    λ sheet o a g. passed_over c.args.s.now c.args.work.now sheet c.args.p.place o _
-    (c.eligible.ensures o sheet.state (c.members_at-o.ensures o g) a.state) c.if-eligible.false
+pub returns-in_err-try_guard : goal.returns-in_err-try_guard
+returns-in_err-try_guard c =
+    λ sheet o a g. let x = c.members_at-o.ensures o g in
+    by_its_guard c.args.s.now c.args.work.now sheet c.args.p.place o _ (c.eligible.ensures o sheet.state x a.state) c.if-eligible.true
+    (rw (handed_on _ c.from_residual.ensures.1) (c.in_err-try_guard.ensures sheet o.when o a x.when g))
+
+pub returns-else-eligible : goal.returns-else-eligible
+returns-else-eligible c =
+    λ sheet o a g. rw c.if-eligible.false (passed_over c.args.s.now c.args.work.now sheet c.args.p.place o _
+    (c.eligible.ensures o sheet.state (c.members_at-o.ensures o g) a.state) c.if-eligible.false)

@@ -19,7 +19,7 @@ found x = Ok x
 pub returns-in_err-a : goal.returns-in_err-a
 returns-in_err-a c =
     let r : c.from_residual.result ≡ Err c.in_err-a.field-0.0 = search rules in
-    rw r (refused_first c.resolve.ensures _ c.in_err-a.was (pair_refused (sheet_in c.args.s.now) (frames_of c.args.s.now (table c.args.work.now) c.args.scope.frames) (form_of c.args.form)
+    rw r (refused_first c.resolve.ensures _ c.in_err-a.was (pair_refused (sheet_in c.args.s.now) (frames_of c.args.s.now (table c.args.work.now) c.args.scope.now.frames) (form_of c.args.form)
     (tree c.args.s.now (table c.args.work.now) c.args.m) (tree c.args.s.now (table c.args.work.now) c.args.n)))
 
 pub resolve-requires-2 : goal.resolve-requires-2
@@ -29,7 +29,7 @@ resolve-requires-2 c =
 pub returns-in_err-b : goal.returns-in_err-b
 returns-in_err-b c =
     let r : c.from_residual-in_err-b.result ≡ Err c.in_err-b.field-0.0 = search rules in
-    rw r (right_refused (sheet_in c.args.s.now) (frames_of c.args.s.now (table c.args.work.now) c.args.scope.frames) (form_of c.args.form)
+    rw r (right_refused (sheet_in c.args.s.now) (frames_of c.args.s.now (table c.args.work.now) c.args.scope.now.frames) (form_of c.args.form)
     (tree c.args.s.now (table c.args.work.now) c.args.m) (tree c.args.s.now (table c.args.work.now) c.args.n) c.resolve.ensures
     (rw c.resolve.ensures.left.rows at c.resolve-2.ensures) _ c.in_ok-a.was _ c.in_err-b.was)
 
@@ -42,19 +42,19 @@ holds-requires c = (
 
 pub returns-in-Some-Some : goal.returns-in-Some-Some
 returns-in-Some-Some c =
-    both_present (sheet_in c.args.s.now) (frames_of c.args.s.now (table c.args.work.now) c.args.scope.frames) (form_of c.args.form)
+    both_present (sheet_in c.args.s.now) (frames_of c.args.s.now (table c.args.work.now) c.args.scope.now.frames) (form_of c.args.form)
     (tree c.args.s.now (table c.args.work.now) c.args.m) (tree c.args.s.now (table c.args.work.now) c.args.n) c.resolve.ensures
     (rw c.resolve.ensures.left.rows at c.resolve-2.ensures) _ _ (c.in_ok-a.was ∙ ap found c.in-Some-Some.is-0) (c.in_ok-b.was ∙ ap found c.in-Some-Some.is-1)
     (c.from.ensures ∙ ap of_bool (rw (c.resolve-2.ensures.left.rows ∙ c.resolve.ensures.left.rows) at c.holds.ensures))
 
 pub returns-in_default : goal.returns-in_default
 returns-in_default c =
-    right_missing (sheet_in c.args.s.now) (frames_of c.args.s.now (table c.args.work.now) c.args.scope.frames) (form_of c.args.form)
+    right_missing (sheet_in c.args.s.now) (frames_of c.args.s.now (table c.args.work.now) c.args.scope.now.frames) (form_of c.args.form)
     (tree c.args.s.now (table c.args.work.now) c.args.m) (tree c.args.s.now (table c.args.work.now) c.args.n) c.resolve.ensures
     (rw c.resolve.ensures.left.rows at c.resolve-2.ensures) _ (c.in_ok-a.was ∙ ap found c.in_default.is-0) (c.in_ok-b.was ∙ ap found c.in_default.is-1)
 
 pub returns-in_default-2 : goal.returns-in_default-2
 returns-in_default-2 c =
-    left_missing (sheet_in c.args.s.now) (frames_of c.args.s.now (table c.args.work.now) c.args.scope.frames) (form_of c.args.form)
+    left_missing (sheet_in c.args.s.now) (frames_of c.args.s.now (table c.args.work.now) c.args.scope.now.frames) (form_of c.args.form)
     (tree c.args.s.now (table c.args.work.now) c.args.m) (tree c.args.s.now (table c.args.work.now) c.args.n) c.resolve.ensures
     (rw c.resolve.ensures.left.rows at c.resolve-2.ensures) (c.in_ok-a.was ∙ ap found c.in_default.is-0) _ c.in_ok-b.was

@@ -1,12 +1,11 @@
 -- A condition, a junction, a quantifier, the walk over what it binds and its body for one part meet their contracts. What falls is the brackets left.
 -- Assumes nothing.
-use mathlib.Core.Logic.{inl, inr}
 use mathlib.Core.Path.{ap, subst, sym, ◌∙◌, ◌≡◌}
 use native.Mathlib.Omega.{arith}
 use borrow.Author.Rules.{rules}
-use Rattle.std.specs.Prelude.{Option, Ok, Err, Result as Fallible}
+use Rattle.std.specs.Prelude.{Option, Ok, Err, Result as Fallible, option_map}
 use Rattle.sheet.proofs.GivenConditions.{given_carried, given_known}
-use Rattle.members.specs.Answers.{mode_of}
+use Rattle.members.specs.Answers.{mode_of, operator_of}
 use Rattle.resolving.proofs.Alike.{begin_room, holder_class}
 use Rattle.resolving.proofs.Marking.{ready_after}
 use Rattle.resolving.proofs.Slices.{node_room}
@@ -60,7 +59,6 @@ use Rattle.evaluation.proofs.Quantifiers.{
   pushed,
   quantify_each,
   quantify_falls,
-  quantify_long,
   quantify_missing,
   quantify_stops,
   turn_begin,
@@ -68,7 +66,6 @@ use Rattle.evaluation.proofs.Quantifiers.{
   turn_end,
   turn_given,
   turn_gives,
-  turn_long,
   turn_node,
   turn_on,
   turn_refused,
@@ -81,7 +78,7 @@ abbrev found : Option Operand → Fallible (Option Operand) EvalError
 found o = Ok o
 
 pub each-returns-in_default : goal.each-returns-in_default
-each-returns-in_default t c = each_unknown c.args.s.now c.args.work.now (sheet_in c.args.s.now) c.args.scope.frames (mode_of c.args.q.mode) c.args.q.name c.args.q.body c.args.o
+each-returns-in_default t c = each_unknown c.args.s.now c.args.work.now (sheet_in c.args.s.now) c.args.scope.now.frames (mode_of c.args.q.mode) c.args.q.name c.args.q.body c.args.o
     (subst Flat c.class.ensures (record { no_array = c.in_default.not-Array; no_object = c.in_default.not-Object }))
 
 pub each-of-c-requires : goal.each-of-c-requires
@@ -99,7 +96,7 @@ each-loop-x-init t c =
       | each-in-Array w ↦ rw w.named-is (sym c.class.ensures ∙ w.in-Array.is)
       | each-in-Object w ↦ rw w.named-is (sym c.class.ensures ∙ w.in-Object.is)
     ] in
-    turn_begin c.args.s.now c.args.work.now (sheet_in c.args.s.now) c.args.scope.frames (mode_of c.args.q.mode) c.args.q.name c.args.q.body c.args.o c.match-class.named k c.requires.2
+    turn_begin c.args.s.now c.args.work.now (sheet_in c.args.s.now) c.args.scope.now.frames (mode_of c.args.q.mode) c.args.q.name c.args.q.body c.args.o c.match-class.named k c.requires.2
     c.requires.0.linked c.requires.4 c.start-truth.ensures c.of-c.ensures
 
 pub each-next-requires : goal.each-next-requires
@@ -144,10 +141,10 @@ pub evaluate-kind_at-requires : goal.evaluate-kind_at-requires
 evaluate-kind_at-requires t c = node_room c.requires.0 (record { left = 64; is_node = c.requires.2.known.node })
 
 pub evaluate-returns-in-True : goal.evaluate-returns-in-True
-evaluate-returns-in-True t c = λ d g. judged_true (sheet_in c.args.s.now) (frames_of c.args.s.now (table c.args.work.now) c.args.scope.frames) g c.kind_at.ensures c.in-True.is
+evaluate-returns-in-True t c = λ d g. judged_true (sheet_in c.args.s.now) (frames_of c.args.s.now (table c.args.work.now) c.args.scope.now.frames) g c.kind_at.ensures c.in-True.is
 
 pub evaluate-returns-in-False : goal.evaluate-returns-in-False
-evaluate-returns-in-False t c = λ d g. judged_false (sheet_in c.args.s.now) (frames_of c.args.s.now (table c.args.work.now) c.args.scope.frames) g c.kind_at.ensures c.in-False.is
+evaluate-returns-in-False t c = λ d g. judged_false (sheet_in c.args.s.now) (frames_of c.args.s.now (table c.args.work.now) c.args.scope.now.frames) g c.kind_at.ensures c.in-False.is
 
 pub evaluate-overflow_add-node : goal.evaluate-overflow_add-node
 evaluate-overflow_add-node t c = omega (arith, (the_member c.requires.2.known c.kind_at.ensures c.in_default.not-True c.in_default.not-False).name_place.1)
@@ -170,8 +167,8 @@ evaluate-junction-requires t c = (
   (
     c.requires.0,
     omega (arith, c.requires.1),
-    (a_junction c.requires.2.known c.kind_at.ensures c.in_default.not-True c.in_default.not-False c.start_at-name.ensures c.operator_at.ensures _ c.in-Junction.is).0,
-    (a_junction c.requires.2.known c.kind_at.ensures c.in_default.not-True c.in_default.not-False c.start_at-name.ensures c.operator_at.ensures _ c.in-Junction.is).1,
+    (a_junction c.requires.2.known c.kind_at.ensures c.in_default.not-True c.in_default.not-False c.start_at-name.ensures c.operator_at.ensures c.in-Some.is _ c.in-Junction.is).0,
+    (a_junction c.requires.2.known c.kind_at.ensures c.in_default.not-True c.in_default.not-False c.start_at-name.ensures c.operator_at.ensures c.in-Some.is _ c.in-Junction.is).1,
     (inner_shallow c.requires.2.known c.kind_at.ensures c.in_default.not-True c.in_default.not-False c.requires.3).1,
   ),
 )
@@ -183,7 +180,7 @@ evaluate-evaluate-requires t c = (
     c.requires.0,
     omega (arith, c.requires.1),
     a_negation c.requires.2.known c.kind_at.ensures c.in_default.not-True c.in_default.not-False c.start_at-name.ensures
-        c.operator_at.ensures c.in-Negation.is,
+        c.operator_at.ensures c.in-Some.is c.in-Negation.is,
     (inner_shallow c.requires.2.known c.kind_at.ensures c.in_default.not-True c.in_default.not-False c.requires.3).1,
   ),
 )
@@ -201,7 +198,7 @@ evaluate-overflow_add-inner-in-Pair t c = omega (arith, (the_member c.requires.2
 
 pub evaluate-after_at-second-requires : goal.evaluate-after_at-second-requires
 evaluate-after_at-second-requires t c = node_room c.requires.0 (a_pair c.requires.2.known c.kind_at.ensures c.in_default.not-True c.in_default.not-False
-    c.start_at-name.ensures c.operator_at.ensures _ c.in-Pair.is).0
+    c.start_at-name.ensures c.operator_at.ensures c.in-Some.is _ c.in-Pair.is).0
 
 pub evaluate-overflow_add-inner-in-Pair-2 : goal.evaluate-overflow_add-inner-in-Pair-2
 evaluate-overflow_add-inner-in-Pair-2 t c = omega (arith, (the_member c.requires.2.known c.kind_at.ensures c.in_default.not-True c.in_default.not-False).name_place.1)
@@ -210,13 +207,13 @@ pub evaluate-pair_at-requires : goal.evaluate-pair_at-requires
 evaluate-pair_at-requires t c = (
   c.requires.0,
   (a_pair c.requires.2.known c.kind_at.ensures c.in_default.not-True c.in_default.not-False c.start_at-name.ensures
-      c.operator_at.ensures _ c.in-Pair.is).0,
+      c.operator_at.ensures c.in-Some.is _ c.in-Pair.is).0,
   rw c.after_at-second.ensures (a_pair c.requires.2.known c.kind_at.ensures c.in_default.not-True c.in_default.not-False
-      c.start_at-name.ensures c.operator_at.ensures _ c.in-Pair.is).1,
+      c.start_at-name.ensures c.operator_at.ensures c.in-Some.is _ c.in-Pair.is).1,
   (operands_shallow c.requires.2.known c.kind_at.ensures c.in_default.not-True
-      c.in_default.not-False c.start_at-name.ensures c.operator_at.ensures _ c.in-Pair.is c.requires.3).0,
+      c.in_default.not-False c.start_at-name.ensures c.operator_at.ensures c.in-Some.is _ c.in-Pair.is c.requires.3).0,
   rw c.after_at-second.ensures (operands_shallow
-      c.requires.2.known c.kind_at.ensures c.in_default.not-True c.in_default.not-False c.start_at-name.ensures c.operator_at.ensures _ c.in-Pair.is c.requires.3).1,
+      c.requires.2.known c.kind_at.ensures c.in_default.not-True c.in_default.not-False c.start_at-name.ensures c.operator_at.ensures c.in-Some.is _ c.in-Pair.is c.requires.3).1,
 )
 
 pub evaluate-quantify-requires : goal.evaluate-quantify-requires
@@ -225,7 +222,7 @@ evaluate-quantify-requires t c = (
   (
     c.requires.0,
     omega (arith, c.requires.1, (inner_shallow c.requires.2.known c.kind_at.ensures c.in_default.not-True c.in_default.not-False c.requires.3).0),
-    (known_quantifier c.requires.2.known c.kind_at.ensures c.in_default.not-True c.in_default.not-False c.start_at-name.ensures c.operator_at.ensures _
+    (known_quantifier c.requires.2.known c.kind_at.ensures c.in_default.not-True c.in_default.not-False c.start_at-name.ensures c.operator_at.ensures c.in-Some.is _
         c.in-Quantified.is),
     (inner_shallow c.requires.2.known c.kind_at.ensures c.in_default.not-True c.in_default.not-False c.requires.3).1,
   ),
@@ -233,37 +230,40 @@ evaluate-quantify-requires t c = (
 
 pub evaluate-returns-in-Junction : goal.evaluate-returns-in-Junction
 evaluate-returns-in-Junction t c = λ d g. judged_junction g c.kind_at.ensures c.in_default.not-True c.in_default.not-False c.start_at-name.ensures
-    c.operator_at.ensures (sheet_in c.args.s.now) (frames_of c.args.s.now (table c.args.work.now) c.args.scope.frames) _ c.in-Junction.is c.junction.ensures
+    c.operator_at.ensures c.in-Some.is (sheet_in c.args.s.now) (frames_of c.args.s.now (table c.args.work.now) c.args.scope.now.frames) _ c.in-Junction.is c.junction.ensures
 
 pub evaluate-returns-in_err-evaluate-in-Negation : goal.evaluate-returns-in_err-evaluate-in-Negation
 evaluate-returns-in_err-evaluate-in-Negation t c =
     let r : c.from_residual.result ≡ Err c.in_err-evaluate-in-Negation.field-0.0 = search rules in
-    rw r (λ d g. refused_negation g c.kind_at.ensures c.in_default.not-True c.in_default.not-False c.start_at-name.ensures c.operator_at.ensures (sheet_in
-    c.args.s.now) (frames_of c.args.s.now (table c.args.work.now) c.args.scope.frames) c.in-Negation.is c.evaluate.ensures _ c.in_err-evaluate-in-Negation.was)
+    rw r (λ d g. refused_negation g c.kind_at.ensures c.in_default.not-True c.in_default.not-False c.start_at-name.ensures c.operator_at.ensures c.in-Some.is (sheet_in
+    c.args.s.now) (frames_of c.args.s.now (table c.args.work.now) c.args.scope.now.frames) c.in-Negation.is c.evaluate.ensures _ c.in_err-evaluate-in-Negation.was)
 
 pub evaluate-returns-in_ok-evaluate-in-Negation : goal.evaluate-returns-in_ok-evaluate-in-Negation
 evaluate-returns-in_ok-evaluate-in-Negation t c = λ d g. judged_negation g c.kind_at.ensures c.in_default.not-True c.in_default.not-False c.start_at-name.ensures
-    c.operator_at.ensures (sheet_in c.args.s.now) (frames_of c.args.s.now (table c.args.work.now) c.args.scope.frames) c.in-Negation.is c.evaluate.ensures _
+    c.operator_at.ensures c.in-Some.is (sheet_in c.args.s.now) (frames_of c.args.s.now (table c.args.work.now) c.args.scope.now.frames) c.in-Negation.is c.evaluate.ensures _
     c.in_ok-evaluate-in-Negation.was c.not.ensures
 
 pub evaluate-returns-in-Exists : goal.evaluate-returns-in-Exists
-evaluate-returns-in-Exists t c = λ d g. judged_exists g c.kind_at.ensures c.in_default.not-True c.in_default.not-False c.start_at-name.ensures c.operator_at.ensures
-    (sheet_in c.args.s.now) (frames_of c.args.s.now (table c.args.work.now) c.args.scope.frames) c.in-Exists.is c.exists_at.ensures
+evaluate-returns-in-Exists t c = λ d g. judged_exists g c.kind_at.ensures c.in_default.not-True c.in_default.not-False c.start_at-name.ensures c.operator_at.ensures c.in-Some.is
+    (sheet_in c.args.s.now) (frames_of c.args.s.now (table c.args.work.now) c.args.scope.now.frames) c.in-Exists.is c.exists_at.ensures
 
 pub evaluate-returns-in-Pair : goal.evaluate-returns-in-Pair
-evaluate-returns-in-Pair t c = λ d g. judged_pair g c.kind_at.ensures c.in_default.not-True c.in_default.not-False c.start_at-name.ensures c.operator_at.ensures
-    (sheet_in c.args.s.now) (frames_of c.args.s.now (table c.args.work.now) c.args.scope.frames) _ c.in-Pair.is (rw c.after_at-second.ensures at c.pair_at.ensures)
+evaluate-returns-in-Pair t c = λ d g. judged_pair g c.kind_at.ensures c.in_default.not-True c.in_default.not-False c.start_at-name.ensures c.operator_at.ensures c.in-Some.is
+    (sheet_in c.args.s.now) (frames_of c.args.s.now (table c.args.work.now) c.args.scope.now.frames) _ c.in-Pair.is (rw c.after_at-second.ensures at c.pair_at.ensures)
 
 pub evaluate-returns-in-Quantified : goal.evaluate-returns-in-Quantified
 evaluate-returns-in-Quantified t c = λ d g. judged_quantifier g c.kind_at.ensures c.in_default.not-True c.in_default.not-False c.start_at-name.ensures
-    c.operator_at.ensures (sheet_in c.args.s.now) (frames_of c.args.s.now (table c.args.work.now) c.args.scope.frames) _ c.in-Quantified.is c.quantify.ensures
+    c.operator_at.ensures c.in-Some.is (sheet_in c.args.s.now) (frames_of c.args.s.now (table c.args.work.now) c.args.scope.now.frames) _ c.in-Quantified.is c.quantify.ensures
+
+pub evaluate-returns-in_default-operator_at : goal.evaluate-returns-in_default-operator_at
+evaluate-returns-in_default-operator_at t c =
+    λ d g. absurd (given_known (the_member g c.kind_at.ensures c.in_default.not-True c.in_default.not-False) _ c.start_at-name.ensures
+    (c.operator_at.ensures ∙ ap (option_map operator_of) c.in_default-operator_at.is))
 
 pub evaluate-returns-in-NotCarried : goal.evaluate-returns-in-NotCarried
 evaluate-returns-in-NotCarried t c =
-    λ d g. elim c.in-NotCarried.is [
-      | inl e ↦ absurd (given_carried (the_member g c.kind_at.ensures c.in_default.not-True c.in_default.not-False) _ c.start_at-name.ensures _ c.operator_at.ensures e)
-      | inr e ↦ absurd (given_known (the_member g c.kind_at.ensures c.in_default.not-True c.in_default.not-False) _ c.start_at-name.ensures _ c.operator_at.ensures e)
-    ]
+    λ d g. absurd (given_carried (the_member g c.kind_at.ensures c.in_default.not-True c.in_default.not-False) _ c.start_at-name.ensures _
+    (c.operator_at.ensures ∙ ap (option_map operator_of) c.in-Some.is) c.in-NotCarried.is)
 
 pub junction-after_at-end-requires : goal.junction-after_at-end-requires
 junction-after_at-end-requires t c = node_room c.requires.0 c.requires.2.node
@@ -272,7 +272,7 @@ pub junction-overflow_add-k : goal.junction-overflow_add-k
 junction-overflow_add-k t c = omega (arith, (node_room c.requires.0 c.requires.2.node).node)
 
 pub junction-loop-k-init : goal.junction-loop-k-init
-junction-loop-k-init t c = collect_begin c.args.s.now c.args.work.now (sheet_in c.args.s.now) (frames_of c.args.s.now (table c.args.work.now) c.args.scope.frames)
+junction-loop-k-init t c = collect_begin c.args.s.now c.args.work.now (sheet_in c.args.s.now) (frames_of c.args.s.now (table c.args.work.now) c.args.scope.now.frames)
     (mode_of c.args.mode) c.requires.2 c.requires.3 c.requires.4 c.after_at-end.ensures c.start-truth.ensures
 
 pub junction-overflow_sub-left : goal.junction-overflow_sub-left
@@ -334,26 +334,26 @@ quantify-each-requires t c =
       (
         ready_after c.requires.0 c.resolve.ensures.left,
         omega (arith, p.over_depth, c.requires.1, c.requires.3),
-        over_fits sheet c.args.scope.frames p c.resolve.ensures _ (c.in_ok-o.was ∙ ap found c.in-Some.is),
+        over_fits sheet c.args.scope.now.frames p c.resolve.ensures _ (c.in_ok-o.was ∙ ap found c.in-Some.is),
         rw p.name (text_row p.binder).on_text,
-        body_known sheet c.args.scope.frames p c.resolve.ensures,
-        body_shallow sheet c.args.scope.frames p c.resolve.ensures c.requires.3,
+        body_known sheet c.args.scope.now.frames p c.resolve.ensures,
+        body_shallow sheet c.args.scope.now.frames p c.resolve.ensures c.requires.3,
       ),
     )
 
 pub quantify-returns-in_err-o : goal.quantify-returns-in_err-o
 quantify-returns-in_err-o t c =
     let r : c.from_residual.result ≡ Err c.in_err-o.field-0.0 = search rules in
-    rw r (λ d h. quantify_stops (sheet_in c.args.s.now) c.args.scope.frames (c.quantifier_at-q.ensures.parts _ _ h) c.resolve.ensures _ c.in_err-o.was)
+    rw r (λ d h. quantify_stops (sheet_in c.args.s.now) c.args.scope.now.frames (c.quantifier_at-q.ensures.parts _ _ h) c.resolve.ensures _ c.in_err-o.was)
 
 pub quantify-returns-in-Some : goal.quantify-returns-in-Some
 quantify-returns-in-Some t c =
-    λ d h. quantify_each (sheet_in c.args.s.now) c.args.scope.frames (c.quantifier_at-q.ensures.parts _ _ h) c.resolve.ensures _
+    λ d h. quantify_each (sheet_in c.args.s.now) c.args.scope.now.frames (c.quantifier_at-q.ensures.parts _ _ h) c.resolve.ensures _
     (c.in_ok-o.was ∙ ap found c.in-Some.is) (rw c.quantifier_at-q.ensures.joins at c.each.ensures)
 
 pub quantify-returns-in-None : goal.quantify-returns-in-None
 quantify-returns-in-None t c =
-    λ d h. quantify_missing (sheet_in c.args.s.now) c.args.scope.frames (c.quantifier_at-q.ensures.parts _ _ h) c.resolve.ensures (c.in_ok-o.was ∙ ap found c.in-None.is)
+    λ d h. quantify_missing (sheet_in c.args.s.now) c.args.scope.now.frames (c.quantifier_at-q.ensures.parts _ _ h) c.resolve.ensures (c.in_ok-o.was ∙ ap found c.in-None.is)
 
 pub with_part-part_of-operand-requires : goal.with_part-part_of-operand-requires
 with_part-part_of-operand-requires t c = (c.requires.0, c.requires.2)
@@ -373,4 +373,4 @@ with_part-evaluate-requires t c = (
 )
 
 pub with_part-returns : goal.with_part-returns
-with_part-returns t c = body_under (sheet_in c.args.s.now) c.args.scope.frames c.push-inner.result.frames c.part_of-operand.ensures c.push-inner.ensures.2 c.evaluate.ensures
+with_part-returns t c = body_under (sheet_in c.args.s.now) c.args.scope.now.frames c.push-inner.result.frames c.part_of-operand.ensures c.push-inner.ensures.2 c.evaluate.ensures

@@ -21,10 +21,10 @@ use Rattle.leaves.proofs.Values.{
   code_small,
   handed_on,
   same_kind,
-  starts_inside,
   told_bad,
   told_leaf,
 }
+use Rattle.leaves.proofs.Loops.{past_end}
 use Rattle.leaves.specs.Laid.{kind_by, plain_by}
 use Rattle.std.specs.Prelude.{Some, get_or, ℕ}
 use Rattle.strings.specs.Answers.{scan_of}
@@ -33,47 +33,47 @@ use Rattle.leaves.proofs.leaf.leaf.Goals.{Else-node-ge4096, Then-eq-3, Else-eq-3
 use Rattle.leaves.proofs.leaf.leaf.Goals as goal
 
 -- a value without brackets starts here
-plain_here : (c : Else-node-ge4096) → PlainAt c.args.s.now c.args.node c.args.at c.in-Some.kind
+plain_here : (c : Else-node-ge4096) → PlainAt c.args.s.now c.args.node c.args.at c.in-Some-kind.kind
 plain_here c =
-    plain_at c.args.s.now c.args.node c.args.at c.in-Some.kind
-    (sym c.in-Some.is ∙ c.kind.ensures ∙ ap (λ (b : ℕ). kind_by (start b)) c.byte_at.ensures) (sym c.if-eq.ensures) (sym c.if-eq-2.ensures)
+    plain_at c.args.s.now c.args.node c.args.at c.in-Some-kind.kind
+    (sym c.in-Some-kind.is ∙ c.kind.ensures ∙ ap (λ (b : ℕ). kind_by (start b)) (c.in-Some.ensures.lookup.3.1 0)) (sym c.if-eq.ensures) (sym c.if-eq-2.ensures)
 
 -- a text was scanned
-text_here : (c : Then-eq-3) → PlainAt c.args.s.now c.args.node c.args.at c.in-Some.kind → read_at 0 c.args.s.now c.args.node c.args.at ≡
-    ok (record { tree = leaf (plain_by c.in-Some.kind) (c.args.at + 1) (c.in_ok-end.end - 1); place = c.in_ok-end.end; count = c.args.node + 1 })
+text_here : (c : Then-eq-3) → PlainAt c.args.s.now c.args.node c.args.at c.in-Some-kind.kind → read_at 0 c.args.s.now c.args.node c.args.at ≡
+    ok (record { tree = leaf (plain_by c.in-Some-kind.kind) (c.args.at + 1) (c.in_ok-end.end - 1); place = c.in_ok-end.end; count = c.args.node + 1 })
 unfolding scan_of
-text_here c l = leaf_text c.args.s.now c.args.node c.args.at c.in-Some.kind l c.if-node-ge4096.false c.in_ok-end.end (sym c.if-eq-3.ensures) c.in_ok-end.ensures
+text_here c l = leaf_text c.args.s.now c.args.node c.args.at c.in-Some-kind.kind l c.if-node-ge4096.false c.in_ok-end.end (sym c.if-eq-3.ensures) c.in_ok-end.ensures
 
 -- another value was scanned
-other_here : (c : Else-eq-3) → PlainAt c.args.s.now c.args.node c.args.at c.in-Some.kind → read_at 0 c.args.s.now c.args.node c.args.at ≡
-    ok (record { tree = leaf (plain_by c.in-Some.kind) c.args.at c.in_ok-end.end; place = c.in_ok-end.end; count = c.args.node + 1 })
+other_here : (c : Else-eq-3) → PlainAt c.args.s.now c.args.node c.args.at c.in-Some-kind.kind → read_at 0 c.args.s.now c.args.node c.args.at ≡
+    ok (record { tree = leaf (plain_by c.in-Some-kind.kind) c.args.at c.in_ok-end.end; place = c.in_ok-end.end; count = c.args.node + 1 })
 unfolding scan_of
-other_here c l = leaf_is c.args.s.now c.args.node c.args.at c.in-Some.kind l c.if-node-ge4096.false c.in_ok-end.end (sym c.if-eq-3.ensures) c.in_ok-end.ensures
+other_here c l = leaf_is c.args.s.now c.args.node c.args.at c.in-Some-kind.kind l c.if-node-ge4096.false c.in_ok-end.end (sym c.if-eq-3.ensures) c.in_ok-end.ensures
 
 pub returns-in_default : goal.returns-in_default
 returns-in_default c =
+    told_bad _ c.args.work.now _ c.args.node whys.NotJson (past_end 0 c.args.s.now c.args.node c.args.at c.in_default.ensures.lookup.3) refl
+
+pub returns-in_default-kind : goal.returns-in_default-kind
+returns-in_default-kind c =
     told_bad _ c.args.work.now _ c.args.node whys.NotJson
-    (leaf_none c.args.s.now c.args.node c.args.at (sym c.in_default.is ∙ c.kind.ensures ∙ ap (λ (b : ℕ). kind_by (start b)) c.byte_at.ensures)) refl
+    (leaf_none c.args.s.now c.args.node c.args.at (sym c.in_default-kind.is ∙ c.kind.ensures ∙ ap (λ (b : ℕ). kind_by (start b)) (c.in-Some.ensures.lookup.3.1 0))) refl
 
 pub returns-then-eq : goal.returns-then-eq
 returns-then-eq c =
-    let k : Some c.in-Some.kind ≡ kind_by (start (get_or c.args.s.now c.args.at 0)) =
-    sym c.in-Some.is ∙ c.kind.ensures ∙ ap (λ (b : ℕ). kind_by (start b)) c.byte_at.ensures in
+    let k : Some c.in-Some-kind.kind ≡ kind_by (start (get_or c.args.s.now c.args.at 0)) =
+    sym c.in-Some-kind.is ∙ c.kind.ensures ∙ ap (λ (b : ℕ). kind_by (start b)) (c.in-Some.ensures.lookup.3.1 0) in
     told_bad _ c.args.work.now _ c.args.node whys.TooDeep
     (elim c.then-eq.branch [
-      | then-eq-via-then-eq w ↦ leaf_array c.args.s.now c.args.node c.args.at c.in-Some.kind k (same_kind _ _ (sym w.if-eq.ensures))
-      | then-eq-via-else-eq+then-eq-2 w ↦ leaf_object c.args.s.now c.args.node c.args.at c.in-Some.kind k (same_kind _ _ (sym w.if-eq-2.ensures))
+      | then-eq-via-then-eq w ↦ leaf_array c.args.s.now c.args.node c.args.at c.in-Some-kind.kind k (same_kind _ _ (sym w.if-eq.ensures))
+      | then-eq-via-else-eq+then-eq-2 w ↦ leaf_object c.args.s.now c.args.node c.args.at c.in-Some-kind.kind k (same_kind _ _ (sym w.if-eq-2.ensures))
     ]) refl
 
 pub returns-then-node-ge4096 : goal.returns-then-node-ge4096
 returns-then-node-ge4096 c =
     told_bad _ c.args.work.now _ c.args.node whys.TooManyNodes
-    (leaf_full c.args.s.now c.args.node c.args.at c.in-Some.kind (plain_at c.args.s.now c.args.node c.args.at c.in-Some.kind
-    (sym c.in-Some.is ∙ c.kind.ensures ∙ ap (λ (b : ℕ). kind_by (start b)) c.byte_at.ensures) (sym c.if-eq.ensures) (sym c.if-eq-2.ensures)) c.if-node-ge4096.true) refl
-
-pub scan-requires : goal.scan-requires
-scan-requires c = starts_inside c.args.s.now c.args.at c.in-Some.kind
-    (sym c.in-Some.is ∙ c.kind.ensures ∙ ap (λ (b : ℕ). kind_by (start b)) c.byte_at.ensures)
+    (leaf_full c.args.s.now c.args.node c.args.at c.in-Some-kind.kind (plain_at c.args.s.now c.args.node c.args.at c.in-Some-kind.kind
+    (sym c.in-Some-kind.is ∙ c.kind.ensures ∙ ap (λ (b : ℕ). kind_by (start b)) (c.in-Some.ensures.lookup.3.1 0)) (sym c.if-eq.ensures) (sym c.if-eq-2.ensures)) c.if-node-ge4096.true) refl
 
 pub returns-in_err-end : goal.returns-in_err-end
 unfolding scan_of
@@ -81,7 +81,7 @@ returns-in_err-end c =
     rw
     (handed_on _ c.from_residual.ensures.1)
     (told_bad _ c.args.work.now _ c.args.node c.in_err-end.field-0.0
-    (leaf_bad c.args.s.now c.args.node c.args.at c.in-Some.kind
+    (leaf_bad c.args.s.now c.args.node c.args.at c.in-Some-kind.kind
     (plain_here (goal.at.returns-in_err-end c).Else-node-ge4096) c.if-node-ge4096.false _ c.in_err-end.ensures) refl)
 
 pub overflow_sub-end : goal.overflow_sub-end
@@ -94,7 +94,7 @@ lay-requires c =
     record {
       long = c.requires.long;
       room = c.if-node-ge4096.false;
-      kind_fits = code_small c.in-Some.kind;
+      kind_fits = code_small c.in-Some-kind.kind;
       start_fits = omega (arith, f.0, f.1, c.requires.bytes);
       end_fits = omega (arith, f.1, c.requires.bytes);
       after_fits = omega (arith, c.if-node-ge4096.false);
@@ -103,7 +103,7 @@ lay-requires c =
 pub returns-then-eq-3 : goal.returns-then-eq-3
 returns-then-eq-3 c =
     let l = plain_here (goal.at.returns-then-eq-3 c).Else-node-ge4096 in
-    told_leaf c.in-Some.kind l.coded (text_here (goal.at.returns-then-eq-3 c).Then-eq-3 l) c.lay.ensures
+    told_leaf c.in-Some-kind.kind l.coded (text_here (goal.at.returns-then-eq-3 c).Then-eq-3 l) c.lay.ensures
 
 pub lay-requires-2 : goal.lay-requires-2
 lay-requires-2 c =
@@ -111,7 +111,7 @@ lay-requires-2 c =
     record {
       long = c.requires.long;
       room = c.if-node-ge4096.false;
-      kind_fits = code_small c.in-Some.kind;
+      kind_fits = code_small c.in-Some-kind.kind;
       start_fits = omega (arith, f.0, f.1, c.requires.bytes);
       end_fits = omega (arith, f.1, c.requires.bytes);
       after_fits = omega (arith, c.if-node-ge4096.false);
@@ -120,4 +120,4 @@ lay-requires-2 c =
 pub returns : goal.returns
 returns c =
     let l = plain_here (goal.at.returns c).Else-node-ge4096 in
-    told_leaf c.in-Some.kind l.coded (other_here (goal.at.returns c).Else-eq-3 l) c.lay-2.ensures
+    told_leaf c.in-Some-kind.kind l.coded (other_here (goal.at.returns c).Else-eq-3 l) c.lay-2.ensures

@@ -14,11 +14,13 @@ returns-then-not-is_ascii_digit c =
 
 pub returns-then-n-gt4294967295 : goal.returns-then-n-gt4294967295
 returns-then-n-gt4294967295 c =
-    too_many c.loop-c.invariant c.loop-c-test.true (sym c.is_ascii_digit.ensures.value ∙ c.if-not-is_ascii_digit.false) c.if-n-gt4294967295.true
+    too_many c.loop-c.invariant c.loop-c-test.true (sym c.is_ascii_digit.ensures.value ∙ c.if-not-is_ascii_digit.false)
+    (rw c.from.ensures at c.if-n-gt4294967295.true)
 
 pub loop-c-preserved : goal.loop-c-preserved
 loop-c-preserved c =
-    one_more c.loop-c.invariant c.loop-c-test.true (sym c.is_ascii_digit.ensures.value ∙ c.if-not-is_ascii_digit.false) c.if-n-gt4294967295.false
+    rw c.from.ensures (one_more c.loop-c.invariant c.loop-c-test.true (sym c.is_ascii_digit.ensures.value ∙ c.if-not-is_ascii_digit.false)
+    (rw c.from.ensures at c.if-n-gt4294967295.false))
 
 pub returns : goal.returns
 returns c = digits_ended c.loop-c.invariant (omega arith)

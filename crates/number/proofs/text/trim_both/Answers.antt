@@ -5,8 +5,8 @@ use Rattle.std.proofs.lemmas.Grind.{common_steps}
 use Rattle.number.proofs.Parts.{trim_first, trim_through}
 use Rattle.number.proofs.text.trim_both.Goals as goal
 
-pub returns-then-is_empty : goal.returns-then-is_empty
-returns-then-is_empty c = trim_through c.args.whole.now c.args.fraction.now _ _ c.trim-upper.ensures c.trim.ensures (grind (arith, common_steps))
+pub returns-then-is_empty-clause-both : goal.returns-then-is_empty-clause-both
+returns-then-is_empty-clause-both c = trim_through c.args.whole.now c.args.fraction.now _ _ c.trim-upper.ensures c.trim.ensures (grind (arith, common_steps))
 
-pub returns : goal.returns
-returns c = trim_first c.args.whole.now c.args.fraction.now _ c.trim-upper.ensures (grind (arith, common_steps))
+pub returns-clause-both : goal.returns-clause-both
+returns-clause-both c = trim_first c.args.whole.now c.args.fraction.now _ c.trim-upper.ensures (grind (arith, common_steps))

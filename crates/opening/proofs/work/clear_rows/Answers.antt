@@ -1,6 +1,6 @@
 -- `opening::work::clear_rows` meets its contract: what it does not write is zero.
 -- Assumes nothing.
-use lib.ListN.{drop, length, length-append, length-drop, take}
+use lib.ListN.{drop, length, length-append, length-drop}
 use lib.Seq.{length-take-le}
 use native.Mathlib.Omega.{arith}
 use mathlib.Core.List.{◌++◌}

@@ -30,12 +30,12 @@ use Rattle.operands.proofs.equal.+equal_at_equal_parts.Goals as goal
 
 pub equal_at-returns-then-left-eq0 : goal.equal_at-returns-then-left-eq0
 equal_at-returns-then-left-eq0 t c = equal_none (sheet_in c.args.s.now) c.args.s.now (table c.args.work.now)
-    (frames_of c.args.s.now (table c.args.work.now) c.args.scope.frames) c.args.a c.args.b c.args.left c.if-left-eq0.true
+    (frames_of c.args.s.now (table c.args.work.now) c.args.scope.now.frames) c.args.a c.args.b c.args.left c.if-left-eq0.true
 
 pub equal_at-returns-then-ne : goal.equal_at-returns-then-ne
 equal_at-returns-then-ne t c =
     equal_apart (sheet_in c.args.s.now) c.args.s.now (table c.args.work.now)
-    (frames_of c.args.s.now (table c.args.work.now) c.args.scope.frames) c.args.a c.args.b c.args.left c.if-left-eq0.false
+    (frames_of c.args.s.now (table c.args.work.now) c.args.scope.now.frames) c.args.a c.args.b c.args.left c.if-left-eq0.false
     c.class-class.ensures c.class.ensures (apart_kinds _ _ c.ne.ensures c.if-ne.true)
 
 pub equal_at-equal_parts-requires : goal.equal_at-equal_parts-requires
@@ -44,7 +44,7 @@ equal_at-equal_parts-requires t c = (
   (
     c.requires.0,
     equal_paired (sheet_in c.args.s.now) c.args.s.now (table c.args.work.now)
-        (frames_of c.args.s.now (table c.args.work.now) c.args.scope.frames) c.args.a c.args.b c.args.left c.if-left-eq0.false false
+        (frames_of c.args.s.now (table c.args.work.now) c.args.scope.now.frames) c.args.a c.args.b c.args.left c.if-left-eq0.false false
         (sym c.class-class.ensures ∙ c.in-Array.is) (sym c.class.ensures ∙ sym (same_kinds _ _ c.ne.ensures c.if-ne.false) ∙ c.in-Array.is) c.requires.1 c.requires.2,
   ),
 )
@@ -52,7 +52,7 @@ equal_at-equal_parts-requires t c = (
 pub equal_at-returns-in-Array : goal.equal_at-returns-in-Array
 equal_at-returns-in-Array t c =
     equal_whole (sheet_in c.args.s.now) c.args.s.now (table c.args.work.now)
-    (frames_of c.args.s.now (table c.args.work.now) c.args.scope.frames) c.args.a c.args.b c.args.left c.if-left-eq0.false false
+    (frames_of c.args.s.now (table c.args.work.now) c.args.scope.now.frames) c.args.a c.args.b c.args.left c.if-left-eq0.false false
     (sym c.class-class.ensures ∙ c.in-Array.is) (sym c.class.ensures ∙ sym (same_kinds _ _ c.ne.ensures c.if-ne.false) ∙ c.in-Array.is) c.equal_parts.ensures
 
 pub equal_at-equal_parts-requires-in-Object : goal.equal_at-equal_parts-requires-in-Object
@@ -61,7 +61,7 @@ equal_at-equal_parts-requires-in-Object t c = (
   (
     c.requires.0,
     equal_paired (sheet_in c.args.s.now) c.args.s.now (table c.args.work.now)
-        (frames_of c.args.s.now (table c.args.work.now) c.args.scope.frames) c.args.a c.args.b c.args.left c.if-left-eq0.false true
+        (frames_of c.args.s.now (table c.args.work.now) c.args.scope.now.frames) c.args.a c.args.b c.args.left c.if-left-eq0.false true
         (sym c.class-class.ensures ∙ c.in-Object.is) (sym c.class.ensures ∙ sym (same_kinds _ _ c.ne.ensures c.if-ne.false) ∙ c.in-Object.is) c.requires.1 c.requires.2,
   ),
 )
@@ -69,7 +69,7 @@ equal_at-equal_parts-requires-in-Object t c = (
 pub equal_at-returns-in-Object : goal.equal_at-returns-in-Object
 equal_at-returns-in-Object t c =
     equal_whole (sheet_in c.args.s.now) c.args.s.now (table c.args.work.now)
-    (frames_of c.args.s.now (table c.args.work.now) c.args.scope.frames) c.args.a c.args.b c.args.left c.if-left-eq0.false true
+    (frames_of c.args.s.now (table c.args.work.now) c.args.scope.now.frames) c.args.a c.args.b c.args.left c.if-left-eq0.false true
     (sym c.class-class.ensures ∙ c.in-Object.is) (sym c.class.ensures ∙ sym (same_kinds _ _ c.ne.ensures c.if-ne.false) ∙ c.in-Object.is) c.equal_parts-in-Object.ensures
 
 pub equal_at-same_leaf-requires : goal.equal_at-same_leaf-requires
@@ -84,7 +84,7 @@ equal_at-same_leaf-requires t c = (
 
 pub equal_at-returns-in_default : goal.equal_at-returns-in_default
 equal_at-returns-in_default t c = equal_leaves (sheet_in c.args.s.now) c.args.s.now (table c.args.work.now)
-    (frames_of c.args.s.now (table c.args.work.now) c.args.scope.frames) c.args.a c.args.b c.args.left c.if-left-eq0.false c.same_leaf.ensures
+    (frames_of c.args.s.now (table c.args.work.now) c.args.scope.now.frames) c.args.a c.args.b c.args.left c.if-left-eq0.false c.same_leaf.ensures
 
 pub equal_parts-of-x-requires : goal.equal_parts-of-x-requires
 equal_parts-of-x-requires t c =
@@ -108,7 +108,7 @@ equal_parts-next-requires t c = (
 
 pub equal_parts-returns : goal.equal_parts-returns
 equal_parts-returns t c =
-    let frames = frames_of c.args.s.now (table c.args.work.now) c.args.scope.frames in
+    let frames = frames_of c.args.s.now (table c.args.work.now) c.args.scope.now.frames in
     parts_end c.args.s.now (table c.args.work.now) (alike (sheet_in c.args.s.now) c.args.left frames) c.args.named
     (part_at (sheet_in c.args.s.now) c.args.s.now (table c.args.work.now) frames c.args.a) (part_at (sheet_in c.args.s.now) c.args.s.now (table c.args.work.now) frames c.args.b) _ c.loop-p.invariant
     (child_end c.loop-p.invariant.first c.next.ensures c.in_default.is) c.next-2.ensures c.is_none.ensures
@@ -128,7 +128,7 @@ equal_parts-next-requires-in-Some t c = (
 
 pub equal_parts-returns-in_default-next : goal.equal_parts-returns-in_default-next
 equal_parts-returns-in_default-next t c =
-    let frames = frames_of c.args.s.now (table c.args.work.now) c.args.scope.frames in
+    let frames = frames_of c.args.s.now (table c.args.work.now) c.args.scope.now.frames in
     second_ends c.args.s.now (table c.args.work.now) (alike (sheet_in c.args.s.now) c.args.left frames) c.args.named
     (part_at (sheet_in c.args.s.now) c.args.s.now (table c.args.work.now) frames c.args.a) (part_at (sheet_in c.args.s.now) c.args.s.now (table c.args.work.now) frames c.args.b) _ c.loop-p.invariant
     (child_given c.loop-p.invariant.first c.next.ensures c.in-Some.p
@@ -137,7 +137,7 @@ equal_parts-returns-in_default-next t c =
 
 pub equal_parts-names_agree-requires : goal.equal_parts-names_agree-requires
 equal_parts-names_agree-requires t c =
-    let frames = frames_of c.args.s.now (table c.args.work.now) c.args.scope.frames in
+    let frames = frames_of c.args.s.now (table c.args.work.now) c.args.scope.now.frames in
     let child-given1 = child_given c.loop-p.invariant.second c.next-in-Some.ensures
     c.in-Some-next.q c.in-Some-next.is in
     let child-given2 = child_given c.loop-p.invariant.first c.next.ensures c.in-Some.p
@@ -153,7 +153,7 @@ equal_parts-names_agree-requires t c =
 
 pub equal_parts-returns-then-not-names_agree : goal.equal_parts-returns-then-not-names_agree
 equal_parts-returns-then-not-names_agree t c =
-    let frames = frames_of c.args.s.now (table c.args.work.now) c.args.scope.frames in
+    let frames = frames_of c.args.s.now (table c.args.work.now) c.args.scope.now.frames in
     names_differ c.args.s.now (table c.args.work.now) (alike (sheet_in c.args.s.now) c.args.left frames) c.args.named
     (part_at (sheet_in c.args.s.now) c.args.s.now (table c.args.work.now) frames c.args.a) (part_at (sheet_in c.args.s.now) c.args.s.now (table c.args.work.now) frames c.args.b) _ c.loop-p.invariant
     (child_given c.loop-p.invariant.first c.next.ensures c.in-Some.p
@@ -163,7 +163,7 @@ equal_parts-returns-then-not-names_agree t c =
 
 pub equal_parts-value_node-requires : goal.equal_parts-value_node-requires
 equal_parts-value_node-requires t c =
-    let frames = frames_of c.args.s.now (table c.args.work.now) c.args.scope.frames in
+    let frames = frames_of c.args.s.now (table c.args.work.now) c.args.scope.now.frames in
     (value_there c.args.s.now (table c.args.work.now) c.args.named
     (first_child c.args.s.now (table c.args.work.now) (alike (sheet_in c.args.s.now) c.args.left frames) c.args.named
     (part_at (sheet_in c.args.s.now) c.args.s.now (table c.args.work.now) frames c.args.a) (part_at (sheet_in c.args.s.now) c.args.s.now (table c.args.work.now) frames c.args.b) _
@@ -175,7 +175,7 @@ equal_parts-value_node-requires t c =
 
 pub equal_parts-part_of-u-requires : goal.equal_parts-part_of-u-requires
 equal_parts-part_of-u-requires t c =
-    let frames = frames_of c.args.s.now (table c.args.work.now) c.args.scope.frames in (
+    let frames = frames_of c.args.s.now (table c.args.work.now) c.args.scope.now.frames in (
       c.requires.0,
       rw c.value_node.ensures
           (value_there c.args.s.now (table c.args.work.now) c.args.named
@@ -190,7 +190,7 @@ equal_parts-part_of-u-requires t c =
 
 pub equal_parts-value_node-requires-in-Some : goal.equal_parts-value_node-requires-in-Some
 equal_parts-value_node-requires-in-Some t c =
-    let frames = frames_of c.args.s.now (table c.args.work.now) c.args.scope.frames in
+    let frames = frames_of c.args.s.now (table c.args.work.now) c.args.scope.now.frames in
     (value_there c.args.s.now (table c.args.work.now) c.args.named
     (second_child c.args.s.now (table c.args.work.now) (alike (sheet_in c.args.s.now) c.args.left frames) c.args.named
     (part_at (sheet_in c.args.s.now) c.args.s.now (table c.args.work.now) frames c.args.a) (part_at (sheet_in c.args.s.now) c.args.s.now (table c.args.work.now) frames c.args.b) _
@@ -202,7 +202,7 @@ equal_parts-value_node-requires-in-Some t c =
 
 pub equal_parts-part_of-v-requires : goal.equal_parts-part_of-v-requires
 equal_parts-part_of-v-requires t c =
-    let frames = frames_of c.args.s.now (table c.args.work.now) c.args.scope.frames in (
+    let frames = frames_of c.args.s.now (table c.args.work.now) c.args.scope.now.frames in (
       c.requires.0,
       rw c.value_node-in-Some.ensures
           (value_there c.args.s.now (table c.args.work.now) c.args.named
@@ -223,7 +223,7 @@ equal_parts-equal_at-requires t c = (
 
 pub equal_parts-returns-then-not-equal_at : goal.equal_parts-returns-then-not-equal_at
 equal_parts-returns-then-not-equal_at t c =
-    let frames = frames_of c.args.s.now (table c.args.work.now) c.args.scope.frames in
+    let frames = frames_of c.args.s.now (table c.args.work.now) c.args.scope.now.frames in
     parts_differ c.args.s.now (table c.args.work.now) (alike (sheet_in c.args.s.now) c.args.left frames) c.args.named
     (part_at (sheet_in c.args.s.now) c.args.s.now (table c.args.work.now) frames c.args.a) (part_at (sheet_in c.args.s.now) c.args.s.now (table c.args.work.now) frames c.args.b) _ c.loop-p.invariant
     (child_given c.loop-p.invariant.first c.next.ensures c.in-Some.p
@@ -242,7 +242,7 @@ equal_parts-loop-p-smaller t c =
 
 pub equal_parts-loop-p-preserved : goal.equal_parts-loop-p-preserved
 equal_parts-loop-p-preserved t c =
-    let frames = frames_of c.args.s.now (table c.args.work.now) c.args.scope.frames in
+    let frames = frames_of c.args.s.now (table c.args.work.now) c.args.scope.now.frames in
     parts_same c.args.s.now (table c.args.work.now) (alike (sheet_in c.args.s.now) c.args.left frames) c.args.named
     (part_at (sheet_in c.args.s.now) c.args.s.now (table c.args.work.now) frames c.args.a) (part_at (sheet_in c.args.s.now) c.args.s.now (table c.args.work.now) frames c.args.b) _ c.loop-p.invariant
     (child_given c.loop-p.invariant.first c.next.ensures c.in-Some.p

@@ -15,7 +15,7 @@ use Rattle.operands.proofs.holds.contains.Goals as goal
 pub returns-in-Text-default : goal.returns-in-Text-default
 returns-in-Text-default c =
     contains_text (sheet_in c.args.s.now) c.args.s.now (table c.args.work.now)
-    (frames_of c.args.s.now (table c.args.work.now) c.args.scope.frames) c.args.a c.args.b (sym c.class.ensures ∙ c.in-Text-default.is-0)
+    (frames_of c.args.s.now (table c.args.work.now) c.args.scope.now.frames) c.args.a c.args.b (sym c.class.ensures ∙ c.in-Text-default.is-0)
     (c.two_texts.ensures (λ text part. is_part part text) (λ x y r h. search rules))
 
 pub nesting-requires : goal.nesting-requires
@@ -28,7 +28,7 @@ is_element-requires c =
 pub returns-in-Array-default : goal.returns-in-Array-default
 returns-in-Array-default c =
     contains_element (sheet_in c.args.s.now) c.args.s.now (table c.args.work.now)
-    (frames_of c.args.s.now (table c.args.work.now) c.args.scope.frames) c.args.a c.args.b (sym c.class.ensures ∙ c.in-Array-default.is-0)
+    (frames_of c.args.s.now (table c.args.work.now) c.args.scope.now.frames) c.args.a c.args.b (sym c.class.ensures ∙ c.in-Array-default.is-0)
     (rw (c.nesting.ensures ∙ ap nesting (sym (frames_length c.requires.0))) at c.is_element.ensures)
 
 pub text_place-requires : goal.text_place-requires
@@ -45,17 +45,17 @@ has_key-requires c = (
 pub returns-in-Object-Text : goal.returns-in-Object-Text
 returns-in-Object-Text c =
     contains_key (sheet_in c.args.s.now) c.args.s.now (table c.args.work.now)
-    (frames_of c.args.s.now (table c.args.work.now) c.args.scope.frames) c.args.a c.args.b (sym c.class.ensures ∙ c.in-Object-Text.is-0) (sym c.class-2.ensures ∙ c.in-Object-Text.is-1)
+    (frames_of c.args.s.now (table c.args.work.now) c.args.scope.now.frames) c.args.a c.args.b (sym c.class.ensures ∙ c.in-Object-Text.is-0) (sym c.class-2.ensures ∙ c.in-Object-Text.is-1)
     c.text_place.ensures c.has_key.ensures
 
 pub returns-in_default : goal.returns-in_default
 returns-in_default c =
     contains_no_key (sheet_in c.args.s.now) c.args.s.now (table c.args.work.now)
-    (frames_of c.args.s.now (table c.args.work.now) c.args.scope.frames) c.args.a c.args.b (sym c.class.ensures ∙ c.in_default.is-0)
+    (frames_of c.args.s.now (table c.args.work.now) c.args.scope.now.frames) c.args.a c.args.b (sym c.class.ensures ∙ c.in_default.is-0)
     (λ e. c.in_default.not-Text-1 (c.class-2.ensures ∙ e))
 
 pub returns-in_default-2 : goal.returns-in_default-2
 returns-in_default-2 c =
     contains_none (sheet_in c.args.s.now) c.args.s.now (table c.args.work.now)
-    (frames_of c.args.s.now (table c.args.work.now) c.args.scope.frames) c.args.a c.args.b (λ e. c.in_default.not-Text-0 (c.class.ensures ∙ e))
+    (frames_of c.args.s.now (table c.args.work.now) c.args.scope.now.frames) c.args.a c.args.b (λ e. c.in_default.not-Text-0 (c.class.ensures ∙ e))
     (λ e. c.in_default.not-Array-0 (c.class.ensures ∙ e)) (λ e. c.in_default.not-Object-0 (c.class.ensures ∙ e))

@@ -38,42 +38,42 @@ pub returns-in-Eq : goal.returns-in-Eq
 unfolding form_of
 returns-in-Eq c = rw c.in-Eq.is
     (form_eq (sheet_in c.args.s.now) c.args.s.now (table c.args.work.now)
-    (frames_of c.args.s.now (table c.args.work.now) c.args.scope.frames) c.args.a c.args.b
+    (frames_of c.args.s.now (table c.args.work.now) c.args.scope.now.frames) c.args.a c.args.b
     (rw (c.nesting.ensures ∙ ap nesting (sym (frames_length c.requires.0))) at c.equal_at.ensures))
 
 pub returns-in-Ne : goal.returns-in-Ne
 unfolding form_of
 returns-in-Ne c = rw c.in-Ne.is
     (form_ne (sheet_in c.args.s.now) c.args.s.now (table c.args.work.now)
-    (frames_of c.args.s.now (table c.args.work.now) c.args.scope.frames) c.args.a c.args.b
+    (frames_of c.args.s.now (table c.args.work.now) c.args.scope.now.frames) c.args.a c.args.b
     (rw (c.nesting-in-Ne.ensures ∙ ap nesting (sym (frames_length c.requires.0))) at c.equal_at-in-Ne.ensures))
 
 pub returns-in-Gt : goal.returns-in-Gt
 unfolding form_of
 returns-in-Gt c = rw c.in-Gt.is
     (form_gt (sheet_in c.args.s.now) c.args.s.now (table c.args.work.now)
-    (frames_of c.args.s.now (table c.args.work.now) c.args.scope.frames) c.args.a c.args.b
+    (frames_of c.args.s.now (table c.args.work.now) c.args.scope.now.frames) c.args.a c.args.b
     (c.two_numbers.ensures is_greater (λ o r h. let e : r ≡ is_gt o = search rules in e ∙ greater_told o)))
 
 pub returns-in-Gte : goal.returns-in-Gte
 unfolding form_of
 returns-in-Gte c = rw c.in-Gte.is
     (form_gte (sheet_in c.args.s.now) c.args.s.now (table c.args.work.now)
-    (frames_of c.args.s.now (table c.args.work.now) c.args.scope.frames) c.args.a c.args.b
+    (frames_of c.args.s.now (table c.args.work.now) c.args.scope.now.frames) c.args.a c.args.b
     (c.two_numbers-in-Gte.ensures (λ o. is_greater o || is_same o) (λ o r h. let e : r ≡ is_ge o = search rules in e ∙ greater_or_same_told o)))
 
 pub returns-in-Lt : goal.returns-in-Lt
 unfolding form_of
 returns-in-Lt c = rw c.in-Lt.is
     (form_lt (sheet_in c.args.s.now) c.args.s.now (table c.args.work.now)
-    (frames_of c.args.s.now (table c.args.work.now) c.args.scope.frames) c.args.a c.args.b
+    (frames_of c.args.s.now (table c.args.work.now) c.args.scope.now.frames) c.args.a c.args.b
     (c.two_numbers-in-Lt.ensures is_less (λ o r h. let e : r ≡ is_lt o = search rules in e ∙ less_told o)))
 
 pub returns-in-Lte : goal.returns-in-Lte
 unfolding form_of
 returns-in-Lte c = rw c.in-Lte.is
     (form_lte (sheet_in c.args.s.now) c.args.s.now (table c.args.work.now)
-    (frames_of c.args.s.now (table c.args.work.now) c.args.scope.frames) c.args.a c.args.b
+    (frames_of c.args.s.now (table c.args.work.now) c.args.scope.now.frames) c.args.a c.args.b
     (c.two_numbers-in-Lte.ensures (λ o. is_less o || is_same o) (λ o r h. let e : r ≡ is_le o = search rules in e ∙ less_or_same_told o)))
 
 pub returns-in-In : goal.returns-in-In
@@ -88,12 +88,12 @@ pub returns-in-StartsWith : goal.returns-in-StartsWith
 unfolding form_of
 returns-in-StartsWith c = rw c.in-StartsWith.is
     (form_starts (sheet_in c.args.s.now) c.args.s.now (table c.args.work.now)
-    (frames_of c.args.s.now (table c.args.work.now) c.args.scope.frames) c.args.a c.args.b
+    (frames_of c.args.s.now (table c.args.work.now) c.args.scope.now.frames) c.args.a c.args.b
     (c.two_texts.ensures (λ text part. begins part text) (λ x y r h. search rules)))
 
 pub returns-in-EndsWith : goal.returns-in-EndsWith
 unfolding form_of
 returns-in-EndsWith c = rw c.in-EndsWith.is
     (form_ends (sheet_in c.args.s.now) c.args.s.now (table c.args.work.now)
-    (frames_of c.args.s.now (table c.args.work.now) c.args.scope.frames) c.args.a c.args.b
+    (frames_of c.args.s.now (table c.args.work.now) c.args.scope.now.frames) c.args.a c.args.b
     (c.two_texts-in-EndsWith.ensures (λ text part. ends part text) (λ x y r h. search rules)))

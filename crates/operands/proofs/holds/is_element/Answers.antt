@@ -30,9 +30,9 @@ next-requires c = (
 pub returns : goal.returns
 returns c =
     looked_all c.loop-x.invariant (child_end c.loop-x.invariant.walk c.next.ensures c.in_default.is)
-    (element_none (alike (sheet_in c.args.s.now) c.args.left (frames_of c.args.s.now (table c.args.work.now) c.args.scope.frames))
+    (element_none (alike (sheet_in c.args.s.now) c.args.left (frames_of c.args.s.now (table c.args.work.now) c.args.scope.now.frames))
     (operand_of c.args.s.now (table c.args.work.now) c.args.o)
-    (part_at (sheet_in c.args.s.now) c.args.s.now (table c.args.work.now) (frames_of c.args.s.now (table c.args.work.now) c.args.scope.frames) c.args.whole))
+    (part_at (sheet_in c.args.s.now) c.args.s.now (table c.args.work.now) (frames_of c.args.s.now (table c.args.work.now) c.args.scope.now.frames) c.args.whole))
 
 pub part_of-part-requires : goal.part_of-part-requires
 part_of-part-requires c = (
@@ -51,9 +51,9 @@ pub returns-then-equal_at : goal.returns-then-equal_at
 returns-then-equal_at c =
     looked_here c.loop-x.invariant
     (child_given c.loop-x.invariant.walk c.next.ensures c.in-Some.x c.in-Some.is)
-    (element_here (alike (sheet_in c.args.s.now) c.args.left (frames_of c.args.s.now (table c.args.work.now) c.args.scope.frames))
+    (element_here (alike (sheet_in c.args.s.now) c.args.left (frames_of c.args.s.now (table c.args.work.now) c.args.scope.now.frames))
     (operand_of c.args.s.now (table c.args.work.now) c.args.o)
-    (part_at (sheet_in c.args.s.now) c.args.s.now (table c.args.work.now) (frames_of c.args.s.now (table c.args.work.now) c.args.scope.frames) c.args.whole) _ _
+    (part_at (sheet_in c.args.s.now) c.args.s.now (table c.args.work.now) (frames_of c.args.s.now (table c.args.work.now) c.args.scope.now.frames) c.args.whole) _ _
     c.part_of-part.ensures.means c.equal_at.ensures c.if-equal_at.true)
 
 pub loop-x-smaller : goal.loop-x-smaller
@@ -65,8 +65,8 @@ pub loop-x-preserved : goal.loop-x-preserved
 loop-x-preserved c =
     looked_on c.loop-x.invariant
     (child_given c.loop-x.invariant.walk c.next.ensures c.in-Some.x c.in-Some.is)
-    (element_on (alike (sheet_in c.args.s.now) c.args.left (frames_of c.args.s.now (table c.args.work.now) c.args.scope.frames))
+    (element_on (alike (sheet_in c.args.s.now) c.args.left (frames_of c.args.s.now (table c.args.work.now) c.args.scope.now.frames))
     (operand_of c.args.s.now (table c.args.work.now) c.args.o)
-    (part_at (sheet_in c.args.s.now) c.args.s.now (table c.args.work.now) (frames_of c.args.s.now (table c.args.work.now) c.args.scope.frames) c.args.whole) _ _
+    (part_at (sheet_in c.args.s.now) c.args.s.now (table c.args.work.now) (frames_of c.args.s.now (table c.args.work.now) c.args.scope.now.frames) c.args.whole) _ _
     c.part_of-part.ensures.means c.equal_at.ensures
     c.if-equal_at.false)

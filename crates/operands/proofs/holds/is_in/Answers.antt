@@ -19,9 +19,9 @@ is_element-requires c =
 pub returns-in-Array : goal.returns-in-Array
 returns-in-Array c =
     in_some (sheet_in c.args.s.now) c.args.s.now (table c.args.work.now)
-    (frames_of c.args.s.now (table c.args.work.now) c.args.scope.frames) c.args.a c.args.b (sym c.class.ensures ∙ c.in-Array.is)
+    (frames_of c.args.s.now (table c.args.work.now) c.args.scope.now.frames) c.args.a c.args.b (sym c.class.ensures ∙ c.in-Array.is)
     (rw (c.nesting.ensures ∙ ap nesting (sym (frames_length c.requires.0))) at c.is_element.ensures)
 
 pub returns-in_default : goal.returns-in_default
 returns-in_default c = in_none (sheet_in c.args.s.now) c.args.s.now (table c.args.work.now)
-    (frames_of c.args.s.now (table c.args.work.now) c.args.scope.frames) c.args.a c.args.b (λ e. c.in_default.not-Array (c.class.ensures ∙ e))
+    (frames_of c.args.s.now (table c.args.work.now) c.args.scope.now.frames) c.args.a c.args.b (λ e. c.in_default.not-Array (c.class.ensures ∙ e))

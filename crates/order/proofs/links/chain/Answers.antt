@@ -19,7 +19,7 @@ link-requires c =
 
 pub loop-name-preserved : goal.loop-name-preserved
 loop-name-preserved c =
-    rw c.link.ensures
+    rw (c.link.ensures, c.from-next.ensures)
     (chained_step c.loop-name.invariant c.loop-name-test.true
     c.requires.1)
 

@@ -1,14 +1,12 @@
 -- `order::order::order_rows` meets its contract: the objects passed are linked.
 -- Assumes nothing.
-use mathlib.Core.Path.{subst, ◌∙◌}
-use Prim.Native.Nat.{ℕ, ◌<◌}
+use mathlib.Core.Path.{◌∙◌}
+use Prim.Native.Nat.{◌<◌}
 use native.Mathlib.Omega.{arith}
-use lib.ListN.{length}
 use Rattle.strings.proofs.KindCodes.{is_kind, is_other}
 use Rattle.strings.specs.declared.rows.Kind.TheVariants.{Object}
 use Rattle.order.proofs.Ordering.{row_within, its_members, linked_none, linked_one, passed}
 use Rattle.json_text.specs.Table.{after_at}
-use Rattle.order.specs.Ordered.{LinkedUpto}
 use Rattle.order.proofs.order.order_rows.Goals.{then-eq, else-eq}
 use Rattle.order.proofs.order.order_rows.Goals as goal
 

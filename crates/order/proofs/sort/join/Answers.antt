@@ -10,8 +10,8 @@ use Rattle.order.proofs.sort.join.Goals as goal
 pub is_after-requires : goal.is_after-requires
 is_after-requires c = (
   c.requires.0.long,
-  text_get_d c.args.s.now c.args.work.now c.args.nodes.now (c.args.mid - 1) c.requires.0.texts (omega arith),
-  text_get_d c.args.s.now c.args.work.now c.args.nodes.now c.args.mid c.requires.0.texts c.requires.0.within,
+  rw c.from.ensures (text_get_d c.args.s.now c.args.work.now c.args.nodes.now (c.args.mid - 1) c.requires.0.texts (omega arith)),
+  rw c.from-2.ensures (text_get_d c.args.s.now c.args.work.now c.args.nodes.now c.args.mid c.requires.0.texts c.requires.0.within),
 )
 
 pub merge-requires : goal.merge-requires
@@ -23,4 +23,4 @@ returns-then-is_after c =
 
 pub returns-else-is_after : goal.returns-else-is_after
 returns-else-is_after c =
-    in_order_lem c.args.s.now c.args.work.now c.args.nodes.now c.args.mid c.requires.0 (sym c.is_after.ensures ∙ c.if-is_after.false)
+    in_order_lem c.args.s.now c.args.work.now c.args.nodes.now c.args.mid c.requires.0 (rw (← c.from.ensures, ← c.from-2.ensures) (sym c.is_after.ensures ∙ c.if-is_after.false))

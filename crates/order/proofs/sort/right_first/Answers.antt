@@ -11,14 +11,14 @@ use Rattle.order.proofs.sort.right_first.Goals as goal
 pub is_after-requires : goal.is_after-requires
 is_after-requires c = (
   c.requires.0,
-  text_get_d c.args.s.now c.args.work.now c.args.left.now c.args.i c.requires.1 c.requires.3,
-  text_next c.args.s.now c.args.work.now c.args.right.now c.args.j c.requires.2 (omega arith),
+  rw c.from.ensures (text_get_d c.args.s.now c.args.work.now c.args.left.now c.args.i c.requires.1 c.requires.3),
+  rw c.from-then-j-right.ensures (text_next c.args.s.now c.args.work.now c.args.right.now c.args.j c.requires.2 (omega arith)),
 )
 
 pub returns-then-j-right : goal.returns-then-j-right
 unfolding is_above
 returns-then-j-right c =
-    rw (drop-cons c.args.right.now c.args.j 0 (omega arith), is_above) c.is_after.ensures
+    rw (drop-cons c.args.right.now c.args.j 0 (omega arith), is_above, ← c.from.ensures, ← c.from-then-j-right.ensures) c.is_after.ensures
 
 pub returns-else-j-right : goal.returns-else-j-right
 unfolding is_above

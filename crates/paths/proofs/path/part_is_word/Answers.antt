@@ -4,6 +4,7 @@ use borrow.Author.Tests.{ne_eqb}
 use lib.ListN.{length}
 use mathlib.Core.Path.{sym, ◌∙◌}
 use native.Mathlib.Omega.{arith}
+use Rattle.std.proofs.Common.{rules}
 use Rattle.paths.proofs.Matching.{spelled, spelled_apart, spelled_dot, spelled_end, spelled_on, spelled_over}
 use Rattle.paths.proofs.path.part_is_word.Goals as goal
 use Rattle.paths.proofs.path.part_is_word.Goals.{then-c-eq34-via-then-c-eq34, then-c-eq34-via-else-c-eq34+then-c-eq46, then-c-eq34-via-else-c-eq34+else-c-eq46+then-c-b}
@@ -26,4 +27,5 @@ pub loop-n-preserved : goal.loop-n-preserved
 loop-n-preserved c = spelled_on c.loop-n.invariant c.if-c-eq92.false c.if-c-eq34.false c.if-c-eq46.false (omega arith) c.if-c-b.false
 
 pub returns : goal.returns
-returns c = spelled_over c.loop-n.invariant c.loop-n-test.false c.begin.ensures _ c.in_part.ensures c.is_none.ensures
+returns c =
+    spelled_over c.loop-n.invariant c.loop-n-test.false _ _ c.new.ensures c.next.result c.next.ensures.steps c.is_none_or.result (search rules)

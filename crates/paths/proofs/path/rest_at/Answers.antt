@@ -10,11 +10,11 @@ pub returns-in_err-x : goal.returns-in_err-x
 returns-in_err-x c =
     rw c.from_residual.ensures (rest_stops c.args.path.now c.loop-x.at c.loop-x.invariant.1 (unit_ended c.args.path.now c.loop-x.at c.unit_at.ensures c.in_err-x.was))
 
-pub returns-then-x : goal.returns-then-x
+pub returns-then-x-from : goal.returns-then-x-from
 unfolding RestTold
-returns-then-x c =
+returns-then-x-from c =
     let u = unit_was c.in_ok-x.x c.unit_at.ensures c.in_ok-x.was in (
-      c.loop-x.invariant.1 ∙ dot_here u c.if-x.true,
+      c.loop-x.invariant.1 ∙ dot_here u (c.if-x-from.true ∙ c.from.ensures),
       u.on_text,
       omega (arith, u.past),
       u.upto,
@@ -28,4 +28,4 @@ loop-x-smaller c =
 pub loop-x-preserved : goal.loop-x-preserved
 loop-x-preserved c =
     let u = unit_was c.in_ok-x.x c.unit_at.ensures c.in_ok-x.was in
-    (u.on_text, c.loop-x.invariant.1 ∙ dot_further u c.if-x.false)
+    (u.on_text, c.loop-x.invariant.1 ∙ dot_further u (rw c.from.ensures at c.if-x-from.false))

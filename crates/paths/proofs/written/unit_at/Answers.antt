@@ -14,4 +14,4 @@ returns-in-92 c = unit_escaped c.args.s.now c.args.at c.requires c.in-92.is c.es
 
 pub returns-in_default : goal.returns-in_default
 unfolding UnitTold
-returns-in_default c = unit_raw c.args.s.now c.args.at c.requires (search rules) (search rules)
+returns-in_default c = rw c.from.ensures (unit_raw c.args.s.now c.args.at c.requires (search rules) (search rules))

@@ -9,7 +9,7 @@ use Rattle.json_text.specs.Placing.{read_at}
 use Rattle.strings.specs.declared.answer.Refusal.TheVariants as whys
 use Rattle.leaves.specs.declared.bracket.Sep.TheVariants as seps
 use Rattle.reader.proofs.ArrayLoop.{array_end, array_here, array_laid, array_long, array_neither, array_on, array_past, array_refused, array_starts, array_turn, reach_falls, was_done}
-use Rattle.leaves.proofs.Loops.{array_full, object_full}
+use Rattle.leaves.proofs.Loops.{array_full, object_full, past_end}
 use Rattle.reader.proofs.ObjectLoop.{
   name_was_bad,
   name_was,
@@ -196,10 +196,10 @@ object-name-requires t c =
       noted = object_noted c.args.s.now c.args.left c.args.at c.args.node l c.requires.0.ready.long c.requires.0.depth;
     }
 
-pub object-returns-in_err-spelt-in-On : goal.object-returns-in_err-spelt-in-On
-object-returns-in_err-spelt-in-On t c =
+pub object-returns-in_err-from-in-On : goal.object-returns-in_err-from-in-On
+object-returns-in_err-from-in-On t c =
     let l = object_turn (seps.On c.in-On.here) c.loop-sep.invariant c.in-On.is in
-    let b = name_was_bad _ _ _ _ _ _ _ _ _ c.in_err-spelt-in-On.ensures in
+    let b = name_was_bad _ _ _ _ _ _ _ _ _ c.in_err-from-in-On.ensures in
     rw
     (handed_on _ c.from_residual.ensures.1)
     (record {
@@ -210,7 +210,7 @@ object-returns-in_err-spelt-in-On t c =
 pub object-value-requires : goal.object-value-requires
 object-value-requires t c =
     let l = object_turn (seps.On c.in-On.here) c.loop-sep.invariant c.in-On.is in
-    let a = name_was _ _ _ _ _ _ _ _ _ c.in_ok-spelt-in-On.ensures in
+    let a = name_was _ _ _ _ _ _ _ _ _ c.in_ok-from-in-On.ensures in
     let h = object_value_here c.args.s.now c.args.left c.args.at c.args.node l c.requires.0.ready.long c.requires.0.depth a in (
       omega (arith, c.decreases),
       record {
@@ -234,7 +234,7 @@ object-value-requires t c =
 pub object-returns-in_err-member-in-On : goal.object-returns-in_err-member-in-On
 object-returns-in_err-member-in-On t c =
     let l = object_turn (seps.On c.in-On.here) c.loop-sep.invariant c.in-On.is in
-    let a = name_was _ _ _ _ _ _ _ _ _ c.in_ok-spelt-in-On.ensures in
+    let a = name_was _ _ _ _ _ _ _ _ _ c.in_ok-from-in-On.ensures in
     rw
     (handed_on _ c.from_residual-in_err-member-in-On.ensures.1)
     (record {
@@ -245,13 +245,13 @@ object-returns-in_err-member-in-On t c =
 pub object-following-requires : goal.object-following-requires
 object-following-requires t c =
     let l = object_turn (seps.On c.in-On.here) c.loop-sep.invariant c.in-On.is in
-    let a = name_was _ _ _ _ _ _ _ _ _ c.in_ok-spelt-in-On.ensures in
+    let a = name_was _ _ _ _ _ _ _ _ _ c.in_ok-from-in-On.ensures in
     ((object_past c.args.s.now c.args.left c.args.at c.args.node l c.requires.0.ready.long c.requires.0.depth a (was_done c.in_ok-member-in-On.ensures.parsed)).1, omega arith)
 
 pub object-returns-in_err-sep-in-On : goal.object-returns-in_err-sep-in-On
 object-returns-in_err-sep-in-On t c =
     let l = object_turn (seps.On c.in-On.here) c.loop-sep.invariant c.in-On.is in
-    let a = name_was _ _ _ _ _ _ _ _ _ c.in_ok-spelt-in-On.ensures in
+    let a = name_was _ _ _ _ _ _ _ _ _ c.in_ok-from-in-On.ensures in
     rw
     (handed_on _ c.from_residual-in_err-sep-in-On.ensures.1)
     (record {
@@ -264,14 +264,14 @@ object-returns-in_err-sep-in-On t c =
 pub object-loop-sep-smaller : goal.object-loop-sep-smaller
 object-loop-sep-smaller t c =
     let l = object_turn (seps.On c.in-On.here) c.loop-sep.invariant c.in-On.is in
-    let a = name_was _ _ _ _ _ _ _ _ _ c.in_ok-spelt-in-On.ensures in
+    let a = name_was _ _ _ _ _ _ _ _ _ c.in_ok-from-in-On.ensures in
     let q = object_past c.args.s.now c.args.left c.args.at c.args.node l c.requires.0.ready.long c.requires.0.depth a (was_done c.in_ok-member-in-On.ensures.parsed) in
     rw c.in-On.is (reach_falls c.args.s.now c.in_ok-member-in-On.member.at 125 c.in-On.here _ q.0 q.1 c.in_ok-sep-in-On.ensures)
 
 pub object-loop-sep-preserved : goal.object-loop-sep-preserved
 object-loop-sep-preserved t c =
     let l = object_turn (seps.On c.in-On.here) c.loop-sep.invariant c.in-On.is in
-    let a = name_was _ _ _ _ _ _ _ _ _ c.in_ok-spelt-in-On.ensures in
+    let a = name_was _ _ _ _ _ _ _ _ _ c.in_ok-from-in-On.ensures in
     record {
       state = object_on c.args.s.now c.args.left c.args.at c.args.node l c.requires.0.ready.long c.requires.0.depth a (was_done c.in_ok-member-in-On.ensures.parsed) _ c.value.ensures.grown _
           c.in_ok-sep-in-On.ensures;
@@ -286,19 +286,28 @@ value-returns-then-left-eq0 t c =
       grown = λ i e. e;
     }
 
-pub value-returns-in-91 : goal.value-returns-in-91
-value-returns-in-91 t c =
-    rw (value_array c.args.s.now c.args.node c.args.at c.args.left c.if-left-eq0.false (sym c.byte_at.ensures ∙ c.in-91.is)) c.array.ensures
-
-pub value-returns-in-123 : goal.value-returns-in-123
-value-returns-in-123 t c =
-    rw (value_object c.args.s.now c.args.node c.args.at c.args.left c.if-left-eq0.false (sym c.byte_at.ensures ∙ c.in-123.is)) c.object.ensures
-
 pub value-returns-in_default : goal.value-returns-in_default
 value-returns-in_default t c =
     record {
+      parsed = told_bad _ c.args.work.now _ c.args.node whys.NotJson
+          (past_end c.args.left c.args.s.now c.args.node c.args.at c.in_default.ensures.lookup.3) refl;
+      grown = λ i e. e;
+    }
+
+pub value-returns-in-91 : goal.value-returns-in-91
+value-returns-in-91 t c =
+    rw (value_array c.args.s.now c.args.node c.args.at c.args.left c.if-left-eq0.false (sym (c.in-Some.ensures.lookup.3.1 0) ∙ c.in-91.is)) c.array.ensures
+
+pub value-returns-in-123 : goal.value-returns-in-123
+value-returns-in-123 t c =
+    rw (value_object c.args.s.now c.args.node c.args.at c.args.left c.if-left-eq0.false (sym (c.in-Some.ensures.lookup.3.1 0) ∙ c.in-123.is)) c.object.ensures
+
+pub value-returns-in_default-c : goal.value-returns-in_default-c
+value-returns-in_default-c t c =
+    let b = c.in-Some.ensures.lookup.3.1 0 in
+    record {
       parsed = rw
-          (value_leaf c.args.s.now c.args.node c.args.at c.args.left (λ q. omega (arith, c.byte_at.ensures)) (λ q. omega (arith, c.byte_at.ensures)))
-          c.leaf-in_default.ensures;
+          (value_leaf c.args.s.now c.args.node c.args.at c.args.left (λ q. omega (arith, b)) (λ q. omega (arith, b)))
+          c.leaf-in_default-c.ensures;
       grown = λ i e. e;
     }

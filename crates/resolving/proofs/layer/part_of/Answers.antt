@@ -23,7 +23,7 @@ value_at-requires c = node_room c.requires.0 c.requires.1
 
 pub returns-in-Listed : goal.returns-in-Listed
 returns-in-Listed c =
-    part_written (sheet_in c.args.s.now) (frames_of c.args.s.now (table c.args.work.now) c.args.scope.frames) c.args.o
+    part_written (sheet_in c.args.s.now) (frames_of c.args.s.now (table c.args.work.now) c.args.scope.now.frames) c.args.o
     c.args.node c.in-Listed.is
     (frames_outer c.requires.0 c.outer-under.result.frames c.args.o.depth c.outer-under.ensures.3)
     (ap (λ (x : ℕ). x + 1)
@@ -33,6 +33,6 @@ returns-in-Listed c =
 
 pub returns-in_default : goal.returns-in_default
 returns-in_default c =
-    part_value (sheet_in c.args.s.now) (frames_of c.args.s.now (table c.args.work.now) c.args.scope.frames) c.args.o
+    part_value (sheet_in c.args.s.now) (frames_of c.args.s.now (table c.args.work.now) c.args.scope.now.frames) c.args.o
     c.args.node c.in_default.not-Listed c.in_default.not-Named
     (c.value_at.ensures c.args.s.now c.requires.1)

@@ -65,7 +65,7 @@ resolve-returns-in-Object t c = c.resolve_parts-in-Object.ensures
 pub resolve-returns-in_default : goal.resolve-returns-in_default
 resolve-returns-in_default t c =
     rw c.at.ensures
-    (plain_value c.args.quiet (sheet_in c.args.s.now) (frames_of c.args.s.now (table c.args.work.now) c.args.scope.frames)
+    (plain_value c.args.quiet (sheet_in c.args.s.now) (frames_of c.args.s.now (table c.args.work.now) c.args.scope.now.frames)
     c.requires.1 c.kind_at.ensures
     (λ e. c.in_default.not-Text (text_coded _ e)) (λ e. c.in_default.not-Array (array_coded _ e)) (λ e. c.in_default.not-Object (object_coded _ e))
     c.value_kind.ensures)
@@ -78,7 +78,7 @@ resolve_parts-of-c-requires t c =
 pub resolve_parts-loop-x-init : goal.resolve_parts-loop-x-init
 resolve_parts-loop-x-init t c =
     gather_begin c.args.quiet c.args.s.now c.args.work.now (sheet_in c.args.s.now)
-    (frames_of c.args.s.now (table c.args.work.now) c.args.scope.frames) c.args.node c.args.scope.frames.depth c.args.named
+    (frames_of c.args.s.now (table c.args.work.now) c.args.scope.now.frames) c.args.node c.args.scope.now.frames.depth c.args.named
     c.args.left c.requires.1 c.requires.0.linked (frames_length c.requires.0) c.requires.2 c.of-c.ensures
 
 pub resolve_parts-next-requires : goal.resolve_parts-next-requires
@@ -91,8 +91,8 @@ resolve_parts-next-requires t c = (
   c.loop-x.invariant.walk.within,
 )
 
-pub resolve_parts-returns-in_default : goal.resolve_parts-returns-in_default
-resolve_parts-returns-in_default t c =
+pub resolve_parts-returns : goal.resolve_parts-returns
+resolve_parts-returns t c =
     gather_end c.loop-x.invariant c.requires.1 c.requires.0.bound.within
     (child_end c.loop-x.invariant.walk (rw c.loop-x.invariant.left.rows at c.next.ensures)
     c.in_default.is) c.gathered.ensures

@@ -60,7 +60,7 @@ observed-requires c = (
 pub returns-in-Plain : goal.returns-in-Plain
 returns-in-Plain c =
     rw c.at.ensures
-    (text_plain c.args.quiet (sheet_in c.args.s.now) (frames_of c.args.s.now (table c.args.work.now) c.args.scope.frames) c.args.s.now c.args.work.now
+    (text_plain c.args.quiet (sheet_in c.args.s.now) (frames_of c.args.s.now (table c.args.work.now) c.args.scope.now.frames) c.args.s.now c.args.work.now
     c.args.node c.requires.1
     (was_plain c.args.s.now c.classify.ensures c.start_at.ensures
     c.in-Plain.is))
@@ -68,14 +68,14 @@ returns-in-Plain c =
 pub returns-in-Escaped : goal.returns-in-Escaped
 returns-in-Escaped c =
     rw c.at-in-Escaped.ensures
-    (text_escaped c.args.quiet (sheet_in c.args.s.now) (frames_of c.args.s.now (table c.args.work.now) c.args.scope.frames) c.args.s.now c.args.work.now
+    (text_escaped c.args.quiet (sheet_in c.args.s.now) (frames_of c.args.s.now (table c.args.work.now) c.args.scope.now.frames) c.args.s.now c.args.work.now
     c.args.node c.requires.1
     (was_escaped c.args.s.now c.classify.ensures
     c.start_at.ensures _ c.in-Escaped.is))
 
 pub returns-in-Ok : goal.returns-in-Ok
 returns-in-Ok c =
-    text_observed c.args.quiet (sheet_in c.args.s.now) (frames_of c.args.s.now (table c.args.work.now) c.args.scope.frames) c.args.s.now c.args.work.now
+    text_observed c.args.quiet (sheet_in c.args.s.now) (frames_of c.args.s.now (table c.args.work.now) c.args.scope.now.frames) c.args.s.now c.args.work.now
     c.args.node c.requires.1
     (was_expression c.args.s.now c.classify.ensures c.start_at.ensures _
     c.in-Expression.is).0
@@ -87,7 +87,7 @@ returns-in-Ok c =
 
 pub returns-in-Err : goal.returns-in-Err
 returns-in-Err c =
-    text_refused c.args.quiet (sheet_in c.args.s.now) (frames_of c.args.s.now (table c.args.work.now) c.args.scope.frames) c.args.s.now c.args.work.now
+    text_refused c.args.quiet (sheet_in c.args.s.now) (frames_of c.args.s.now (table c.args.work.now) c.args.scope.now.frames) c.args.s.now c.args.work.now
     c.args.node c.requires.1
     (was_expression c.args.s.now c.classify.ensures c.start_at.ensures _
     c.in-Expression.is).0

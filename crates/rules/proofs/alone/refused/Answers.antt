@@ -1,7 +1,7 @@
 -- `rules::alone::refused` meets its contract: by the case of the refusal.
 -- Assumes nothing.
 use Rattle.std.specs.Prelude.{Err}
-use mathlib.Core.Path.{ap, subst}
+use mathlib.Core.Path.{subst}
 use Rattle.comparison.specs.Answers.{EvaluatedAs}
 use Rattle.paths.specs.declared.operand.EvalError.{EvalError}
 use Rattle.rules.specs.Alone.{RefusedAt}

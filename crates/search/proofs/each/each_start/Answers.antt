@@ -2,45 +2,42 @@
 -- Assumes nothing.
 use mathlib.Core.Path.{ap, sym, ◌∙◌, ◌≡◌}
 use mathlib.Core.Bool.{Bool}
+use native.Mathlib.Omega.{arith}
+use lib.ListN.{length}
 use Rattle.json_text.specs.Bytes.{Bytes, begins}
 use Rattle.json_text.specs.Spans.{text_at}
-use Rattle.strings.proofs.Leaves.{before_of, was_byte, was_end}
-use Rattle.search.proofs.Reading.{start_before, start_on}
+use Rattle.strings.specs.Decoded.{left_of}
+use Rattle.search.proofs.Reading.{gave_none, gave_one}
 use Rattle.search.proofs.Searching.{part_here, part_later, part_over}
 use Rattle.search.proofs.each.each_start.Goals.{After-begins}
 use Rattle.search.proofs.each.each_start.Goals as goal
 
 -- what `begins` told of this start
-told : (c : After-begins) → {b : Bool} → b ≡ begins (before_of c.args.s.now c.begin.result) (before_of c.args.s.now c.loop-x.x) →
-    begins (text_at c.args.s.now c.args.part) (before_of c.args.s.now c.loop-x.x) ≡ b
-told c e = ap (λ (p : Bytes). begins p (before_of c.args.s.now c.loop-x.x)) (sym (start_before c.args.s.now c.args.part c.begin.ensures)) ∙ sym e
+told : (c : After-begins) {b : Bool} → b ≡ begins (left_of c.new-sought.result) (left_of c.loop-sought.rest) →
+    begins (text_at c.args.s.now c.args.part) (left_of c.loop-sought.rest) ≡ b
+told c e = ap (λ (p : Bytes). begins p (left_of c.loop-sought.rest)) (sym c.new-sought.ensures) ∙ sym e
 
-pub loop-x-init : goal.loop-x-init
-loop-x-init c = (
-  start_on c.args.s.now c.args.text c.begin-x.ensures c.requires.0,
-  rw (start_before c.args.s.now c.args.text c.begin-x.ensures),
-)
+pub loop-sought-init : goal.loop-sought-init
+loop-sought-init c = rw c.new-rest.ensures
 
 pub returns-then-begins : goal.returns-then-begins
 returns-then-begins c =
     sym
-    (c.loop-x.invariant.1 ∙ part_here (text_at c.args.s.now c.args.part) _
+    (c.loop-sought.invariant ∙ part_here (text_at c.args.s.now c.args.part) _
     (told (goal.at.returns-then-begins c).After-begins c.if-begins.ensures))
 
-pub returns-in_default : goal.returns-in_default
-returns-in_default c =
+pub returns-then-is_none : goal.returns-then-is_none
+returns-then-is_none c =
     sym
-    (c.loop-x.invariant.1 ∙ part_over (text_at c.args.s.now c.args.part)
-    (told (goal.at.returns-in_default c).After-begins c.if-begins.ensures)
-    (was_end c.args.s.now c.loop-x.x c.next.ensures c.in_default.is))
+    (c.loop-sought.invariant ∙ part_over (text_at c.args.s.now c.args.part)
+    (told (goal.at.returns-then-is_none c).After-begins c.if-begins.ensures)
+    (gave_none _ _ c.next.result c.next.ensures.steps c.if-is_none.ensures))
 
-pub loop-x-smaller : goal.loop-x-smaller
-loop-x-smaller c = (was_byte c.in-Some.t c.next.ensures c.in-Some.is).falls
+pub loop-sought-smaller : goal.loop-sought-smaller
+loop-sought-smaller c = let e = ap length (gave_one _ _ c.next.result c.next.ensures.steps c.if-is_none.ensures).1 in omega arith
 
-pub loop-x-preserved : goal.loop-x-preserved
-loop-x-preserved c =
-    let t = was_byte c.in-Some.t c.next.ensures c.in-Some.is in (
-      t.on_text,
-      c.loop-x.invariant.1 ∙ part_later (text_at c.args.s.now c.args.part)
-          (told (goal.at.loop-x-preserved c).After-begins c.if-begins.ensures) t.byte,
-    )
+pub loop-sought-preserved : goal.loop-sought-preserved
+loop-sought-preserved c =
+    c.loop-sought.invariant ∙ part_later (text_at c.args.s.now c.args.part)
+    (told (goal.at.loop-sought-preserved c).After-begins c.if-begins.ensures)
+    (gave_one _ _ c.next.result c.next.ensures.steps c.if-is_none.ensures).1

@@ -1,30 +1,22 @@
 -- `search::end::past` meets its contract: as much is read of both, until the first ends.
 -- Assumes nothing.
-use Rattle.search.proofs.Reading.{pair_grow, pair_past, pair_short}
+use Rattle.search.proofs.Reading.{pair_grow, pair_past, pair_short, paired}
 use Rattle.search.specs.Told.{PastTold}
-use Rattle.strings.proofs.Leaves.{was_byte, was_end}
 use Rattle.search.proofs.end.past.Goals as goal
 
-pub returns-in_err-x : goal.returns-in_err-x
+pub loop-init : goal.loop-init
+loop-init c = rw c.into_iter-iterator.ensures.into_iter_gives (paired _ _)
+
+pub loop-preserved : goal.loop-preserved
+loop-preserved c = pair_grow _ _ _ _ c.loop.invariant _ _ c.in-Some.ensures.steps _ _ c.in_ok-next.ensures.steps
+
+pub returns-in_err-next : goal.returns-in_err-next
 unfolding PastTold
-returns-in_err-x c =
+returns-in_err-next c =
     rw
     c.from_residual.ensures
-    (pair_short c.args.s.now _ _ c.loop-p.y c.loop-p.x c.loop-p.invariant _ _
-    (was_byte c.in-Some.p c.next.ensures c.in-Some.is)
-    (was_end c.args.s.now c.loop-p.x c.next-in-Some.ensures c.in_err-x.was))
-
-pub loop-p-smaller : goal.loop-p-smaller
-loop-p-smaller c = (was_byte c.in-Some.p c.next.ensures c.in-Some.is).falls
-
-pub loop-p-preserved : goal.loop-p-preserved
-loop-p-preserved c =
-    pair_grow c.args.s.now _ _ c.loop-p.y c.loop-p.x c.loop-p.invariant _ _
-    (was_byte c.in-Some.p c.next.ensures c.in-Some.is) _ _
-    (was_byte c.in_ok-x.field-0 c.next-in-Some.ensures c.in_ok-x.was)
+    (pair_short _ _ _ _ c.loop.invariant _ _ c.in-Some.ensures.steps c.in_err-next.ensures.steps.0)
 
 pub returns : goal.returns
 unfolding PastTold
-returns c =
-    let e = pair_past c.args.s.now _ _ c.loop-p.y c.loop-p.x c.loop-p.invariant (was_end c.args.s.now c.loop-p.y c.next.ensures c.in_default.is) in
-    record { on_text = c.loop-p.invariant.on_text; within = e.1; rest = e.0 }
+returns c = pair_past _ _ _ _ c.loop.invariant c.in-None.ensures.steps.0

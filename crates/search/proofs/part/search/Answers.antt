@@ -1,38 +1,29 @@
 -- `search::part::search` meets its contract: every start before this one is refuted, and k bytes match from it on.
 -- Assumes nothing.
-use mathlib.Core.Path.{sym}
+use mathlib.Core.Path.{ap, sym}
 use native.Mathlib.Omega.{arith}
-use Rattle.strings.proofs.Leaves.{was_byte, was_end}
+use lib.ListN.{length}
 use Rattle.json_text.specs.Spans.{text_at}
 use Rattle.search.proofs.Reading.{read_end, read_found, read_grow, read_jump, read_skip, reading}
 use Rattle.search.proofs.part.search.Goals as goal
 
 pub search-init : goal.search-init
-search-init c =
-    reading c.args.s.now c.args.part.now c.args.text c.begin-x.ensures
-    c.requires.0
+search-init c = rw c.new-rest.ensures (reading c.args.part.now (text_at c.args.s.now c.args.text))
 
 pub returns-in_default : goal.returns-in_default
 returns-in_default c =
     sym
-    (read_end c.args.s.now c.args.part.now (text_at c.args.s.now c.args.text) c.loop-k.x c.loop-k.k c.loop-k.invariant.0
-    c.if-k-n.false
-    (was_end c.args.s.now c.loop-k.x c.next.ensures c.in_default.is))
+    (read_end c.args.part.now (text_at c.args.s.now c.args.text) _ c.loop-k.k c.loop-k.invariant.0
+    c.if-k-n.false c.in_default.ensures.steps.0)
 
 pub search-smaller-then-k-eq0 : goal.search-smaller-then-k-eq0
-search-smaller-then-k-eq0 c =
-    omega (
-      arith,
-      c.loop-k.invariant.1,
-      (was_byte c.in-Some.t c.next.ensures c.in-Some.is).falls,
-    )
+search-smaller-then-k-eq0 c = let e = ap length c.in-Some.ensures.steps in omega (arith, c.loop-k.invariant.1)
 
 pub search-preserved-then-k-eq0 : goal.search-preserved-then-k-eq0
 search-preserved-then-k-eq0 c =
-    read_skip c.args.s.now c.args.part.now (text_at c.args.s.now c.args.text) c.loop-k.x c.loop-k.k c.loop-k.invariant.0
-    c.if-k-n.false _ _
-    (was_byte c.in-Some.t c.next.ensures c.in-Some.is)
-    c.if-t-part.true c.if-k-eq0.true
+    read_skip c.args.part.now (text_at c.args.s.now c.args.text) _ c.loop-k.k c.loop-k.invariant.0
+    c.if-k-n.false _ _ c.in-Some.ensures.steps
+    c.if-b-part.true c.if-k-eq0.true
 
 pub search-smaller : goal.search-smaller
 search-smaller c =
@@ -47,29 +38,24 @@ pub search-preserved : goal.search-preserved
 search-preserved c =
     rw
     c.from-k.ensures
-    (read_jump c.args.s.now c.args.part.now (text_at c.args.s.now c.args.text) c.loop-k.x c.loop-k.k c.loop-k.invariant.0
-    c.if-k-n.false _ _
-    (was_byte c.in-Some.t c.next.ensures c.in-Some.is)
-    c.if-t-part.true _
+    (read_jump c.args.part.now (text_at c.args.s.now c.args.text) _ c.loop-k.k c.loop-k.invariant.0
+    c.if-k-n.false _ _ c.in-Some.ensures.steps
+    c.if-b-part.true _
     (c.requires.1.border c.loop-k.k (omega arith) (omega (arith, c.loop-k.invariant.0.most))))
 
 pub loop-k-smaller : goal.loop-k-smaller
-loop-k-smaller c =
-    omega (
-      arith,
-      (was_byte c.in-Some.t c.next.ensures c.in-Some.is).falls,
-    )
+loop-k-smaller c = let e = ap length c.in-Some.ensures.steps in omega arith
 
 pub loop-k-preserved : goal.loop-k-preserved
 loop-k-preserved c =
-    let was_byte1 = was_byte c.in-Some.t c.next.ensures c.in-Some.is in (
-      read_grow c.args.s.now c.args.part.now (text_at c.args.s.now c.args.text) c.loop-k.x c.loop-k.k c.loop-k.invariant.0
-          c.if-k-n.false _ _ was_byte1 c.if-t-part.false,
-      omega (arith, c.loop-k.invariant.1, was_byte1.falls),
+    let e = ap length c.in-Some.ensures.steps in (
+      read_grow c.args.part.now (text_at c.args.s.now c.args.text) _ c.loop-k.k c.loop-k.invariant.0
+          c.if-k-n.false _ _ c.in-Some.ensures.steps c.if-b-part.false,
+      omega (arith, c.loop-k.invariant.1),
     )
 
 pub returns : goal.returns
 returns c =
     sym
-    (read_found c.args.s.now c.args.part.now (text_at c.args.s.now c.args.text) c.loop-k.x
+    (read_found c.args.part.now (text_at c.args.s.now c.args.text) _
     c.loop-k.k c.loop-k.invariant.0 c.if-k-n.true)

@@ -2,14 +2,8 @@
 -- Assumes nothing.
 use mathlib.Core.Path.{◌≡◌}
 use Rattle.json_text.specs.Bytes.{begins}
-use Rattle.json_text.specs.Cursor.{OnText, weight}
-use Rattle.strings.proofs.Leaves.{before_of}
+use Rattle.strings.specs.Decoded.{left_of}
 use Rattle.search.proofs.start.begins.Given as goal
 
 abbrev pub invariant-loop-p : goal.invariant-loop-p
-invariant-loop-p l =
-    OnText l.s l.y.at l.y.left × OnText l.s l.z.at l.z.left ×
-    (begins (before_of l.s l.initial.y) (before_of l.s l.initial.z) ≡ begins (before_of l.s l.y) (before_of l.s l.z))
-
-abbrev pub decreases-loop-p : goal.decreases-loop-p
-decreases-loop-p l = weight l.s l.y.at l.y.left
+invariant-loop-p l = begins (left_of l.fn.part) (left_of l.fn.text) ≡ begins (left_of l.p-iterator) (left_of l.text)

@@ -2,11 +2,12 @@
 -- Assumes nothing.
 use mathlib.Core.Path.{ap}
 use Rattle.sheet.proofs.Rules.{a_word, effect_moved, not_effect, object_members, on_text_lem}
-use Rattle.members.proofs.Shapes.{no_object_code, no_text_code}
+use Rattle.members.proofs.Shapes.{other_code}
 use Rattle.members.proofs.Walks.{room}
 use Rattle.members.specs.Outcome.{a_move}
 use Rattle.members.specs.Verdicts.{is_ok}
 use Rattle.strings.specs.Answers.{code_of}
+use Rattle.strings.specs.declared.rows.Kind.TheVariants as kinds
 use Rattle.sheet.proofs.outcome.is_effect.Goals as goal
 
 pub kind_at-requires : goal.kind_at-requires
@@ -37,4 +38,4 @@ returns-in-Object c =
 
 pub returns-in_default : goal.returns-in_default
 returns-in_default c =
-    not_effect c.requires _ c.kind_at.ensures (no_text_code _ c.in_default.not-Text) (no_object_code _ c.in_default.not-Object)
+    not_effect c.requires _ c.kind_at.ensures (other_code _ kinds.Text c.in_default.not-Text) (other_code _ kinds.Object c.in_default.not-Object)

@@ -13,7 +13,7 @@ pub kind_at-requires : goal.kind_at-requires
 kind_at-requires c = room c.requires
 
 pub returns-then-ne : goal.returns-then-ne
-returns-then-ne c = not_outcome c.requires _ c.kind_at.ensures (unlike c.kind_at.result kinds.Object c.ne.ensures c.if-ne.true)
+returns-then-ne c = not_outcome c.requires _ c.kind_at.ensures (unlike _ kinds.Object c.if-ne.ensures)
 
 pub after_at-end-requires : goal.after_at-end-requires
 after_at-end-requires c = room c.requires
@@ -21,17 +21,17 @@ after_at-end-requires c = room c.requires
 pub members-m-requires : goal.members-m-requires
 members-m-requires c =
     object_members c.requires _ c.kind_at.ensures
-    (alike c.kind_at.result kinds.Object c.ne.ensures c.if-ne.false) _ c.after_at-end.ensures
+    (alike _ kinds.Object c.if-ne.ensures) _ c.after_at-end.ensures
 
 pub only-requires : goal.only-requires
 only-requires c =
     object_members c.requires _ c.kind_at.ensures
-    (alike c.kind_at.result kinds.Object c.ne.ensures c.if-ne.false) _ c.after_at-end.ensures
+    (alike _ kinds.Object c.if-ne.ensures) _ c.after_at-end.ensures
 
 pub returns : goal.returns
 returns c =
     is_outcome c.requires _ c.kind_at.ensures
-    (alike c.kind_at.result kinds.Object c.ne.ensures c.if-ne.false) _ c.after_at-end.ensures _ c.members-m.ensures _ _ _ _ _ _
+    (alike _ kinds.Object c.if-ne.ensures) _ c.after_at-end.ensures _ c.members-m.ensures _ _ _ _ _ _
     c.only.ensures
     (c.needs.ensures (λ v. is_ok (a_text v)) (λ s w n b h. h))
     (c.allows.ensures (λ v. is_ok (not_null v)) (λ s w n b h. h))

@@ -28,12 +28,12 @@ overflow_add-a c = omega (arith, abreast_in_a c.loop-a.invariant)
 pub overflow_add-b : goal.overflow_add-b
 overflow_add-b c = omega (arith, abreast_in_b c.loop-a.invariant)
 
-pub decoded-requires : goal.decoded-requires
-decoded-requires c =
+pub compare_decoded-requires : goal.compare_decoded-requires
+compare_decoded-requires c =
     (c.loop-a.invariant.on_a, c.loop-a.invariant.on_b)
 
 pub returns-then-c-eq34 : goal.returns-then-c-eq34
-returns-then-c-eq34 c = c.loop-a.invariant.same ∙ c.decoded.ensures
+returns-then-c-eq34 c = c.loop-a.invariant.same ∙ c.compare_decoded.ensures
 
 pub returns-then-c-d : goal.returns-then-c-d
 returns-then-c-d c =
@@ -51,12 +51,12 @@ overflow_add-a-then-c-eq92-2 c = omega (arith, abreast_in_a c.loop-a.invariant)
 pub overflow_add-b-then-c-eq92-2 : goal.overflow_add-b-then-c-eq92-2
 overflow_add-b-then-c-eq92-2 c = omega (arith, abreast_in_b c.loop-a.invariant)
 
-pub decoded-requires-then-c-eq92-2 : goal.decoded-requires-then-c-eq92-2
-decoded-requires-then-c-eq92-2 c =
+pub compare_decoded-requires-then-c-eq92-2 : goal.compare_decoded-requires-then-c-eq92-2
+compare_decoded-requires-then-c-eq92-2 c =
     (c.loop-a.invariant.on_a, c.loop-a.invariant.on_b)
 
 pub returns-then-c-eq92-2 : goal.returns-then-c-eq92-2
-returns-then-c-eq92-2 c = c.loop-a.invariant.same ∙ c.decoded-then-c-eq92-2.ensures
+returns-then-c-eq92-2 c = c.loop-a.invariant.same ∙ c.compare_decoded-then-c-eq92-2.ensures
 
 pub overflow_add-n : goal.overflow_add-n
 overflow_add-n c = omega (arith, abreast_in_a c.loop-a.invariant)

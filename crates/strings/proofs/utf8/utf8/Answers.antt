@@ -1,8 +1,7 @@
 -- `strings::utf8::utf8` meets its contract: what is left of the text decides the whole.
 -- Assumes nothing.
-use mathlib.Core.Path.{sym, subst, ◌∙◌}
-use Rattle.strings.proofs.Encoding.{ascii_utf8, checked, checking, ended, refuted}
-use Rattle.strings.specs.Answers.{Follows}
+use mathlib.Core.Path.{sym}
+use Rattle.strings.proofs.Encoding.{ascii_utf8, broken_off, checked, checking, ended, refuted}
 use Rattle.strings.proofs.utf8.utf8.Goals as goal
 
 pub returns-then-is_ascii : goal.returns-then-is_ascii
@@ -17,5 +16,8 @@ returns-in-None c = refuted c.loop-c.invariant c.loop-c-test.true c.in-None.ensu
 pub loop-c-preserved : goal.loop-c-preserved
 loop-c-preserved c = checked c.loop-c.invariant _ c.loop-c-test.true c.in-Some.ensures
 
-pub returns : goal.returns
-returns c = ended c.loop-c.invariant c.loop-c-test.false
+pub returns-in-Scalar : goal.returns-in-Scalar
+returns-in-Scalar c = ended c.loop-c.invariant c.loop-c-test.false c.in-Scalar.is
+
+pub returns-in_default : goal.returns-in_default
+returns-in_default c = broken_off c.loop-c.invariant c.loop-c-test.false c.in_default.not-Scalar

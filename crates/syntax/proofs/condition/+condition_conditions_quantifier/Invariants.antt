@@ -6,6 +6,9 @@ use Rattle.members.proofs.Conditions.{faults_in}
 use Rattle.members.proofs.Walks.{OverNodes}
 use Rattle.members.specs.Condition.{condition_array}
 use Rattle.members.specs.Verdicts.{fault_of}
+use Rattle.strings.proofs.Nodes.{Along}
+use Rattle.strings.specs.Leads.{of_array}
+use Rattle.strings.specs.Nodes.{elements_left}
 use Rattle.syntax.proofs.condition.+condition_conditions_quantifier.Given as goal
 
 abbrev pub decreases-condition : goal.decreases-condition
@@ -19,7 +22,4 @@ decreases-quantifier l = 2 * l.left
 
 abbrev pub invariant-conditions-loop-k : goal.invariant-conditions-loop-k
 invariant-conditions-loop-k l =
-    OverNodes l.s l.work (l.left - 1) l.end (fault_of (condition_array (value_at l.s l.work l.node))) faults_in l.k
-
-abbrev pub decreases-conditions-loop-k : goal.decreases-conditions-loop-k
-decreases-conditions-loop-k l = l.end - l.k
+    Along l.work of_array l.end (OverNodes l.s l.work (l.left - 1) l.end (fault_of (condition_array (value_at l.s l.work l.node))) faults_in) (elements_left l.k-iterator)

@@ -1,35 +1,25 @@
--- `sheet::condition::count_elements` meets its contract: so many so far, and those from here on.
+-- `syntax::condition::count_elements` meets its contract: so many so far, and those from here on.
 -- Assumes nothing.
+use mathlib.Core.Path.{refl}
 use native.Mathlib.Omega.{arith}
-use Rattle.syntax.proofs.Counts.{element_counted, elements_all, elements_counted}
-use Rattle.members.proofs.Walks.{element_falls, element_node, room}
+use Rattle.strings.proofs.Members.{elements_lead}
+use Rattle.strings.proofs.Nodes.{begun, counted, over}
+use Rattle.strings.specs.Nodes.{elements_left}
+use lib.ListN.{length}
+use Rattle.json_text.specs.Json.{elements}
+use Rattle.json_text.specs.Table.{values_at}
+use Rattle.syntax.proofs.Counts.{ElementsCounted, element_counted, elements_all, elements_counted}
 use Rattle.syntax.proofs.condition.count_elements.Goals as goal
 
-pub loop-k-init : goal.loop-k-init
-loop-k-init c =
-    elements_counted c.args.s.now c.args.work.now c.args.from c.args.end c.requires
-
-pub overflow_add-n : goal.overflow_add-n
-overflow_add-n c =
-    omega (
-      arith,
-      c.loop-k.invariant.few,
-      (room (element_node c.loop-k.invariant.over c.loop-k-test.true)).1,
-    )
-
-pub after_at-k-requires : goal.after_at-k-requires
-after_at-k-requires c = room (element_node c.loop-k.invariant.over c.loop-k-test.true)
-
-pub loop-k-smaller : goal.loop-k-smaller
-loop-k-smaller c =
-    omega (
-      arith,
-      (element_falls c.loop-k.invariant.over c.loop-k-test.true _ c.after_at-k.ensures).0,
-      (element_falls c.loop-k.invariant.over c.loop-k-test.true _ c.after_at-k.ensures).1,
-    )
-
-pub loop-k-preserved : goal.loop-k-preserved
-loop-k-preserved c = element_counted c.loop-k.invariant c.loop-k-test.true _ c.after_at-k.ensures
+pub new-requires : goal.new-requires
+new-requires c = elements_lead c.requires
 
 pub returns : goal.returns
-returns c = elements_all c.loop-k.invariant c.loop-k-test.false
+returns c =
+    let s = c.args.s.now in
+    let w = c.args.work.now in
+    let whole = length (elements (values_at s w c.args.from c.args.end)) in
+    let ran = c.count.ensures.ran in
+    let first = elements_counted s w c.args.from c.args.end c.requires in
+    let a = counted elements_left (ElementsCounted s w c.args.end whole) (λ n k i h. element_counted i h _ refl) 0 ran.0 ran.1.1.1 (begun c.new.ensures first) in
+    omega (arith, ran.2, elements_all a.rest (over a ran.1.1.2))

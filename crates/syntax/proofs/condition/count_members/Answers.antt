@@ -1,33 +1,25 @@
--- `sheet::condition::count_members` meets its contract: so many so far, and those from here on.
+-- `syntax::condition::count_members` meets its contract: so many so far, and those from here on.
 -- Assumes nothing.
+use mathlib.Core.Path.{refl}
 use native.Mathlib.Omega.{arith}
-use Rattle.syntax.proofs.Counts.{member_counted, members_all, members_counted}
-use Rattle.members.proofs.Walks.{falls, name_room, value_room}
+use Rattle.strings.proofs.Members.{members_lead}
+use Rattle.strings.proofs.Nodes.{begun, counted, over}
+use Rattle.strings.specs.Nodes.{keys_left}
+use lib.ListN.{length}
+use Rattle.json_text.specs.Json.{entries}
+use Rattle.json_text.specs.Table.{members_at}
+use Rattle.syntax.proofs.Counts.{MembersCounted, member_counted, members_all, members_counted}
 use Rattle.syntax.proofs.condition.count_members.Goals as goal
 
-pub loop-k-init : goal.loop-k-init
-loop-k-init c =
-    members_counted c.args.s.now c.args.work.now c.args.from c.args.end c.requires
-
-pub overflow_add-n : goal.overflow_add-n
-overflow_add-n c = omega (arith, c.loop-k.invariant.few, (name_room c.loop-k.invariant.over c.loop-k-test.true).1)
-
-pub overflow_add-k : goal.overflow_add-k
-overflow_add-k c = omega (arith, (value_room c.loop-k.invariant.over c.loop-k-test.true).1)
-
-pub after_at-k-requires : goal.after_at-k-requires
-after_at-k-requires c = value_room c.loop-k.invariant.over c.loop-k-test.true
-
-pub loop-k-smaller : goal.loop-k-smaller
-loop-k-smaller c =
-    omega (
-      arith,
-      (falls c.loop-k.invariant.over c.loop-k-test.true _ c.after_at-k.ensures).0,
-      (falls c.loop-k.invariant.over c.loop-k-test.true _ c.after_at-k.ensures).1,
-    )
-
-pub loop-k-preserved : goal.loop-k-preserved
-loop-k-preserved c = member_counted c.loop-k.invariant c.loop-k-test.true _ c.after_at-k.ensures
+pub new-requires : goal.new-requires
+new-requires c = members_lead c.requires
 
 pub returns : goal.returns
-returns c = members_all c.loop-k.invariant c.loop-k-test.false
+returns c =
+    let s = c.args.s.now in
+    let w = c.args.work.now in
+    let whole = length (entries (members_at s w c.args.from c.args.end)) in
+    let ran = c.count.ensures.ran in
+    let first = members_counted s w c.args.from c.args.end c.requires in
+    let a = counted keys_left (MembersCounted s w c.args.end whole) (λ n k i h. member_counted i h _ refl) 0 ran.0 ran.1.1.1 (begun c.new.ensures first) in
+    omega (arith, ran.2, members_all a.rest (over a ran.1.1.2))

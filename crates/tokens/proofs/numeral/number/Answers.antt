@@ -1,6 +1,6 @@
 -- `number` meets its contract: the rest of the number decides the whole.
 -- Assumes nothing.
-use mathlib.Core.Path.{refl, subst, sym, ◌∙◌}
+use mathlib.Core.Path.{◌∙◌}
 use native.Mathlib.Omega.{arith}
 use Rattle.strings.specs.Answers.{scan_of}
 use Rattle.tokens.proofs.Numbers.{Numbering, at_end, at_stop, no_number, numbering, on, over_digits, too_long}

@@ -1,6 +1,6 @@
 -- `number` meets its contract: the rest of the number decides the whole.
 -- Assumes nothing.
-use Prim.Native.Nat.{◌-◌, ◌≤◌}
+use Prim.Native.Nat.{◌-◌}
 use lib.ListN.{length}
 use Rattle.tokens.proofs.Numbers.{Numbering}
 use Rattle.tokens.proofs.numeral.number.Given as goal

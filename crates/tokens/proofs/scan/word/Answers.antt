@@ -1,7 +1,7 @@
 -- `word` meets its contract: the rest of the word at this place decides the whole.
 -- Assumes nothing.
-use Prim.Native.Nat.{◌+◌, ◌-◌}
-use lib.ListN.{drop, length, length-drop, take}
+use Prim.Native.Nat.{◌+◌}
+use lib.ListN.{drop, length, length-drop}
 use mathlib.Core.List.{[], ◌∷◌, ◌++◌}
 use mathlib.Core.Path.{refl, sym, ◌∙◌, ◌≡◌}
 use native.Mathlib.Omega.{arith}

@@ -6,7 +6,7 @@ use Rattle.std.proofs.lemmas.Iterator.Adapters.{YieldsList-from_rev_slice}
 use Rattle.std.proofs.lemmas.Iterator.Search.{cmp_from_yields_List}
 use Rattle.json_text.specs.Orders.{order_of}
 use Rattle.number.proofs.Columns.{rows_order}
-use Rattle.number.proofs.Orders.{order_list}
+use Rattle.json_text.proofs.Compared.{order_list}
 use Rattle.number.proofs.places.Integer.order_digits.Goals as goal
 
 pub returns : goal.returns

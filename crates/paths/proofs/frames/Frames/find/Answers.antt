@@ -1,32 +1,32 @@
--- `paths::frames::Frames::find` meets its contract: what is found among the frames left is the answer.
+-- `paths::frames::Frames::find` meets its contract: what is found among the slots left is the answer.
 -- Assumes nothing.
-use mathlib.Core.Path.{ap, sym, ◌∙◌}
-use Prim.Native.Nat.{◌-◌}
+use borrow.Author.Rules.{rules}
+use lib.ListN.{length, take}
+use mathlib.Core.Path.{ap, refl, subst, sym, ◌∙◌, ◌≡◌}
 use Rattle.std.specs.Prelude.{Some}
-use Rattle.paths.proofs.Stack.{bound_here, bound_none, bound_on, name_at}
+use Rattle.paths.specs.Stack.{Named, bound_in}
+use Rattle.paths.proofs.Stack.{frames_front, frames_in, length_mapped, sought_here, sought_name, sought_none, sought_on}
 use native.Mathlib.Omega.{arith}
 use Rattle.paths.proofs.frames.Frames.find.Goals as goal
 
+pub loop-slot-init : goal.loop-slot-init
+loop-slot-init c =
+    let long : length c.args.self.now.slots ≡ 32 = search (rules, length_mapped) in
+    let left : c.into_iter-slot-iterator.result.iter.rest.now ≡ take c.args.self.now.depth c.args.self.now.slots = search rules in
+    let same = ap frames_in left ∙ frames_front c.args.self.now.depth c.args.self.now.slots (omega (arith, long)) in
+    record { named = subst (Named c.args.s.now) (sym same) c.requires.1; found = ap (bound_in c.args.s.now _) (sym same) }
+
 pub part_is-requires : goal.part_is-requires
-part_is-requires c = (
-  c.requires.2,
-  name_at c.args.s.now c.args.self.depth (c.loop-i.i - 1) c.args.self.slots
-      (omega (arith, c.loop-i.auto.i)) c.requires.1,
-)
+part_is-requires c = (c.requires.2, rw c.from.ensures (sought_name _ c.in-Some.slot.now c.loop-slot.invariant c.in-Some.ensures.steps))
 
 pub returns-then-part_is : goal.returns-then-part_is
 returns-then-part_is c =
     ap Some c.operand.ensures ∙
-    sym
-    (c.loop-i.invariant ∙ bound_here c.args.s.now _ c.args.self.slots c.loop-i.i (omega arith)
-    (sym c.if-part_is.true ∙ c.part_is.ensures))
+    sym (sought_here _ c.in-Some.slot.now c.loop-slot.invariant c.in-Some.ensures.steps (sym c.if-part_is.true ∙ (rw c.from.ensures at c.part_is.ensures)))
 
-pub loop-i-preserved : goal.loop-i-preserved
-loop-i-preserved c =
-    c.loop-i.invariant ∙ bound_on c.args.s.now _ c.args.self.slots c.loop-i.i (omega arith)
-    (sym c.if-part_is.false ∙ c.part_is.ensures)
+pub loop-slot-preserved : goal.loop-slot-preserved
+loop-slot-preserved c =
+    sought_on _ c.in-Some.slot.now c.loop-slot.invariant c.in-Some.ensures.steps (sym c.if-part_is.false ∙ (rw c.from.ensures at c.part_is.ensures))
 
 pub returns : goal.returns
-returns c =
-    sym
-    (c.loop-i.invariant ∙ bound_none c.args.s.now _ c.args.self.slots c.loop-i.i (omega arith))
+returns c = sym (sought_none c.loop-slot.invariant c.in-None.ensures.steps.0)
