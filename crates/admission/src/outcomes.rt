@@ -21,7 +21,7 @@ pub fn members_at(s: &[u8], work: &[u32], node: usize) -> OutcomeMembers
     members(s, work, node + 1, end)
 }
 
-// The outcome at a place, of those from `from` up to `end`. Not one walk with a test passed to it: its contract would have to say of any test what each of the walks says of its own.
+// The outcome at a place, of those from `from` up to `end`.
 pub fn outcome_at(work: &[u32], from: usize, end: usize, place: usize) -> Option<Placed>
     requires { Known (λ (s : Bytes). Known (EachGives (an_outcome condition) s work.now from end)) }
     ensures { (s : Bytes) (os : List (Outcome Condition)) → EachGives (an_outcome condition) s work.now from end os → PlacedAt s work.now (at 0 place os) result }
@@ -30,7 +30,8 @@ pub fn outcome_at(work: &[u32], from: usize, end: usize, place: usize) -> Option
     Some(Placed { place, node })
 }
 
-// The first outcome for the wrong state, of those from `from` up to `end`.
+// The first outcome for the wrong state, of those from `from` up to `end`. Not one walk with `is_source` and `is_among`, to which a test is passed: its
+// contract would have to say of any test what each of the walks says of its own.
 pub fn first_wrong(s: &[u8], work: &[u32], from: usize, end: usize) -> Option<Placed>
     requires { Known (EachGives (an_outcome condition) s.now work.now from end) }
     ensures { (os : List (Outcome Condition)) → EachGives (an_outcome condition) s.now work.now from end os → PlacedAt s.now work.now (first_from (λ o. o.wrong_state) 0 os) result }

@@ -59,7 +59,8 @@ fn quantifier_at(s: &[u8], work: &[u32], mode: Mode, node: usize) -> Quantifier
 }
 
 // What an empty collection gives.
-// Three functions and no methods: `Mode` is another crate's type, and a trait for it alone would be no plainer.
+// Three functions and no methods: `Mode` is another crate's type, and a trait for it alone would be no plainer. A match and no closures: how a collection
+// begins, is joined and is settled go together.
 fn start(mode: Mode) -> Truth
     ensures { truth_of result ≡ start (mode_of mode) }
 {
@@ -109,7 +110,8 @@ pub fn evaluate(
     let name = start_at(work, node + 1);
     let inner = node + 2;
     let left = left - 1;
-    // the sheet's shape was checked: its conditions have an operator, and one that is carried, so neither NoId here is ever given
+    // the sheet's shape was checked: its conditions have an operator, and one that is carried, so neither NoId here is ever given; a case of its own would
+    // have to be carried on to answers that have no number for it
     let Some(operator) = operator_at(s, name) else {
         return Err(EvalError::NoId);
     };

@@ -39,6 +39,7 @@ fn scan(s: &[u8], at: usize, kind: Kind) -> Result<usize, Refusal>
 }
 
 // A node's row is written; the answer is the place behind its value.
+// Seven parameters, the six of `put_row` and the place: a struct would be taken apart here at once, as there.
 pub fn lay(
     work: &mut [u32],
     node: usize,

@@ -14,6 +14,8 @@ use strings::rows::{Keys, start_at};
 
 // The value's node of the member, from `from` up to `end`, whose name is the word.
 // Not one function with strings' `find`: that one compares two texts of the sheet, this one a word, and each would keep its contract.
+// `from` and `end` and no `Keys`, here and in the other walks over what a node holds: `Keys` says that its rows lead on, and what is asked is that members
+// of the sheet stand there.
 pub fn named(s: &[u8], work: &[u32], from: usize, end: usize, word: &[u8]) -> Option<usize>
     requires { AreMembers s.now work.now 64 from end }
     ensures { Located s.now work.now from end (find word.now (entries (members_at s.now work.now from end))) result }

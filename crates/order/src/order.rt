@@ -4,20 +4,18 @@ ghost use Rattle.order.specs.ByText.{TextNodes, by_key, key_at};
 ghost use Rattle.order.specs.Chained.{CanGather, CanLink, CanOrder, ClearedBehind, Gathered, chained, ordered_at};
 ghost use Rattle.order.specs.Ordered.{CanOrderRows, LinkedUpto, Ordered, Unordered};
 
-use strings::rows::{Kind, after_at, kind_at};
+use strings::rows::{Keys, Kind, after_at, kind_at};
 
 // The nodes of the names from a place up to another, as the text has them; how many there are.
 fn gather(work: &[u32], from: usize, end: usize, names: &mut [u16]) -> usize
     requires { CanGather work.now from end (length names.old) }
     ensures { Gathered work.now from end names.new result }
 {
-    // the list is lent, so its length stands beside it; a `for` over its places would lend them one by one, and say nothing of what they hold then
+    // the list is lent, so how many names it has stands beside it
     let mut count = 0;
-    let mut k = from;
-    while k < end {
+    for k in Keys::new(work, from, end) {
         names[count] = k as u16;
         count += 1;
-        k = after_at(work, k + 1);
     }
     count
 }

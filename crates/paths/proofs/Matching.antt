@@ -89,13 +89,22 @@ pub alongside : (path s : Bytes) (name : ℕ) → OnText path 0 0 → OnText s n
 alongside path s name p q = let x : name + 0 ≡ name = omega arith in record { on_path = p; on_name = rw x q; same = rw x }
 
 module _ {path s : Bytes} {name n : ℕ} (l : Alongside path s name n) where
+  pub alongside_in_path : n < length path
+  alongside_in_path = omega (arith, l.on_path.text.order, l.on_path.text.upto)
+
+  pub alongside_in_name : name + n < length s
+  alongside_in_name = omega (arith, l.on_name.text.order, l.on_name.text.upto)
+
   pub alongside_dot : get_or path n 0 ≡ 46 → (get_or s (name + n) 0 ≡ 92 → ⊥) → eqb (get_or s (name + n) 0) 34 ≡ same_bytes (part (text_at path 0)) (text_at s name)
   alongside_dot e g = text_ended l.on_name g ∙ sym (l.same ∙ part_dot _ (text_begins l.on_path (λ q. omega arith) (λ q. omega arith)) e)
 
-  pub alongside_both : get_or path n 0 ≡ 34 → get_or s (name + n) 0 ≡ 34 → true ≡ same_bytes (part (text_at path 0)) (text_at s name)
-  alongside_both p q = sym (l.same ∙ part_ended _ (text_ends l.on_path p) ∙ same_none refl (text_ends l.on_name q))
-
   module _ (e : get_or path n 0 ≡ get_or s (name + n) 0) where
+    pub alongside_end : get_or path n 0 ≡ 34 → true ≡ same_bytes (part (text_at path 0)) (text_at s name)
+    alongside_end q = sym (l.same ∙ part_ended _ (text_ends l.on_path q) ∙ same_none refl (text_ends l.on_name (sym e ∙ q)))
+
+    pub alongside_dots : get_or path n 0 ≡ 46 → false ≡ same_bytes (part (text_at path 0)) (text_at s name)
+    alongside_dots q = sym (ne_eqb (get_or s (name + n) 0) 34 (λ r. omega arith)) ∙ alongside_dot q (λ r. omega arith)
+
     pub alongside_on : (get_or path n 0 ≡ 92 → ⊥) → (get_or path n 0 ≡ 34 → ⊥) → (get_or path n 0 ≡ 46 → ⊥) → Alongside path s name (n + 1)
     alongside_on g f m =
         let f' : get_or s (name + n) 0 ≡ 34 → ⊥ = λ q. f (e ∙ q) in
@@ -117,23 +126,6 @@ module _ {path s : Bytes} {name n : ℕ} (l : Alongside path s name n) where
       go true p k q = part_ended _ (text_ends l.on_path (eqb-true _ 34 p)) ∙ sym (text_ended l.on_name h) ∙ ne_eqb _ 34 (λ r. a (eqb-true _ 34 p ∙ sym r))
       go false p true q = part_longer _ (text_begins l.on_path (eqb-false _ 34 p) g) m (text_ends l.on_name (eqb-true _ 34 q))
       go false p false q = part_apart _ (text_begins l.on_path (eqb-false _ 34 p) g) m (text_begins l.on_name (eqb-false _ 34 q) h) a
-
-  -- two bytes none of which begins an escape, and which are the same only at an end
-  module _ (g : get_or path n 0 ≡ 92 → ⊥) (h : get_or s (name + n) 0 ≡ 92 → ⊥) where
-    pub alongside_quote : (get_or path n 0 ≡ 34 → ⊥) → get_or s (name + n) 0 ≡ 34 → eqb (get_or path n 0) 46 ≡ same_bytes (part (text_at path 0)) (text_at s name)
-    alongside_quote f q = go (eqb (get_or path n 0) 46) refl
-      where
-        go : (b : Bool) → eqb (get_or path n 0) 46 ≡ b → b ≡ same_bytes (part (text_at path 0)) (text_at s name)
-        go true k = sym (eq-eqb _ 34 q) ∙ alongside_dot (eqb-true _ 46 k) h
-        go false k = alongside_apart (λ e. f (e ∙ q)) g h (eqb-false _ 46 k)
-
-    pub alongside_no : (get_or s (name + n) 0 ≡ 34 → ⊥) → (get_or path n 0 ≡ get_or s (name + n) 0 → (get_or path n 0 ≡ 46 → ⊥) → ⊥) →
-        false ≡ same_bytes (part (text_at path 0)) (text_at s name)
-    alongside_no f a = go (eqb (get_or path n 0) 46) refl
-      where
-        go : (b : Bool) → eqb (get_or path n 0) 46 ≡ b → false ≡ same_bytes (part (text_at path 0)) (text_at s name)
-        go true k = sym (ne_eqb _ 34 f) ∙ alongside_dot (eqb-true _ 46 k) h
-        go false k = alongside_apart (λ e. a e (eqb-false _ 46 k)) g h (eqb-false _ 46 k)
 
 -- a part that begins with a word's first bytes
 pub record Spelled (path word : Bytes) (n : ℕ) : Type 0 where

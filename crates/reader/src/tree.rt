@@ -41,6 +41,7 @@ pub fn root(s: &[u8], work: &mut [u32], at: usize) -> Result<Place, Refusal>
     requires { Ready s.now work.old at 0 }
     ensures { ParsedTold (read_at 64 s.now 0 at) work.old work.new 0 result }
 {
+    // on the stack, since there is no heap: a mark for each number that a name can give
     let mut seen = [false; 32749];
     value(s, work, &mut seen, at, 0, 64)
 }

@@ -80,6 +80,9 @@ module _ {s : Bytes} {w : List ℕ} {name e : ℕ} {whole : Option Value} {k : �
     pub on_name : (a : ℕ) → a ≡ start_at w k → OnText s a 0
     on_name a q = subst (λ (x : ℕ). OnText s x 0) (sym q) (record { stop = end_at w k; text = m.name; few = omega arith })
 
+    pub falls : (k' : ℕ) → k' ≡ after_at w (k + 1) → (k < k') × (k' ≤ e)
+    falls k' q = (omega (arith, m.past), omega (arith, m.upto))
+
     pub here : (a : ℕ) → a ≡ start_at w k → true ≡ same_bytes (text_at s name) (text_at s a) → FoundTold s w whole (Some (k + 1))
     unfolding found_of FoundIn
     here a q e =

@@ -128,7 +128,8 @@ impl<'a> Iterator for Elements<'a> {
 }
 
 // The nodes of the names of an object's members, from one up to another: the row of a member's value, behind its name, says which is next.
-// Two types: one, with a number for how far behind its node a value stands, takes 1.28 times the instructions where names are compared.
+// Two types and no const parameter, which would say 0 and 1 at each use where these say what is walked; with a number as a field 50 short texts take 1.12
+// times the instructions, in a library compiled without proofs.
 #[derive(Clone, Copy)]
 pub struct Keys<'a> {
     work: &'a [u32],
@@ -192,10 +193,14 @@ pub fn find(s: &[u8], work: &[u32], from: usize, end: usize, name: usize) -> Opt
     requires { HasMembers s.now work.now from end × OnText s.now name 0 }
     ensures { FoundTold s.now work.now (find (text_at s.now name) (entries (members_at s.now work.now from end))) result }
 {
-    for k in Keys::new(work, from, end) {
-        if crate::text::same(s, name, start_at(work, k)) {
+    // a loop by hand: over `Keys` it takes 1.31 times the instructions where 1,600 names meet in one mark
+    let mut k = from;
+    while k < end {
+        let a = start_at(work, k);
+        if crate::text::same(s, name, a) {
             return Some(k + 1);
         }
+        k = after_at(work, k + 1);
     }
     None
 }

@@ -1,44 +1,72 @@
 -- `paths::path::part_is` meets its contract: up to the first escape or difference the bytes of the part and the text are those that stand there, and
 -- the same.
 -- Assumes nothing.
-use borrow.Author.Rules.{rules}
+use mathlib.Core.Path.{sym, ◌∙◌}
+use native.Mathlib.Omega.{arith}
 use borrow.Author.Tests.{eq-eqb, ne_eqb}
-use lib.ListN.{get_or}
-use mathlib.Core.Bool.{false, true}
-use mathlib.Core.Logic.{⊎_elim}
-use Rattle.paths.proofs.Stands.{impossible}
-use mathlib.Core.Path.{sym, ◌∙◌, ◌≡◌}
-use Prim.Native.Nat.{◌+◌}
-use Rattle.paths.proofs.Matching.{alongside, alongside_both, alongside_no, alongside_on, alongside_quote}
+use Rattle.paths.proofs.Matching.{alongside, alongside_apart, alongside_dot, alongside_dots, alongside_end, alongside_in_name, alongside_in_path, alongside_on}
 use Rattle.paths.proofs.path.part_is.Goals as goal
-use Rattle.paths.proofs.path.part_is.Goals.{then-loop-n-test+else-not-matches, in-34, in_default, else-loop-n-test}
+use Rattle.paths.proofs.path.part_is.Goals.{then-c-eq34-via-then-c-eq34, then-c-eq34-via-else-c-eq34+then-c-eq46-2}
 
-pub loop-n-init : goal.loop-n-init
-loop-n-init c = alongside c.args.path.now c.args.s.now c.args.name c.requires.0 c.requires.1
+pub loop-name-init : goal.loop-name-init
+loop-name-init c =
+    alongside c.args.path.now c.args.s.now c.args.name c.requires.0 c.requires.1
 
-pub loop-n-preserved : goal.loop-n-preserved
-loop-n-preserved c =
-    elim c.match-matches.branch [
-      | in-34 w ↦ absurd (search rules)
-      | in_default w ↦ alongside_on c.loop-n.invariant c.loop-n-test.true (search rules) (search rules) (search rules)
-    ]
+pub bounds-path-n : goal.bounds-path-n
+bounds-path-n c = alongside_in_path c.loop-name.invariant
+
+pub overflow_add-d : goal.overflow_add-d
+overflow_add-d c = omega (arith, alongside_in_name c.loop-name.invariant)
+
+pub bounds-s-name : goal.bounds-s-name
+bounds-s-name c = alongside_in_name c.loop-name.invariant
+
+pub overflow_add-name : goal.overflow_add-name
+overflow_add-name c = omega (arith, alongside_in_name c.loop-name.invariant)
+
+pub part_decoded-requires : goal.part_decoded-requires
+part_decoded-requires c =
+    (c.loop-name.invariant.on_path, c.loop-name.invariant.on_name)
+
+pub returns-then-c-eq92 : goal.returns-then-c-eq92
+returns-then-c-eq92 c = c.part_decoded.ensures ∙ sym c.loop-name.invariant.same
+
+pub returns-then-c-eq46 : goal.returns-then-c-eq46
+returns-then-c-eq46 c =
+    alongside_dot c.loop-name.invariant c.if-c-eq46.true
+    c.if-d-eq92.false
+
+pub returns-else-c-eq46 : goal.returns-else-c-eq46
+returns-else-c-eq46 c =
+    ne_eqb _ 46 c.if-c-eq46.false ∙ alongside_apart
+    c.loop-name.invariant c.if-c-d.true
+    c.if-c-eq92.false c.if-d-eq92.false c.if-c-eq46.false
+
+pub overflow_add-name-then-c-eq92-2 : goal.overflow_add-name-then-c-eq92-2
+overflow_add-name-then-c-eq92-2 c = omega (arith, alongside_in_name c.loop-name.invariant)
+
+pub part_decoded-requires-then-c-eq92-2 : goal.part_decoded-requires-then-c-eq92-2
+part_decoded-requires-then-c-eq92-2 c =
+    (c.loop-name.invariant.on_path, c.loop-name.invariant.on_name)
+
+pub returns-then-c-eq92-2 : goal.returns-then-c-eq92-2
+returns-then-c-eq92-2 c = c.part_decoded-then-c-eq92-2.ensures ∙ sym c.loop-name.invariant.same
 
 pub returns-then-c-eq34 : goal.returns-then-c-eq34
-returns-then-c-eq34 c = eq-eqb _ 34 c.if-c-eq34.true ∙ alongside_both c.loop-n.invariant c.if-c-eq34.true c.if-d-eq34.true
-
-pub returns-else-c-eq34 : goal.returns-else-c-eq34
-returns-else-c-eq34 c = alongside_quote c.loop-n.invariant c.if-c-eq92.false c.if-d-eq92.false c.if-c-eq34.false c.if-d-eq34.true
-
-pub returns-else-d-eq34 : goal.returns-else-d-eq34
-returns-else-d-eq34 c =
-    let at_end : get_or c.args.path.now c.loop-n.n 0 ≡ get_or c.args.s.now (c.args.name + c.loop-n.n) 0 → (get_or c.args.path.now c.loop-n.n 0 ≡ 46 → ⊥) → ⊥ =
-    elim c.loop-n-test.branch [
-      | then-loop-n-test+else-not-matches w ↦
-          elim w.match-matches.branch [
-            | in-34 v ↦ λ e m. ⊎_elim (λ q. c.if-d-eq34.false (sym e ∙ q)) (λ r. ⊎_elim m c.if-c-eq92.false r) v.in-34.is
-            | in_default v ↦ λ e m. let q : true ≡ false = sym w.if-not-matches.false ∙ v.matches-is in impossible (cc)
-          ]
-      | else-loop-n-test w ↦ λ e m. w.loop-n-test.false e
+returns-then-c-eq34 c =
+    elim c.then-c-eq34.branch [
+      | then-c-eq34-via-then-c-eq34 w ↦ eq-eqb _ 34 w.if-c-eq34.true ∙ alongside_end c.loop-name.invariant c.if-c-d.false w.if-c-eq34.true
+      | then-c-eq34-via-else-c-eq34+then-c-eq46-2 w ↦ ne_eqb _ 34 w.if-c-eq34.false ∙ alongside_dots c.loop-name.invariant c.if-c-d.false w.if-c-eq46-2.true
     ]
-    in
-    ne_eqb _ 34 c.if-d-eq34.false ∙ alongside_no c.loop-n.invariant c.if-c-eq92.false c.if-d-eq92.false c.if-d-eq34.false at_end
+
+pub overflow_add-n : goal.overflow_add-n
+overflow_add-n c = omega (arith, alongside_in_path c.loop-name.invariant)
+
+pub loop-name-smaller : goal.loop-name-smaller
+loop-name-smaller c = omega (arith, alongside_in_path c.loop-name.invariant)
+
+pub loop-name-preserved : goal.loop-name-preserved
+loop-name-preserved c =
+    alongside_on c.loop-name.invariant
+    c.if-c-d.false c.if-c-eq92-2.false c.if-c-eq34.false
+    c.if-c-eq46-2.false

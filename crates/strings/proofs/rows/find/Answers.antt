@@ -1,42 +1,60 @@
--- `strings::rows::find` meets its contract: the loop says that the search from here on is the whole search.
+-- `reader::rows::find` meets its contract: the loop says that the search from here on is the whole search.
 -- Assumes nothing.
 use native.Mathlib.Omega.{arith}
-use mathlib.Core.Path.{ap, refl, sym, ◌∙◌}
-use Rattle.strings.proofs.Members.{ended, here, name_room, members_lead, on, on_name, value_room}
-use Rattle.strings.proofs.Nodes.{Turn, begun, over, turn}
-use Rattle.strings.specs.Nodes.{keys_left}
-use Rattle.strings.proofs.rows.find.Goals.{In-Some}
+use mathlib.Core.Path.{refl, sym, ◌∙◌}
+use Rattle.strings.proofs.Members.{ended, name_room, value_room, on_name, here, falls, on}
 use Rattle.strings.proofs.rows.find.Goals as goal
 
-pub new-k-items-requires : goal.new-k-items-requires
-new-k-items-requires c = members_lead c.requires.0.members
-
 pub loop-k-init : goal.loop-k-init
-loop-k-init c =
-    begun (ap keys_left c.into_iter-k-iterator.ensures.into_iter_gives ∙ c.new-k-items.ensures)
-    (record { members = c.requires.0; text = c.requires.1; rest = refl })
+loop-k-init c = record { members = c.requires.0; text = c.requires.1; rest = refl }
 
-this : (c : In-Some) → Turn c.loop-k.invariant (keys_left c.next.new.self) c.in-Some.k
-this c = turn c.loop-k.invariant c.in-Some.ensures.steps
-
-pub start_at-requires : goal.start_at-requires
-start_at-requires c = let t = this (goal.at.start_at-requires c).In-Some in name_room t.here t.more
+pub start_at-a-requires : goal.start_at-a-requires
+start_at-a-requires c = name_room c.loop-k.invariant c.loop-k-test.true
 
 pub same-requires : goal.same-requires
-same-requires c = let t = this (goal.at.same-requires c).In-Some in (t.here.text, on_name t.here t.more _ c.start_at.ensures)
+same-requires c = (
+  c.loop-k.invariant.text,
+  on_name c.loop-k.invariant c.loop-k-test.true _ c.start_at-a.ensures,
+)
 
 pub overflow_add-result : goal.overflow_add-result
-overflow_add-result c = let t = this (goal.at.overflow_add-result c).In-Some in omega (arith, (value_room t.here t.more).1)
+overflow_add-result c =
+    omega (
+      arith,
+      (value_room c.loop-k.invariant
+          c.loop-k-test.true).1,
+    )
 
 pub returns-then-same : goal.returns-then-same
 returns-then-same c =
-    let t = this (goal.at.returns-then-same c).In-Some in
-    here t.here t.more _ c.start_at.ensures (sym c.if-same.true ∙ c.same.ensures)
+    here c.loop-k.invariant c.loop-k-test.true _
+    c.start_at-a.ensures (sym c.if-same.true ∙ c.same.ensures)
+
+pub overflow_add-k : goal.overflow_add-k
+overflow_add-k c =
+    omega (
+      arith,
+      (value_room c.loop-k.invariant
+          c.loop-k-test.true).1,
+    )
+
+pub after_at-k-requires : goal.after_at-k-requires
+after_at-k-requires c =
+    value_room c.loop-k.invariant c.loop-k-test.true
+
+pub loop-k-smaller : goal.loop-k-smaller
+loop-k-smaller c =
+    omega (
+      arith,
+      (falls c.loop-k.invariant c.loop-k-test.true _ c.after_at-k.ensures).0,
+      (falls c.loop-k.invariant c.loop-k-test.true _ c.after_at-k.ensures).1,
+    )
 
 pub loop-k-preserved : goal.loop-k-preserved
 loop-k-preserved c =
-    let t = this (goal.at.loop-k-preserved c).In-Some in
-    t.on (on t.here t.more _ c.start_at.ensures (sym c.if-same.false ∙ c.same.ensures) _ refl)
+    on c.loop-k.invariant
+    c.loop-k-test.true _ c.start_at-a.ensures
+    (sym c.if-same.false ∙ c.same.ensures) _ c.after_at-k.ensures
 
 pub returns : goal.returns
-returns c = ended c.loop-k.invariant.rest (over c.loop-k.invariant c.in-None.ensures.steps)
+returns c = ended c.loop-k.invariant c.loop-k-test.false
