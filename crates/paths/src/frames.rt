@@ -16,7 +16,7 @@ pub struct Frame {
     pub operand: Operand,
 }
 
-// A frame as it is kept, in eight bytes: frames are copied at each call.
+// A frame as it is kept, in eight bytes: all frames are copied where a binder comes or goes.
 #[derive(Clone, Copy)]
 pub struct Slot {
     pub name: u16,
