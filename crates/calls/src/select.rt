@@ -72,8 +72,10 @@ pub fn select(s: &[u8], work: &mut [u32], m: Members) -> Result<Placed, Answer>
         node: m.outcomes + 1,
     };
     while here.node < end {
-        if try_outcome(s, work, m, here)? {
-            return Ok(here);
+        match try_outcome(s, work, m, here) {
+            Ok(true) => return Ok(here),
+            Ok(false) => {}
+            Err(a) => return Err(a),
         }
         here = here.next(work);
     }

@@ -4,14 +4,16 @@
 
 use calling::Call;
 use decision::call::run;
-use records::{check_list, field, is_line};
+use records::{behind, check_list, find, is_line};
 
-// Whether the sheet's condition is answered with the record's line.
+// Whether the sheet's condition is answered with the record's line: all that stands behind the first tab, a further tab too.
 fn check(record: &[u8]) -> Result<(), &'static str> {
     let mut work = [0u32; 16384];
     let mut out = [0u8; 65536];
-    match run(field(record, 0), &mut work, &mut out, Call::Evaluate).size() {
-        Some(size) if is_line(&out, size, field(record, 1)) => Ok(()),
+    let stop = find(record, 0, b'\t');
+    let from = behind(record, stop);
+    match run(&record[..stop], &mut work, &mut out, Call::Evaluate).size() {
+        Some(size) if is_line(&out, size, &record[from..]) => Ok(()),
         _ => Err(" differs"),
     }
 }

@@ -1,4 +1,4 @@
--- Every reply ends as the table has it.
+-- Every reply ends as the table has it; so its number has a line's length where the table has a line.
 -- Assumes nothing.
 use mathlib.Core.Bool.{Bool, false, true}
 use Rattle.std.specs.Prelude.{Option, None, Some}
@@ -9,7 +9,7 @@ use native.Mathlib.Omega.{arith}
 use lib.Dec.{leb}
 use lib.ListN.{length}
 use Rattle.answers.specs.Line.{refusal_line, refusal_number, verdict_line}
-use Rattle.answers.specs.Reply.{Reply, fitted, reply}
+use Rattle.answers.specs.Reply.{Reply, fitted, line_size, reply}
 use Rattle.answers.specs.Verdict.{Verdict}
 use Rattle.json_text.specs.Bytes.{Bytes}
 use Rattle.json_text.specs.Refusal as refusals
@@ -49,6 +49,7 @@ use Rattle.answers.specs.Entry.{call, enough}
 use Rattle.answers.specs.Ended.{Ended, answered, line_too_long, with_line, without_line}
 use Rattle.calling.specs.declared.Call.{Call}
 use Rattle.decision.proofs.Calls.{of_verdict}
+use Rattle.line.specs.Replies.{Told}
 
 -- a line that fits, or 23
 abbrev kept : ℕ → Bytes → Bool → Reply
@@ -107,3 +108,10 @@ every_call_ends f s words size = ended size (enough words >>= (λ _. read_sheet 
 
 pub ends : (x : Call) (s : Bytes) (words size : ℕ) → Ended (call_of x s words size)
 ends x s words size = rw of_verdict (every_call_ends (verdict_of x) s words size)
+
+-- ---- so its number has a line's length where the table has a line
+pub told_ended : {r : Reply} → Ended r → Told r.number (line_size r)
+told_ended (answered line) = record { most = omega arith; early = λ a b. absurd (omega (arith, a)); last = λ e. absurd (omega (arith, e)) }
+told_ended (with_line n line a b) = record { most = omega (arith, b); early = λ c d. absurd (omega (arith, a, d)); last = λ e. absurd (omega (arith, b, e)) }
+told_ended (without_line n a b) = record { most = omega (arith, b); early = λ _ _. refl; last = λ _. refl }
+told_ended line_too_long = record { most = omega arith; early = λ _ _. refl; last = λ _. refl }

@@ -46,7 +46,8 @@ pub fn name(
     ensures { NameTold s.now work.old work.new seen.old seen.new object at count result }
 {
     let text = tokens::scan::byte(s, at, b'"')?;
-    if 4096 <= count {
+    let is_full = 4096 <= count;
+    if is_full {
         return Err(Refusal::TooManyNodes);
     }
     let end = tokens::scan::string(s, text)?;

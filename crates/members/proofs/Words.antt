@@ -1,11 +1,11 @@
 -- A text against a word, turn by turn, and whether it is one of several.
 -- Assumes nothing.
-use mathlib.Core.Bool.{Bool, false, true}
+use mathlib.Core.Bool.{Bool, false, true, true≢false}
 use mathlib.Core.List.{List, [], ◌++◌, ◌∷◌}
 use Rattle.std.specs.Borrow.{Bor}
-use Rattle.std.specs.Prelude.{Option}
-use Rattle.std.specs.Option.{is_some}
-use Rattle.std.specs.List.{position, position_from}
+use Rattle.std.specs.Prelude.{Option, nat_eq}
+use Rattle.std.specs.Option.{is_some, option_eq}
+use Rattle.std.specs.List.{position, position_from, slice_get}
 use Rattle.std.proofs.lemmas.Iterator.Adapters.{position_from-zero}
 use mathlib.Core.Path.{ap, refl, sym, ◌∙◌, ◌≡◌}
 use Prim.Native.Nat.{ℕ, ◌+◌, ◌-◌, ◌<◌, ◌≤◌}
@@ -14,7 +14,7 @@ use native.Mathlib.Omega.{arith}
 use lib.Dec.{eqb, ltb}
 use lib.ListN.{drop, drop_of_length-le, get_or, length, length-drop, take}
 use lib.Seq.{drop-cons, take_all}
-use borrow.Author.Tests.{ltb-false, ltb-true}
+use borrow.Author.Tests.{eq-eqb, ltb-false, ltb-true}
 use Rattle.json_text.proofs.Cursor.{encode_1, encode_2, encode_3, encode_4, same_apart, same_long, same_none, same_on, same_short, text_begins, text_behind, text_ends}
 use Rattle.json_text.proofs.Texts.{TextView, ended, raw, text_view, written}
 use Rattle.json_text.proofs.Laws.{eqb_no, eqb_true}
@@ -102,6 +102,13 @@ other_start s at word o h f g = go (eqb (get_or s (at + 0) 0) 34) refl
     go : (b : Bool) → eqb (get_or s (at + 0) 0) 34 ≡ b → false ≡ same_bytes (text_at s at) word
     go true e = ended_early l (eqb_true (get_or s (at + 0) 0) 34 e) h
     go false e = unlike l (eqb_no (get_or s (at + 0) 0) 34 e) (rw z g) h (rw z f)
+
+-- a text and a word of which one begins as the other does not
+pub parted : (t w : Bytes) → option_eq nat_eq (slice_get w 0) (slice_get t 0) ≡ false → false ≡ same_bytes t w
+parted [] [] h = absurd (true≢false h)
+parted [] (d ∷ w) h = sym (same_short refl refl)
+parted (c ∷ t) [] h = sym (same_long refl refl)
+parted (c ∷ t) (d ∷ w) h = sym (same_apart refl refl (λ q. true≢false (sym (eq-eqb d c (sym q)) ∙ h)))
 
 -- whether a text has a place among words
 listed_from : (n : ℕ) (k : Bytes) (ws : List (Bor Bytes)) → is_some (position_from (λ w. same_bytes k w.now) n ws) ≡ is_one_of k (words ws)

@@ -404,8 +404,22 @@ trim_twice (c ∷ s) = go (trim_twice s) (is_zero c) refl
     go h true e = rw (e, trim) h
     go h false e = rw (e, trim, e, trim) refl
 
+-- a row without the zeros at its start ends where the whole row does
+module _ (p : ℕ → Bool) (z : p 48 ≡ false) (a b : Bytes) where
+  trimmed_parts : (s : Bytes) → Splits p (trim s) a b → s ≡ before p s ++ b
+  unfolding trim
+  trimmed_parts [] h = h.parts ∙ ap (λ (t : Bytes). t ++ b) h.front
+  trimmed_parts (c ∷ s) h = go (trimmed_parts s) (is_zero c) refl
+    where
+      go : (Splits p (trim s) a b → s ≡ before p s ++ b) → (x : Bool) → is_zero c ≡ x → c ∷ s ≡ before p (c ∷ s) ++ b
+      go k true e = rw (before_on p c s (zero_fails p z c e)) (ap (λ (t : Bytes). c ∷ t) (k (rw (e, trim) at h)))
+      go k false e = let l = rw (e, trim) at h in l.parts ∙ ap (λ (t : Bytes). t ++ b) l.front
+
+  pub split_trimmed : (s : Bytes) → Splits p (trim s) a b → Splits p s (before p s) b
+  split_trimmed s h = record { front = refl; parts = trimmed_parts s h; stop = h.stop }
+
 -- the rows that zeros are taken from hold as many bytes as their zeros and what is left
-pub trim_lengths : (a b x y : Bytes) → x ++ y ≡ trim (a ++ b) → leading (a ++ b) + (length x + length y) ≡ length a + length b
+trim_lengths : (a b x y : Bytes) → x ++ y ≡ trim (a ++ b) → leading (a ++ b) + (length x + length y) ≡ length a + length b
 trim_lengths a b x y e = omega (arith, trim_leading (a ++ b), ap length e, length-append x y, length-append a b)
 
 -- no zero leads what was parsed
@@ -495,7 +509,7 @@ module _ (s u whole rest : Bytes) (e : u ≡ unsigned s) (h : Splits ends_whole 
     zeros = omega (arith, trim_lengths whole fraction upper left k, leading_before is_e refl (whole ++ fraction), ap leading raw)
 
     pub parsed : (d : Decimal) → d.negative ≡ minus s → d.upper.now ++ d.lower.now ≡ upper ++ lower → d.whole ≡ length whole →
-        d.leading ≡ length whole + length fraction - length upper - length left → d.exponent.now ≡ drop 1 at_e → Parsed s d
+        d.leading + (length upper + length left) ≡ length whole + length fraction → d.exponent.now ≡ drop 1 at_e → Parsed s d
     parsed d n m w r q =
         record {
           negative = n;
@@ -519,3 +533,20 @@ module _ (s u whole rest : Bytes) (e : u ≡ unsigned s) (h : Splits ends_whole 
               );
           exponent_upto = omega (arith, ap length (q ∙ exponent_here), lengths, behind_upto is_e rest);
         }
+
+-- ---- zeros before the point, passed before it is looked for
+module _ (u digits upper rest : Bytes) (e : digits ≡ trim u) (h : Splits ends_whole digits upper rest) where
+  pub whole_splits : Splits ends_whole u (before ends_whole u) rest
+  whole_splits = split_trimmed ends_whole refl upper rest u (rw e at h)
+
+  pub upper_is : upper ≡ trim (before ends_whole u)
+  upper_is = h.front ∙ ap (before ends_whole) e ∙ sym (trim_before ends_whole refl u)
+
+  pub upper_length : length digits ≡ length upper + length rest
+  upper_length = omega (arith, ap length h.parts, length-append upper rest)
+
+  pub whole_length : length u ≡ length (before ends_whole u) + length rest
+  whole_length = omega (arith, ap length whole_splits.parts, length-append (before ends_whole u) rest)
+
+pub trim_upto : (s t : Bytes) → t ≡ trim s → length t ≤ length s
+trim_upto s t e = omega (arith, ap length e, trim_leading s)

@@ -101,18 +101,6 @@ fn trim_end(s: &[u8]) -> &[u8]
     rest
 }
 
-// Two rows of digits without the zeros at the start of both.
-fn trim_both<'a>(whole: &'a [u8], fraction: &'a [u8]) -> (&'a [u8], &'a [u8])
-    ensures upper { result.0.now ≡ compare.trim whole.now }
-    ensures both { result.0.now ++ result.1.now ≡ compare.trim (whole.now ++ fraction.now) }
-{
-    let upper = trim(whole);
-    if upper.is_empty() {
-        return (upper, trim(fraction));
-    }
-    (upper, fraction)
-}
-
 // Two rows of digits without the zeros at the end of both.
 fn trim_both_ends<'a>(upper: &'a [u8], lower: &'a [u8]) -> (&'a [u8], &'a [u8])
     ensures { result.0.now ++ result.1.now ≡ compare.trim_end (upper.now ++ lower.now) }
@@ -129,17 +117,22 @@ impl<'a> Decimal<'a> {
         ensures { Parsed s.now result }
     {
         let (negative, unsigned) = split_sign(s);
-        let (whole, rest) = split(unsigned, |c| c == b'.' || is_e(c));
+        // zeros are passed before a point or an `e` is looked for: the other way round takes 2.4 times the instructions where a hundred of them lead
+        let digits = trim(unsigned);
+        let (upper, rest) = split(digits, |c| c == b'.' || is_e(c));
         let fraction = behind_point(rest);
-        // zeros are passed before an `e` is looked for: the other way round takes 2.4 times the instructions where a hundred of them lead
-        let (upper, behind) = trim_both(whole, fraction);
+        let behind = if upper.is_empty() {
+            trim(fraction)
+        } else {
+            fraction
+        };
         let (lower, at_e) = split(behind, is_e);
         Decimal {
             negative,
             upper,
             lower,
-            whole: whole.len(),
-            leading: whole.len() + fraction.len() - upper.len() - behind.len(),
+            whole: unsigned.len() - rest.len(),
+            leading: (unsigned.len() - digits.len()) + (fraction.len() - behind.len()),
             exponent: behind_first(at_e),
         }
     }

@@ -4,7 +4,7 @@ use mathlib.Core.Bool.{Bool, cond, false, true}
 use mathlib.Core.List.{List, [], ◌∷◌}
 use Rattle.std.specs.Prelude.{Option, None, Some}
 use mathlib.Core.Path.{ap, refl, subst, sym, ◌∙◌, ◌≡◌}
-use Prim.Native.Nat.{Ordering, ℕ, ◌*◌, ◌+◌, ◌<◌, ◌≤◌}
+use Prim.Native.Nat.{Ordering, suc, zero, ℕ, ◌+◌, ◌<◌, ◌≤◌}
 use native.Mathlib.Omega.{arith}
 use Rattle.json_text.proofs.Laws.{same_bytes_true}
 use Rattle.json_text.proofs.Sorted.{
@@ -36,13 +36,8 @@ use Rattle.json_text.specs.KeyOrder.{in_order, put}
 use Rattle.json_text.specs.Spans.{text_at}
 use Rattle.json_text.specs.Table.{after_at, end_at, members_at, start_at}
 use Rattle.paths.specs.Reached.{FoundNode, MemberTold, found_tree}
-use Rattle.paths.specs.Stored.{HasKind, fields_of, table, tree}
+use Rattle.paths.specs.Stored.{HasKind, fields_of, tree}
 use Rattle.paths.proofs.Stands.{impossible}
-use Rattle.paths.proofs.Words.{row_word}
-use Rattle.strings.proofs.Nodes.{leads_while}
-use Rattle.strings.specs.Leads.{Leads, of_object}
-use Rattle.json_text.specs.Limits.{max_nodes}
-use lib.ListN.{length}
 use Rattle.paths.proofs.Trees.{object_row}
 
 -- the later of two
@@ -110,26 +105,24 @@ module _ {A : Type 0} where
   find_in_order k [] = refl
   find_in_order k (x ∷ xs) = find_put k x (in_order_ascending xs) ∙ ap (λ (o : Option A). or_earlier o (hit k x)) (find_in_order k xs)
 
--- the rows of a table with marks lead from name to name, as those without
-module _ {s : Bytes} (w : List ℕ) {e : ℕ} where
-  pub next_name : {i : ℕ} → HasMembers s (table w) i e → i < e → after_at w (i + 1) ≡ after_at (table w) (i + 1)
-  next_name {i} p h = let m = members_more s (table w) p.members h in row_word w (3 * (i + 1) + 2) (omega (arith, p.members.most, m.past, m.upto))
-
-  pub fields_lead : 4 * max_nodes ≤ length w → {k : ℕ} → HasMembers s (table w) k e → Leads w of_object e k
-  fields_lead r =
-      leads_while w of_object e (λ (i : ℕ). HasMembers s (table w) i e)
-      (λ i p h.
-      let m = members_more s (table w) p.members h in
-      let z = next_name p h in (
-        record { room = omega (arith, r, p.members.most, m.past, m.upto); few = omega (arith, p.members.most, m.past, m.upto); past = omega (arith, m.past, z) },
-        subst (λ (j : ℕ). HasMembers s (table w) j e) (sym z) (record { left = p.left; members = m.others }),
-      ))
-
 -- the loop from k on: what is found further on, or what was found before
 pub record Picking (s : Bytes) (t : List ℕ) (key : Bytes) (n e : ℕ) (found : Option ℕ) (k : ℕ) : Type 0 where
   pub members : HasMembers s t k e
   pub node : FoundNode s t found
   pub rest : find key (entries (fields_of s t n)) ≡ or_earlier (find_last key (each_sorted (entries (members_at s t k e)))) (found_tree s t found)
+
+-- the node that the loop has found so far, 0 for none
+abbrev pub found_so_far : ℕ → Option ℕ
+found_so_far zero = None
+found_so_far (suc n) = Some (suc n)
+
+pub found_none : (n : ℕ) → n ≡ 0 → None ≡ found_so_far n
+found_none zero q = refl
+found_none (suc n) q = absurd (omega (arith, q))
+
+pub found_some : (n : ℕ) → (n ≡ 0 → ⊥) → Some n ≡ found_so_far n
+found_some zero f = absurd (f refl)
+found_some (suc n) f = refl
 
 module _ {s : Bytes} {t : List ℕ} {key : Bytes} {n : ℕ} where
   pub picking : HasKind s t n 6 → (e : ℕ) → e ≡ after_at t n → Picking s t key n e None (n + 1)
@@ -155,6 +148,9 @@ module _ {s : Bytes} {t : List ℕ} {key : Bytes} {n : ℕ} where
       pub room_there : k + 1 < 4096
       room_there = omega (arith, l.members.members.most, m.past, m.upto)
 
+      pub pick_falls : {k' : ℕ} → k' ≡ after_at t (k + 1) → (k < k') × (k' ≤ e)
+      pick_falls q = (omega (arith, m.past), omega (arith, m.upto))
+
       one_more : find key (entries (fields_of s t n)) ≡
           or_earlier (find_last key (each_sorted (entries (members_at s t (after_at t (k + 1)) e))))
           (or_earlier (hit key (text_at s (start_at t k), tree s t (k + 1))) (found_tree s t found))
@@ -178,3 +174,15 @@ module _ {s : Bytes} {t : List ℕ} {key : Bytes} {n : ℕ} where
       pick_on {a} p q r =
           let e' : same_bytes key (text_at s (start_at t k)) ≡ false = subst (λ (x : ℕ). same_bytes key (text_at s x) ≡ false) p q in
           record { members = keys_left r; node = l.node; rest = rw r (one_more ∙ rw e') }
+
+-- the next turn of the loop, by what was chosen in it
+pub pick_next : {s : Bytes} {t : List ℕ} {key : Bytes} {n e k : ℕ} (found : ℕ) → Picking s t key n e (found_so_far found) k → k < e → {a f k' : ℕ} → a ≡ start_at t k →
+    f ≡ cond (same_bytes key (text_at s a)) (k + 1) found → k' ≡ after_at t (k + 1) → Picking s t key n e (found_so_far f) k'
+pick_next {s} {t} {key} {n} {e} {k} found l h {a} {f} {k'} p q r = go (same_bytes key (text_at s a)) refl
+  where
+    at : (b : Bool) → same_bytes key (text_at s a) ≡ b → f ≡ cond b (k + 1) found
+    at b x = q ∙ rw x
+
+    go : (b : Bool) → same_bytes key (text_at s a) ≡ b → Picking s t key n e (found_so_far f) k'
+    go true x = rw (at true x, ← found_some (k + 1) (λ z. omega (arith, z))) (pick_here l h p x r)
+    go false x = rw (at false x) (pick_on l h p x r)

@@ -16,7 +16,7 @@ pub struct Frame {
     pub operand: Operand,
 }
 
-// A frame as it is kept, in eight bytes: all frames are copied where a binder comes or goes.
+// A frame as it is kept, in eight bytes: all frames are copied where a binder comes or goes, and for an element of a written array or object.
 #[derive(Clone, Copy)]
 pub struct Slot {
     pub name: u16,

@@ -7,6 +7,25 @@ ghost use Rattle.records.specs.Records.{Bytes, Checked, Tallied, Tells, field_of
 use std::fmt::Display;
 use std::io::Read;
 
+// The place of the first such byte from `from` on, or the end.
+pub fn find(text: &[u8], from: usize, byte: u8) -> usize
+    requires { from ≤ length text.now }
+    ensures { (from ≤ result) × (result ≤ length text.now) }
+{
+    match text[from..].iter().position(|c| *c == byte) {
+        Some(n) => from + n,
+        None => text.len(),
+    }
+}
+
+// The place behind the byte at `at`, or the end.
+pub fn behind(text: &[u8], at: usize) -> usize
+    requires { at ≤ length text.now }
+    ensures { result ≡ min (at + 1) (length text.now) }
+{
+    (at + 1).min(text.len())
+}
+
 // A record's field by its place, 0 the first one; what a record has not is empty.
 pub fn field(record: &[u8], place: usize) -> &[u8]
     ensures { result.now ≡ field_of «record».now place }

@@ -105,11 +105,11 @@ module _ {s : Bytes} {w : List ℕ} {left n : ℕ} (h : IsNode s w left n) (k : 
     object_left = (object_at h (sym p ∙ q)).2
 
     module _ (e : ℕ) (j : e ≡ after_at w n) where
-      pub keys_left : AreMembers s w (left - 1) (n + 1) e
-      keys_left = subst (AreMembers s w (left - 1) (n + 1)) (sym j) (object_at h (sym p ∙ q)).1
+      pub members_left : AreMembers s w (left - 1) (n + 1) e
+      members_left = subst (AreMembers s w (left - 1) (n + 1)) (sym j) (object_at h (sym p ∙ q)).1
 
       pub members_full : AreMembers s w 64 (n + 1) e
-      members_full = full_members keys_left
+      members_full = full_members members_left
 
       object_is : value_at s w n ≡ object (members_at s w (n + 1) e)
       object_is = (object_at h (sym p ∙ q)).0 ∙ ap (λ (x : ℕ). object (members_at s w (n + 1) x)) (sym j)
@@ -126,17 +126,17 @@ module _ {s : Bytes} {w : List ℕ} {left n : ℕ} (h : IsNode s w left n) (k : 
           has_one = go (leb e (n + 1)) refl
             where
               go : (b : Bool) → leb e (n + 1) ≡ b → n + 1 < e
-              go true g = absurd (omega (arith, ap (λ (ms : Members). length (entries ms)) (members_done s w keys_left (leb-true e (n + 1) g))))
+              go true g = absurd (omega (arith, ap (λ (ms : Members). length (entries ms)) (members_done s w members_left (leb-true e (n + 1) g))))
               go false g = leb-false e (n + 1) g
 
           the_one : MoreMembers s w (left - 1) (n + 1) e
-          the_one = members_more s w keys_left has_one
+          the_one = members_more s w members_left has_one
 
           pub inner_node : IsNode s w (left - 1) (n + 1 + 1)
           inner_node = the_one.here
 
           pub name_place : (3 * (n + 1) + 3 ≤ length w) × (n + 1 < 4096)
-          name_place = (omega (arith, inside s w inner_node), omega (arith, keys_left.most, has_one))
+          name_place = (omega (arith, inside s w inner_node), omega (arith, members_left.most, has_one))
 
           module _ (a : ℕ) (g : a ≡ start_at w (n + 1)) where
             pub inner_name : OnText s a 0

@@ -14,7 +14,7 @@ ghost use Rattle.members.specs.Verdicts.{fault_of};
 
 use members::member::named;
 use members::told::{Fault, Form, Mode, Operator};
-use members::word::is_word;
+use members::word::{first_byte, is_word, is_word_by_first};
 use strings::rows::{Elements, Keys, Kind, after_at, kind_at, start_at};
 
 // Every operator by its name.
@@ -46,8 +46,9 @@ fn operator_in(s: &[u8], at: usize, table: &[(&[u8], Operator)]) -> Option<Opera
     requires { OnText s.now at 0 }
     ensures { (named : _) → Names table.now named → find (text_at s.now at) named ≡ option_map operator_of result }
 {
+    let first = first_byte(s, at);
     for (word, operator) in table {
-        if is_word(s, at, word) {
+        if is_word_by_first(s, at, first, word) {
             return Some(*operator);
         }
     }

@@ -1,6 +1,5 @@
 -- `admission::admit::is_wrong` meets its contract: by whether the state is declared.
 -- Assumes nothing.
-use mathlib.Core.Path.{◌∙◌}
 use Rattle.json_text.specs.Spans.{text_at}
 use Rattle.admission.proofs.Admitting.{declared, undeclared}
 use Rattle.admission.proofs.Among.{as_texts}
@@ -15,4 +14,4 @@ returns-then-is_one_of c =
 
 pub returns-else-is_one_of : goal.returns-else-is_one_of
 returns-else-is_one_of c =
-    λ ts os g h. c.if-is_one_of.false ∙ undeclared ts os (text_at c.args.s.now c.args.state) _ (c.is_one_of.ensures ts (as_texts g)) c.if-is_one_of.false
+    λ ts os g h. cc (c.if-is_one_of.false, undeclared ts os (text_at c.args.s.now c.args.state) _ (c.is_one_of.ensures ts (as_texts g)) c.if-is_one_of.false)

@@ -15,4 +15,5 @@ returns-then-not-is_true c =
 
 pub returns-else-not-is_true : goal.returns-else-not-is_true
 returns-else-not-is_true c =
-    λ o t g h. ap not c.if-not-is_true.false ∙ not_eligible c.args.s.now c.args.work.now (λ s b x. sym c.if-not-is_true.false ∙ c.is_true.ensures s b x) o t g
+    λ o t g h.
+    cc (ap not c.if-not-is_true.false, not_eligible c.args.s.now c.args.work.now (λ s b x. sym c.if-not-is_true.false ∙ c.is_true.ensures s b x) o t g)

@@ -1,8 +1,7 @@
 -- `calls::select::select` meets its contract: the loop says that the selection from its node on is the whole selection.
 -- Assumes nothing.
 use native.Mathlib.Omega.{arith}
-use mathlib.Core.Path.{ap, ◌∙◌}
-use Rattle.std.specs.Prelude.{Ok}
+use mathlib.Core.Path.{refl}
 use Rattle.members.proofs.Walks.{room}
 use Rattle.calls.proofs.Trying.{falls_after, none_left, outcome_known, refuses, room_after, takes, tries_on, trying}
 use Rattle.calls.proofs.select.select.Goals as goal
@@ -16,12 +15,11 @@ loop-here-init c = trying c.requires.0 c.requires.1 c.after_at-end.ensures
 pub try_outcome-requires : goal.try_outcome-requires
 try_outcome-requires c = outcome_known c.loop-here.invariant c.loop-here-test.true
 
-pub returns-in_err-try_outcome : goal.returns-in_err-try_outcome
-returns-in_err-try_outcome c =
-    refuses c.loop-here.invariant c.loop-here-test.true c.try_outcome.ensures c.in_err-try_outcome.field-0.0 c.in_err-try_outcome.was _ c.from_residual.ensures.1
+pub returns-in-Err : goal.returns-in-Err
+returns-in-Err c = refuses c.loop-here.invariant c.loop-here-test.true c.try_outcome.ensures c.in-Err.a c.in-Err.is _ refl
 
-pub returns-then-branch : goal.returns-then-branch
-returns-then-branch c = takes c.loop-here.invariant c.loop-here-test.true c.try_outcome.ensures (c.in_ok-try_outcome.was ∙ ap Ok c.if-branch.true)
+pub returns-in-Ok-true : goal.returns-in-Ok-true
+returns-in-Ok-true c = takes c.loop-here.invariant c.loop-here-test.true c.try_outcome.ensures (cc)
 
 pub next-here-requires : goal.next-here-requires
 next-here-requires c = room_after c.loop-here.invariant c.loop-here-test.true c.try_outcome.ensures
@@ -33,7 +31,7 @@ loop-here-smaller c =
 
 pub loop-here-preserved : goal.loop-here-preserved
 loop-here-preserved c =
-    tries_on c.loop-here.invariant c.loop-here-test.true c.try_outcome.ensures c.next-here.ensures (c.in_ok-try_outcome.was ∙ ap Ok c.if-branch.false)
+    tries_on c.loop-here.invariant c.loop-here-test.true c.try_outcome.ensures c.next-here.ensures (cc)
 
 pub returns : goal.returns
 returns c = none_left c.loop-here.invariant c.loop-here-test.false

@@ -35,16 +35,16 @@ scanned : (c : In_ok-end) → Quoted c.args.s.now c.args.at c.args.count c.in_ok
 unfolding scan_of
 scanned c =
     let q = byte_was 34 c.args.s.now c.args.at c.in_ok-text.text c.in_ok-text.ensures in
-    quoted c.args.s.now c.args.at c.args.count c.in_ok-text.text c.in_ok-end.end q c.if-count-ge4096.false c.in_ok-end.ensures
+    quoted c.args.s.now c.args.at c.args.count c.in_ok-text.text c.in_ok-end.end q c.if-is_full.false c.in_ok-end.ensures
 
 pub returns-in_err-text : goal.returns-in_err-text
 unfolding NameTold scan_of
 returns-in_err-text c = rw (handed_on _ c.from_residual.ensures.1) (no_quote c.args.s.now _ c.args.count c.args.at _ c.in_err-text.ensures, refl, refl)
 
-pub returns-then-count-ge4096 : goal.returns-then-count-ge4096
+pub returns-then-is_full : goal.returns-then-is_full
 unfolding NameTold
-returns-then-count-ge4096 c = (
-  no_room c.args.s.now _ c.args.count c.args.at (quote (goal.at.returns-then-count-ge4096 c).In_ok-text).0 c.if-count-ge4096.true,
+returns-then-is_full c = (
+  no_room c.args.s.now _ c.args.count c.args.at (quote (goal.at.returns-then-is_full c).In_ok-text).0 c.if-is_full.true,
   refl,
   refl,
 )
@@ -61,7 +61,7 @@ returns-in_err-end c =
     rw
     (handed_on _ c.from_residual-in_err-end.ensures.1) (
       bad_text c.args.s.now (earlier c.args.s.now c.args.work.now c.args.object c.args.count) c.args.count c.args.at
-          q.0 c.if-count-ge4096.false _ (ap (chars_at c.args.s.now) (sym q.1) ∙ c.in_err-end.ensures),
+          q.0 c.if-is_full.false _ (ap (chars_at c.args.s.now) (sym q.1) ∙ c.in_err-end.ensures),
       refl,
       refl,
     )

@@ -15,11 +15,11 @@ is_after-requires c = (
 )
 
 pub merge-requires : goal.merge-requires
-merge-requires c = halves c.args.s.now c.args.work.now c.args.nodes.now c.args.mid c.requires.0 _ c.copy_from_slice.ensures.after
+merge-requires c = halves c.args.s.now c.args.work.now c.args.nodes.now c.args.mid c.requires.0 _ c.copy.ensures
 
 pub returns-then-is_after : goal.returns-then-is_after
 returns-then-is_after c =
-    merged c.args.s.now c.args.work.now c.args.nodes.now c.args.mid c.requires.0 _ c.copy_from_slice.ensures.after _ c.merge.ensures
+    merged c.args.s.now c.args.work.now c.args.nodes.now c.args.mid c.requires.0 _ c.copy.ensures _ c.merge.ensures
 
 pub returns-else-is_after : goal.returns-else-is_after
 returns-else-is_after c =

@@ -1,57 +1,34 @@
 -- `paths::member::member_of` meets its contract: what is found further on, or else what was found before, is the member.
 -- Assumes nothing.
 use native.Mathlib.Omega.{arith}
-use mathlib.Core.Path.{ap, sym, ◌∙◌}
-use Rattle.paths.proofs.Lookup.{fields_lead, name_there, next_name, pick_here, pick_on, picked, picking, room_there}
-use Rattle.paths.specs.Path.{part}
-use Rattle.json_text.specs.Spans.{text_at}
-use Rattle.strings.proofs.Nodes.{Turn, begun, over, turn}
-use Rattle.strings.specs.Nodes.{keys_left}
-use Rattle.paths.proofs.member.member_of.Goals.{In-Some}
+use Rattle.paths.proofs.Lookup.{found_none, found_some, name_there, pick_falls, pick_next, picked, picking, room_there}
 use Rattle.paths.proofs.member.member_of.Goals as goal
 
-pub overflow_add-node : goal.overflow_add-node
-overflow_add-node c = omega (arith, c.requires.0.node)
-
-pub new-k-items-requires : goal.new-k-items-requires
-new-k-items-requires c = fields_lead c.args.work.now c.requires.0.rows (picking {key = part (text_at c.args.path.now 0)} c.requires.1 _ c.after_at-end.ensures).members
+pub overflow_add-k : goal.overflow_add-k
+overflow_add-k c = omega (arith, c.requires.0.node)
 
 pub loop-k-init : goal.loop-k-init
-loop-k-init c =
-    begun (ap keys_left c.into_iter-k-iterator.ensures.into_iter_gives ∙ c.new-k-items.ensures)
-    (picking c.requires.1 _ c.after_at-end.ensures)
-
-this : (c : In-Some) → Turn c.loop-k.invariant (keys_left c.next.new.self) c.in-Some.k
-this c = turn c.loop-k.invariant c.in-Some.ensures.steps
+loop-k-init c = picking c.requires.1 _ c.after_at-end.ensures
 
 pub start_at-name-requires : goal.start_at-name-requires
 start_at-name-requires c =
-    let t = this (goal.at.start_at-name-requires c).In-Some in
-    let h = room_there t.here t.more in
+    let h = room_there c.loop-k.invariant c.loop-k-test.true in
     record { rows = c.requires.0.rows; node = omega arith }
 
-pub part_is-requires : goal.part_is-requires
-part_is-requires c =
-    let t = this (goal.at.part_is-requires c).In-Some in (
-      c.requires.2,
-      name_there t.here t.more c.start_at-name.ensures,
-    )
+pub chosen-found-requires : goal.chosen-found-requires
+chosen-found-requires c = (c.requires.2, name_there c.loop-k.invariant c.loop-k-test.true c.start_at-name.ensures)
 
-pub overflow_add-found : goal.overflow_add-found
-overflow_add-found c =
-    let t = this (goal.at.overflow_add-found c).In-Some in
-    let h = room_there t.here t.more in
-    omega arith
+pub after_at-k-requires : goal.after_at-k-requires
+after_at-k-requires c = record { rows = c.requires.0.rows; node = room_there c.loop-k.invariant c.loop-k-test.true }
 
-pub loop-k-preserved-then-part_is : goal.loop-k-preserved-then-part_is
-loop-k-preserved-then-part_is c =
-    let t = this (goal.at.loop-k-preserved-then-part_is c).In-Some in
-    t.on (pick_here t.here t.more c.start_at-name.ensures (sym c.part_is.ensures ∙ c.if-part_is.true) (next_name c.args.work.now t.here.members t.more))
+pub loop-k-smaller : goal.loop-k-smaller
+loop-k-smaller c = let f = pick_falls c.loop-k.invariant c.loop-k-test.true c.after_at-k.ensures in omega (arith, f.0, f.1)
 
 pub loop-k-preserved : goal.loop-k-preserved
-loop-k-preserved c =
-    let t = this (goal.at.loop-k-preserved c).In-Some in
-    t.on (pick_on t.here t.more c.start_at-name.ensures (sym c.part_is.ensures ∙ c.if-part_is.false) (next_name c.args.work.now t.here.members t.more))
+loop-k-preserved c = pick_next c.loop-k.found c.loop-k.invariant c.loop-k-test.true c.start_at-name.ensures c.chosen-found.ensures c.after_at-k.ensures
 
-pub returns : goal.returns
-returns c = picked c.loop-k.invariant.rest (over c.loop-k.invariant c.in-None.ensures.steps)
+pub returns-then-found-eq0 : goal.returns-then-found-eq0
+returns-then-found-eq0 c = rw (found_none c.loop-k.found c.if-found-eq0.true) (picked c.loop-k.invariant c.loop-k-test.false)
+
+pub returns-else-found-eq0 : goal.returns-else-found-eq0
+returns-else-found-eq0 c = rw (found_some c.loop-k.found c.if-found-eq0.false) (picked c.loop-k.invariant c.loop-k-test.false)

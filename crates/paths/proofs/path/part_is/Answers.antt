@@ -3,10 +3,9 @@
 -- Assumes nothing.
 use mathlib.Core.Path.{sym, ◌∙◌}
 use native.Mathlib.Omega.{arith}
-use borrow.Author.Tests.{eq-eqb, ne_eqb}
+use borrow.Author.Tests.{ne_eqb}
 use Rattle.paths.proofs.Matching.{alongside, alongside_apart, alongside_dot, alongside_dots, alongside_end, alongside_in_name, alongside_in_path, alongside_on}
 use Rattle.paths.proofs.path.part_is.Goals as goal
-use Rattle.paths.proofs.path.part_is.Goals.{then-c-eq34-via-then-c-eq34, then-c-eq34-via-else-c-eq34+then-c-eq46-2}
 
 pub loop-name-init : goal.loop-name-init
 loop-name-init c =
@@ -54,10 +53,13 @@ returns-then-c-eq92-2 c = c.part_decoded-then-c-eq92-2.ensures ∙ sym c.loop-na
 
 pub returns-then-c-eq34 : goal.returns-then-c-eq34
 returns-then-c-eq34 c =
-    elim c.then-c-eq34.branch [
-      | then-c-eq34-via-then-c-eq34 w ↦ eq-eqb _ 34 w.if-c-eq34.true ∙ alongside_end c.loop-name.invariant c.if-c-d.false w.if-c-eq34.true
-      | then-c-eq34-via-else-c-eq34+then-c-eq46-2 w ↦ ne_eqb _ 34 w.if-c-eq34.false ∙ alongside_dots c.loop-name.invariant c.if-c-d.false w.if-c-eq46-2.true
-    ]
+    alongside_end c.loop-name.invariant c.if-c-d.false
+    c.if-c-eq34.true
+
+pub returns-then-c-eq46-2 : goal.returns-then-c-eq46-2
+returns-then-c-eq46-2 c =
+    alongside_dots c.loop-name.invariant
+    c.if-c-d.false c.if-c-eq46-2.true
 
 pub overflow_add-n : goal.overflow_add-n
 overflow_add-n c = omega (arith, alongside_in_path c.loop-name.invariant)

@@ -23,7 +23,7 @@ use Rattle.syntax.proofs.Faults.{
   inner_node,
   known_so,
   members_full,
-  keys_left,
+  members_left,
   missed,
   name_place,
   not_conditions,
@@ -381,7 +381,7 @@ quantifier-condition-requires t c = (
   omega (arith, object_left c.requires _ c.kind_at.ensures (alike _ kinds.Object c.if-ne.ensures)),
   found_left _ c.named-3.ensures
       (found_so c.ok_or-3.ensures.ok_part c.in_ok-body.was)
-      (keys_left c.requires _ c.kind_at.ensures (alike _ kinds.Object c.if-ne.ensures) _
+      (members_left c.requires _ c.kind_at.ensures (alike _ kinds.Object c.if-ne.ensures) _
       c.after_at-end.ensures),
 )
 
